@@ -1,0 +1,12 @@
+pub mod Lists
+pub mod Limits
+pub mod Text
+pub mod Job
+pub mod Plan
+pub mod Stops
+pub mod Times
+pub mod Refusals
+pub mod Planner
+pub mod Replay
+pub mod Tools
+pub mod SmallHouse

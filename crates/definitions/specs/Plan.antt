@@ -1,0 +1,125 @@
+-- A plan: what its text says, read (1, 2, 3, 9, 11, 10) and printed.
+use Prim.Native.Nat.{ℕ, zero, suc, _+_, _*_}
+use mathlib.Core.List.{List, [], _∷_, _++_, map}
+use mathlib.Core.Bool.{Bool, true, false, not, _&&_, _||_}
+use lib.Dec.{leb, ltb, eqb}
+use lib.ListN.{drop}
+use Rattle.definitions.specs.Lists.{if_then_else_, bytes, nth, any, all, has}
+use Rattle.definitions.specs.Limits.{Limits}
+use Rattle.definitions.specs.Text.{Reader, _>>=_, _>>_, return, firstOf, due, line, lines, lineText, Result, whole}
+use Rattle.definitions.specs.Job.{Edge, Job, incoming, outside}
+
+-- A replica ("copy") of a line's task: its processor and its early and late finish ticks.
+pub record Replica : Type 0 where
+  pub processor : ℕ
+  pub early : ℕ
+  pub late : ℕ
+
+-- `T,task,` and ε + 1 triples box, early, late.
+pub record Line : Type 0 where
+  pub task : ℕ
+  pub replicas : List Replica
+
+-- A plan. best is M*, worst is M; line order is the order in which every processor takes up its replicas.
+pub record Plan : Type 0 where
+  pub best : ℕ
+  pub worst : ℕ
+  pub lines : List Line
+
+-- A line's processors, in written order.
+abbrev pub processorsOf : Line → List ℕ
+processorsOf n = map (λ r. r .processor) (n .replicas)
+
+unfoldable pub triples : List ℕ → List Replica
+triples [] = []
+triples (p ∷ []) = []
+triples (p ∷ e ∷ []) = []
+triples (p ∷ e ∷ x ∷ vs) = record { processor = p; early = e; late = x } ∷ triples vs
+
+abbrev pub lineOf : List ℕ → Line
+lineOf vs = record { task = nth vs 0; replicas = triples (drop 1 vs) }
+
+-- Within a line a box is less than the one before (11).
+unfoldable pub descends : List ℕ → Bool
+descends [] = false
+descends (p ∷ []) = false
+descends (p ∷ q ∷ ps) = let later = descends (q ∷ ps) in ltb q p || later
+
+-- `PLAN,v,m,ε,M*,M`
+pub record PlanHead : Type 0 where
+  pub tasks : ℕ
+  pub processors : ℕ
+  pub losses : ℕ
+  pub best : ℕ
+  pub worst : ℕ
+
+abbrev pub planHeadOf : List ℕ → PlanHead
+planHeadOf vs = record { tasks = nth vs 0; processors = nth vs 1; losses = nth vs 2; best = nth vs 3; worst = nth vs 4 }
+
+module _ (l : Limits) where
+  -- v, m and ε have the job's ranges, M* and M are 0..4,294,967,295 (3); v, m or ε differ from the job's (9).
+  unfoldable pub planHead : Reader PlanHead
+  planHead = do
+    vs ← line l (bytes "PLAN,") 5
+    return (planHeadOf vs)
+
+  unfoldable pub planHeadRule : Job → PlanHead → ℕ
+  planHeadRule j h =
+      firstOf
+      ((
+        outside 1 (l .tasks) (h .tasks) || outside 1 (l .processors) (h .processors)
+            || outside 0 (l .losses) (h .losses)
+            || outside 0 (l .tick) (h .best)
+            || outside 0 (l .tick) (h .worst),
+        3,
+      )
+      ∷ (not (eqb (h .tasks) (j .tasks) && eqb (h .processors) (j .processors) && eqb (h .losses) (j .losses)), 9)
+      ∷ []
+      )
+
+  -- A task ≥ v, a box ≥ m, or a tick outside its range (3).
+  unfoldable pub strays : Job → Line → Bool
+  strays j n =
+      not (ltb (n .task) (j .tasks))
+      || any (λ r. not (ltb (r .processor) (j .processors)) || outside 0 (l .tick) (r .early) || outside 0 (l .tick) (r .late)) (n .replicas)
+
+  -- A T line: 3; then 11; then 10: it repeats a task, or precedes a predecessor of its task.
+  unfoldable pub planLine : Job → Reader Line
+  planLine j = do
+    vs ← line l (bytes "T,") (1 + 3 * (1 + j .losses))
+    return (lineOf vs)
+
+  unfoldable pub planLineRule : Job → List Line → Line → ℕ
+  planLineRule j seen n =
+      let tasks = map (λ n. n .task) seen in
+      firstOf
+      (
+      (strays j n, 3)
+      ∷ (descends (processorsOf n), 11)
+      ∷ (has (n .task) tasks || not (all (λ e. has (e .from) tasks) (incoming j (n .task))), 10)
+      ∷ []
+      )
+
+  -- The lines of a plan for a job.
+  unfoldable pub planLines : Job → Reader Plan
+  planLines j = do
+    h ← planHead
+    due (planHeadRule j h)
+    ns ← lines (planLine j) (planLineRule j) (j .tasks) []
+    return (record { best = h .best; worst = h .worst; lines = ns })
+
+  unfoldable pub readPlan : Job → List ℕ → Result Plan
+  readPlan j s = whole l (planLines j) s
+
+  -- A plan as it is printed.
+  unfoldable pub replicaNumbers : List Replica → List ℕ
+  replicaNumbers [] = []
+  replicaNumbers (r ∷ rs) = r .processor ∷ r .early ∷ r .late ∷ replicaNumbers rs
+
+  unfoldable pub planLinesText : List Line → List ℕ
+  planLinesText [] = []
+  planLinesText (n ∷ ns) = lineText l (bytes "T,") (n .task ∷ replicaNumbers (n .replicas)) ++ planLinesText ns
+
+  unfoldable pub planText : Job → Plan → List ℕ
+  planText j p =
+      lineText l (bytes "PLAN,") (j .tasks ∷ j .processors ∷ j .losses ∷ p .best ∷ p .worst ∷ []) ++ planLinesText (p .lines)

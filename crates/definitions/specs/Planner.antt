@@ -1,0 +1,117 @@
+-- "The planner": scaled levels, the choice of the task and of its boxes.
+use Prim.Native.Nat.{ℕ, zero, suc, _+_, _*_, _-_}
+use mathlib.Core.List.{List, [], _∷_, map, reverseAux}
+use mathlib.Core.Bool.{Bool, true, false, not, _&&_, _||_}
+use lib.Dec.{ltb, eqb}
+use lib.ListN.{length, getD}
+use Rattle.definitions.specs.Lists.{if_then_else_, nth, below, keep, all, has, sum, greatest}
+use Rattle.definitions.specs.Job.{Edge, Job, runTime, delay, incoming, outgoing}
+use Rattle.definitions.specs.Plan.{Replica, Line, Plan}
+use Rattle.definitions.specs.Times.{Time, tick, never, after, least, largest, Copy, Outcome, ofTask, finish, walk, copiesOf, bestEnd, worstEnd}
+
+-- The number of a tick. Where the planner asks, the time is a tick.
+abbrev pub tickOf : Time → ℕ
+tickOf (tick x) = x
+tickOf never = 0
+
+-- The greatest second number; ties go to the first. The pair before the list stands first.
+unfoldable pub greatestOf : ℕ × ℕ → List (ℕ × ℕ) → ℕ
+greatestOf x [] = x .0
+greatestOf x (y ∷ ys) = greatestOf (if ltb (x .1) (y .1) then y else x) ys
+
+module _ (j : Job) where
+  -- Priorities are scaled by D = m(m − 1), or 1 where m = 1.
+  abbrev pub scale : ℕ
+  scale = if eqb (j .processors) 1 then 1 else j .processors * (j .processors - 1)
+
+  -- Scaled average run time: (m − 1) times the sum of a task's run times (m = 1: the run time).
+  unfoldable pub scaledRun : ℕ → ℕ
+  scaledRun t =
+      if eqb (j .processors) 1 then runTime j t 0 else (j .processors - 1) * sum (map (runTime j t) (below (j .processors)))
+
+  -- The sum of all delays between different boxes.
+  unfoldable pub totalDelay : ℕ
+  totalDelay =
+      let boxes = below (j .processors) in
+      sum (map (λ p. sum (map (delay j p) (keep (λ q. not (eqb q p)) boxes))) boxes)
+
+  -- Scaled average message: volume × that sum (m = 1: 0).
+  abbrev pub scaledMessage : Edge → ℕ
+  scaledMessage e = e .volume * totalDelay
+
+  -- Bottom levels by task: the scaled run time plus the largest, over successors, of scaled message + bottom level.
+  -- n rounds settle every task from which no path has n edges; without a circle, as many rounds as tasks settle all.
+  unfoldable pub levels : ℕ → List ℕ
+  levels zero = []
+  levels (suc n) =
+      let known = levels n in
+      map (λ t. scaledRun t + greatest (map (λ e. scaledMessage e + nth known (e .to)) (outgoing j t))) (below (j .tasks))
+
+  unfoldable pub bottomLevels : List ℕ
+  bottomLevels = levels (j .tasks)
+
+  -- A box's largest delay to any box.
+  unfoldable pub largestDelay : ℕ → ℕ
+  largestDelay p = greatest (map (delay j p) (below (j .processors)))
+
+  -- Top level: 0 without predecessors; else, over predecessors, the largest of (the least, over copies, of early finish
+  -- + volume × that copy's largest delay), times D.
+  unfoldable pub topLevel : List Outcome → ℕ → ℕ
+  topLevel placed t =
+      tickOf (largest (map (λ e. least (map (λ d. after (e .volume * largestDelay (d .processor)) (d .time)) (ofTask (e .from) placed))) (incoming j t)))
+      * scale
+
+  -- Free tasks: not placed, and all predecessors placed.
+  unfoldable pub freeTasks : List Outcome → List ℕ
+  freeTasks placed =
+      let done = map (λ d. d .task) placed in
+      keep (λ t. not (has t done) && all (λ e. has (e .from) done) (incoming j t)) (below (j .tasks))
+
+  -- The sum of a task's top and bottom level.
+  unfoldable pub priority : List ℕ → List Outcome → ℕ → ℕ
+  priority bottom placed t = topLevel placed t + nth bottom t
+
+  -- Of the free tasks t and ts the one of greatest sum is placed next; ties go to the lowest task number.
+  unfoldable pub criticalTask : List ℕ → List Outcome → ℕ → List ℕ → ℕ
+  criticalTask bottom placed t ts =
+      greatestOf (t, priority bottom placed t) (map (λ u. (u, priority bottom placed u)) ts)
+
+  -- The early finish of task t on each box.
+  unfoldable pub trial : List Outcome → ℕ → List ℕ
+  trial placed t = map (λ c. tickOf (finish j least [] placed c)) (copiesOf j t (below (j .processors)))
+
+  -- Box q goes before box p: it finishes sooner, or as soon and is the lower box.
+  abbrev pub goesBefore : List ℕ → ℕ → ℕ → Bool
+  goesBefore finishes p q =
+      ltb (nth finishes q) (nth finishes p) || eqb (nth finishes q) (nth finishes p) && ltb q p
+
+  -- The k boxes of least early finish, ascending: those before which fewer than k boxes go.
+  unfoldable pub chosen : ℕ → List ℕ → List ℕ
+  chosen k finishes =
+      let boxes = below (j .processors) in
+      keep (λ p. ltb (length (keep (goesBefore finishes p) boxes)) k) boxes
+
+  -- A line's triples from the early and the late outcomes of its copies.
+  unfoldable pub replicas : List Outcome → List Outcome → List Replica
+  replicas [] ls = []
+  replicas (e ∷ es) [] = []
+  replicas (e ∷ es) (x ∷ ls) = record { processor = e .processor; early = tickOf (e .time); late = tickOf (x .time) } ∷ replicas es ls
+
+  -- n tasks more, after what is placed, with its early and its late ticks; losses is ε.
+  unfoldable pub place : ℕ → List ℕ → ℕ → List Outcome → List Outcome → List Line
+  place losses bottom zero es ls = []
+  place losses bottom (suc n) es ls = elim (freeTasks es) [
+    | [] ↦ []
+    | free ∷ others ↦
+        let t = criticalTask bottom es free others in
+        let cs = copiesOf j t (chosen (losses + 1) (trial es t)) in
+        let e = walk j least [] es cs in
+        let x = walk j largest [] ls cs in
+        record { task = t; replicas = replicas e x } ∷ place losses bottom n (reverseAux e es) (reverseAux x ls)
+  ]
+
+  -- The plan of a job that is to bear this many losses.
+  unfoldable pub planFor : ℕ → Plan
+  planFor losses =
+      let ns = place losses bottomLevels (j .tasks) [] [] in
+      record { best = tickOf (bestEnd j ns); worst = tickOf (worstEnd j ns); lines = ns }

@@ -1,0 +1,45 @@
+-- "What is refused", after a plan's last line: 12 over all lines, then 13, then 14.
+use Prim.Native.Nat.{ℕ}
+use mathlib.Core.List.{List, [], _∷_, _++_, map}
+use mathlib.Core.Bool.{Bool, true, false, not, _&&_, _||_}
+use Rattle.definitions.specs.Lists.{keep, distinct, empty}
+use Rattle.definitions.specs.Text.{firstOf}
+use Rattle.definitions.specs.Job.{Job}
+use Rattle.definitions.specs.Plan.{Replica, Line, Plan, processorsOf}
+use Rattle.definitions.specs.Times.{Time, tick, same, times, earlies, lates, bestEnd, worstEnd}
+
+-- The tasks with two copies on one box, in plan order (12).
+unfoldable pub doubledTasks : List Line → List ℕ
+doubledTasks ns = map (λ n. n .task) (keep (λ n. not (distinct (processorsOf n))) ns)
+
+-- All replicas in written order.
+unfoldable pub replicasOf : List Line → List Replica
+replicasOf [] = []
+replicasOf (n ∷ ns) = n .replicas ++ replicasOf ns
+
+unfoldable pub sameTimes : List Time → List Time → Bool
+sameTimes [] [] = true
+sameTimes [] (y ∷ ys) = false
+sameTimes (x ∷ xs) [] = false
+sameTimes (x ∷ xs) (y ∷ ys) = same x y && sameTimes xs ys
+
+-- The written ticks are the equations' (else 13).
+unfoldable pub ticksAgree : Job → List Line → Bool
+ticksAgree j ns =
+    sameTimes (times (earlies j ns)) (map (λ r. tick (r .early)) (replicasOf ns))
+    && sameTimes (times (lates j ns)) (map (λ r. tick (r .late)) (replicasOf ns))
+
+-- M* and M are the equations' (else 14).
+unfoldable pub endsAgree : Job → Plan → Bool
+endsAgree j p = same (bestEnd j (p .lines)) (tick (p .best)) && same (worstEnd j (p .lines)) (tick (p .worst))
+
+-- The number that is due after the plan's last line; 0 if none is.
+unfoldable pub planRefusal : Job → Plan → ℕ
+planRefusal j p =
+    firstOf
+    (
+    (not (empty (doubledTasks (p .lines))), 12)
+    ∷ (not (ticksAgree j (p .lines)), 13)
+    ∷ (not (endsAgree j p), 14)
+    ∷ []
+    )

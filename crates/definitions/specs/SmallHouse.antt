@@ -1,0 +1,81 @@
+-- "The small house": cases (a) to (j), one table, and one fact over it.
+use Prim.Native.Nat.{ℕ}
+use Prim.Native.String.{String}
+use mathlib.Core.Path.{_≡_, refl}
+use mathlib.Core.List.{List, [], _∷_, _++_}
+use mathlib.Core.Bool.{Bool, true, false, _&&_}
+use lib.Dec.{eqb}
+use Rattle.definitions.specs.Lists.{bytes}
+use Rattle.definitions.specs.Limits.{document01}
+use Rattle.definitions.specs.Text.{Result, good, bad}
+use Rattle.definitions.specs.Job.{Job, readJob}
+use Rattle.definitions.specs.Planner.{bottomLevels}
+use Rattle.definitions.specs.Tools.{planPrinted, replayPrinted, checkNumber}
+
+-- The house's job, its plan, and the plan with a copy of task 0 twice on box 0, and with M given as 12.
+abbrev pub house : String
+house = "JOB,2,3,1,1\nC,0,4,6,9\nC,1,5,5,3\nD,0,0,1,2\nD,1,1,0,1\nD,2,2,1,0\nE,0,1,2\n"
+
+abbrev pub housePlan : String
+housePlan = "PLAN,2,3,1,9,13\nT,0,0,4,4,1,6,6\nT,1,0,9,13,1,11,11\n"
+
+abbrev pub doubledPlan : String
+doubledPlan = "PLAN,2,3,1,9,13\nT,0,0,4,4,0,8,8\nT,1,0,9,13,1,11,11\n"
+
+abbrev pub loweredPlan : String
+loweredPlan = "PLAN,2,3,1,9,12\nT,0,0,4,4,1,6,6\nT,1,0,9,13,1,11,11\n"
+
+-- What is asked of the definitions.
+pub data Given : Type 0 where
+  planned : (job : String) → Given
+  levelled : (job : String) → Given
+  replayed : (job plan stops : String) → Given
+  checked : (job plan : String) → Given
+
+-- A row: what is asked, and the bytes or numbers that are expected.
+pub record Row : Type 0 where
+  pub given : Given
+  pub expected : List ℕ
+
+abbrev pub levelsOf : Result Job → List ℕ
+levelsOf (good j) = bottomLevels j
+levelsOf (bad n) = n ∷ []
+
+abbrev pub answer : Given → List ℕ
+answer (planned job) = planPrinted (bytes job)
+answer (levelled job) = levelsOf (readJob document01 (bytes job))
+answer (replayed job plan stops) = replayPrinted (bytes job) (bytes plan) (bytes stops)
+answer (checked job plan) = let r = checkNumber (bytes job) (bytes plan) in r .0 ∷ r .1
+
+abbrev pub row : Given → List ℕ → Row
+row g e = record { given = g; expected = e }
+
+abbrev pub table : List Row
+table =
+    row (planned house) (bytes housePlan)
+    ∷ row (levelled house) (80 ∷ 26 ∷ [])
+    ∷ row (replayed house housePlan "S,0,3\n") (bytes "R,0,1,6\nR,1,1,11\nL,11\n")
+    ∷ row (replayed house housePlan "S,0,8\n") (bytes "R,0,0,4\nR,1,1,11\nL,11\n")
+    ∷ row (replayed house housePlan "S,0,9\n") (bytes "R,0,0,4\nR,1,0,9\nL,9\n")
+    ∷ row (replayed house housePlan "S,1,5\n") (bytes "R,0,0,4\nR,1,0,9\nL,9\n")
+    ∷ row (replayed house housePlan "") (bytes "R,0,0,4\nR,1,0,9\nL,9\n")
+    ∷ row (replayed house housePlan "S,0,0\nS,1,0\n") (bytes "R,0,-,-\nR,1,-,-\nL,-\n")
+    ∷ row (checked house doubledPlan) (12 ∷ 0 ∷ [])
+    ∷ row (checked house loweredPlan) (14 ∷ [])
+    ∷ row (checked house housePlan) (0 ∷ [])
+    ∷ []
+
+unfoldable pub sameNumbers : List ℕ → List ℕ → Bool
+sameNumbers [] [] = true
+sameNumbers [] (y ∷ ys) = false
+sameNumbers (x ∷ xs) [] = false
+sameNumbers (x ∷ xs) (y ∷ ys) = eqb x y && sameNumbers xs ys
+
+unfoldable pub holds : List Row → Bool
+holds [] = true
+holds (r ∷ rs) = sameNumbers (answer (r .given)) (r .expected) && holds rs
+
+-- The definitions give every row.
+pub every-row : holds table ≡ true
+unfolding holds sameNumbers planPrinted bottomLevels replayPrinted checkNumber
+every-row = refl

@@ -1,0 +1,88 @@
+-- What the three tools answer to given bytes, and what the three programs print.
+use Prim.Native.Nat.{ℕ}
+use mathlib.Core.List.{List, [], _∷_, _++_}
+use mathlib.Core.Bool.{Bool, true, false}
+use lib.Dec.{ltb, eqb}
+use lib.ListN.{length}
+use Rattle.definitions.specs.Lists.{if_then_else_, bytes, countFrom, keep, any, all, distinct, sum, greatest}
+use Rattle.definitions.specs.Limits.{Limits, document01}
+use Rattle.definitions.specs.Text.{firstOf, digits, exactly, number, numbers, line, widthFrom, width, lowDigits, decimal, numbersText, lineText, lines, linesToEnd, Result, good, bad, andThen, unless}
+use Rattle.definitions.specs.Job.{Job, runTime, delay, incoming, outgoing, edgeOrder, onward, onwards, circular, jobHead, jobHeadRule, runRule, delayRule, edgeLine, edgeRule, jobLines, readJob}
+use Rattle.definitions.specs.Plan.{Line, Plan, triples, descends, planHead, planHeadRule, strays, planLine, planLineRule, planLines, readPlan, replicaNumbers, planLinesText, planText}
+use Rattle.definitions.specs.Stops.{Stop, stopLine, stopRule, readStops}
+use Rattle.definitions.specs.Times.{least, largest, ofTask, ready, arrival, dataReady, start, stopTime, finish, walk, copies, earlies, lates, exits, end, bestEnd, worstEnd}
+use Rattle.definitions.specs.Refusals.{doubledTasks, replicasOf, sameTimes, ticksAgree, endsAgree, planRefusal}
+use Rattle.definitions.specs.Planner.{greatestOf, scaledRun, totalDelay, levels, bottomLevels, largestDelay, topLevel, freeTasks, priority, criticalTask, trial, chosen, replicas, place, planFor}
+use Rattle.definitions.specs.Replay.{replay, firstFinish, lowest, firstBox, roundEnd, resultLines, replayText}
+
+-- The bytes of an answer, if the output slice is not shorter (8).
+abbrev pub fitting : ℕ → List ℕ → Result (List ℕ)
+fitting room answer = if ltb room (length answer) then bad 8 else good answer
+
+-- The checker's answer: the plan is accepted; or 12 with the tasks of which it is true; or another number.
+pub data Verdict : Type 0 where
+  accepted : Verdict
+  doubled : List ℕ → Verdict
+  rejected : ℕ → Verdict
+
+module _ (l : Limits) where
+  -- The plan that the planner gives for a job.
+  unfoldable pub planned : Job → List ℕ
+  planned j = planText l j (planFor j (j .losses))
+
+  -- The planner: the plan's bytes, or the number. The job, then 8.
+  unfoldable pub planAnswer : List ℕ → ℕ → Result (List ℕ)
+  planAnswer job room = andThen (readJob l job) (λ j. fitting room (planned j))
+
+  -- The checker: the job, then the plan, then 12, 13 and 14.
+  abbrev pub verdictOf : List Line → ℕ → Verdict
+  verdictOf ns n = if eqb n 0 then accepted else (if eqb n 12 then doubled (doubledTasks ns) else rejected n)
+
+  abbrev pub verdictFor : Job → Result Plan → Verdict
+  verdictFor j (good p) = verdictOf (p .lines) (planRefusal j p)
+  verdictFor j (bad n) = rejected n
+
+  abbrev pub verdictOn : Result Job → List ℕ → Verdict
+  verdictOn (good j) plan = verdictFor j (readPlan l j plan)
+  verdictOn (bad n) plan = rejected n
+
+  unfoldable pub verdict : List ℕ → List ℕ → Verdict
+  verdict job plan = verdictOn (readJob l job) plan
+
+  -- The replay: the R and L lines, or the number. The job, then the plan, then the stops, then 8; 12, 13 and 14 are skipped.
+  unfoldable pub replayed : List ℕ → List ℕ → List ℕ → Result (List ℕ)
+  replayed job plan stops =
+      andThen (readJob l job) λ j.
+      andThen (readPlan l j plan) λ p.
+      andThen (readStops l j stops) λ ss.
+      good (replayText l j (replay j ss (p .lines)))
+
+  unfoldable pub replayAnswer : List ℕ → List ℕ → List ℕ → ℕ → Result (List ℕ)
+  replayAnswer job plan stops room = andThen (replayed job plan stops) (fitting room)
+
+  -- A program prints the answer, or `N,` and the number.
+  abbrev pub printed : Result (List ℕ) → List ℕ
+  printed (good answer) = answer
+  printed (bad n) = lineText l (bytes "N,") (n ∷ [])
+
+-- The entries for tables held outside: document 01's limits, and everything above unfolds with them.
+
+-- What the plan program prints for a job's bytes.
+unfoldable pub planPrinted : List ℕ → List ℕ
+unfolding countFrom keep any all distinct sum greatest firstOf digits exactly number numbers line widthFrom width lowDigits decimal numbersText lineText lines linesToEnd runTime delay incoming outgoing edgeOrder onward onwards circular jobHead jobHeadRule runRule delayRule edgeLine edgeRule jobLines readJob replicaNumbers planLinesText planText least largest ofTask ready arrival dataReady start stopTime finish walk exits end copies earlies lates bestEnd worstEnd greatestOf scaledRun totalDelay levels bottomLevels largestDelay topLevel freeTasks priority criticalTask trial chosen replicas place planFor planned
+planPrinted job = printed document01 (andThen (readJob document01 job) (λ j. good (planned document01 j)))
+
+-- What the replay program prints for a job's, a plan's and a stop list's bytes.
+unfoldable pub replayPrinted : List ℕ → List ℕ → List ℕ → List ℕ
+unfolding countFrom keep any all distinct sum greatest firstOf digits exactly number numbers line widthFrom width lowDigits decimal numbersText lineText lines linesToEnd runTime delay incoming outgoing edgeOrder onward onwards circular jobHead jobHeadRule runRule delayRule edgeLine edgeRule jobLines readJob triples descends planHead planHeadRule strays planLine planLineRule planLines readPlan stopLine stopRule readStops least largest ofTask ready arrival dataReady start stopTime finish walk exits end copies replay firstFinish lowest firstBox roundEnd resultLines replayText replayed
+replayPrinted job plan stops = printed document01 (replayed document01 job plan stops)
+
+-- The checker's number, 0 for OK, and with 12 the tasks of which it is true, in plan order.
+abbrev pub numbered : Verdict → ℕ × List ℕ
+numbered accepted = (0, [])
+numbered (doubled ts) = (12, ts)
+numbered (rejected n) = (n, [])
+
+unfoldable pub checkNumber : List ℕ → List ℕ → ℕ × List ℕ
+unfolding countFrom keep any all distinct sum greatest firstOf digits exactly number numbers line widthFrom width lowDigits decimal numbersText lineText lines linesToEnd runTime delay incoming outgoing edgeOrder onward onwards circular jobHead jobHeadRule runRule delayRule edgeLine edgeRule jobLines readJob triples descends planHead planHeadRule strays planLine planLineRule planLines readPlan least largest ofTask ready arrival dataReady start stopTime finish walk exits end copies earlies lates bestEnd worstEnd doubledTasks replicasOf sameTimes ticksAgree endsAgree planRefusal verdict
+checkNumber job plan = numbered (verdict document01 job plan)
