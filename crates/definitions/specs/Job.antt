@@ -5,7 +5,7 @@ use mathlib.Core.List.{List, [], _∷_, map}
 use mathlib.Core.Bool.{Bool, true, false, not, _&&_, _||_}
 use lib.Dec.{leb, ltb, eqb}
 use lib.ListN.{length, getD, drop}
-use Rattle.definitions.specs.Lists.{if_then_else_, bytes, nth, keep, any, In, empty}
+use Rattle.definitions.specs.Lists.{if_then_else_, bytes, nth, below, keep, any, In, has, empty}
 use Rattle.definitions.specs.Limits.{Limits}
 use Rattle.definitions.specs.Text.{Reader, _>>=_, _>>_, return, firstOf, due, line, lines, Result, andThen, unless, whole}
 
@@ -60,19 +60,18 @@ edgeOf vs = record { from = nth vs 0; to = nth vs 1; volume = nth vs 2 }
 unfoldable pub edgeOrder : List Edge → Edge → List (Bool × ℕ)
 edgeOrder seen e = (eqb (e .from) (e .to) || any (λ d. eqb (d .from) (e .from) && eqb (d .to) (e .to)) seen, 6) ∷ []
 
--- The edges whose sender receives by one of them.
-unfoldable pub onward : List Edge → List Edge
-onward es = keep (λ e. any (λ d. eqb (d .to) (e .from)) es) es
+-- What is left of some tasks when those that none of them precedes are taken away; and when this is done n times.
+unfoldable pub preceded : List Edge → List ℕ → List ℕ
+preceded es ts = keep (λ t. any (λ e. eqb (e .to) t && has (e .from) ts) es) ts
 
--- What is left after n rounds.
-unfoldable pub onwards : ℕ → List Edge → List Edge
-onwards zero es = es
-onwards (suc n) es = onwards n (onward es)
+unfoldable pub remaining : ℕ → List Edge → List ℕ → List ℕ
+remaining zero es ts = ts
+remaining (suc n) es ts = remaining n es (preceded es ts)
 
--- The edges form a circle: some are left after as many rounds as there are tasks. proofs/Circle.antt shows that this
--- is so exactly if some task has a path to itself.
+-- The edges form a circle: of all tasks some are left, though it is done as often as there are tasks. It is proved
+-- (proofs/Circle.antt) that this is so exactly if there is a circle as the next two definitions say.
 unfoldable pub circular : Job → Bool
-circular j = not (empty (onwards (j .tasks) (j .edges)))
+circular j = not (empty (remaining (j .tasks) (j .edges) (below (j .tasks))))
 
 -- A path from a to b: edges, one or more, each beginning where the one before it ends.
 pub data Path (es : List Edge) : ℕ → ℕ → Type 0 where

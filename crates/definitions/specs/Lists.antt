@@ -58,6 +58,12 @@ abbrev pub empty : {A : Type 0} → List A → Bool
 empty [] = true
 empty (x ∷ xs) = false
 
+unfoldable pub sameNumbers : List ℕ → List ℕ → Bool
+sameNumbers [] [] = true
+sameNumbers [] (y ∷ ys) = false
+sameNumbers (x ∷ xs) [] = false
+sameNumbers (x ∷ xs) (y ∷ ys) = let others = sameNumbers xs ys in eqb x y && others
+
 -- No member stands twice.
 unfoldable pub distinct : List ℕ → Bool
 distinct [] = true

@@ -4,7 +4,7 @@ use mathlib.Core.List.{List, [], _∷_, map, reverseAux}
 use mathlib.Core.Bool.{Bool, true, false, not, _&&_, _||_}
 use lib.Dec.{ltb, eqb}
 use lib.ListN.{length, getD}
-use Rattle.definitions.specs.Lists.{if_then_else_, nth, below, keep, all, has, sum, greatest}
+use Rattle.definitions.specs.Lists.{if_then_else_, nth, below, keep, all, has, sameNumbers, sum, greatest}
 use Rattle.definitions.specs.Job.{Edge, Job, runTime, delay, incoming, outgoing}
 use Rattle.definitions.specs.Plan.{Replica, Line, Plan}
 use Rattle.definitions.specs.Times.{Time, tick, never, after, least, largest, Copy, Outcome, ofTask, finish, walk, copiesOf, bestEnd, worstEnd}
@@ -18,6 +18,15 @@ tickOf never = 0
 unfoldable pub greatestOf : ℕ × ℕ → List (ℕ × ℕ) → ℕ
 greatestOf x [] = x .0
 greatestOf x (y ∷ ys) = greatestOf (if ltb (x .1) (y .1) then y else x) ys
+
+-- A task that is not placed yet, and its bottom level; tasks from k on with these bottom levels.
+pub record Waiting : Type 0 where
+  pub task : ℕ
+  pub bottom : ℕ
+
+unfoldable pub waitingFrom : ℕ → List ℕ → List Waiting
+waitingFrom k [] = []
+waitingFrom k (x ∷ xs) = record { task = k; bottom = x } ∷ waitingFrom (suc k) xs
 
 module _ (j : Job) where
   -- Priorities are scaled by D = m(m − 1), or 1 where m = 1.
@@ -39,16 +48,22 @@ module _ (j : Job) where
   abbrev pub scaledMessage : Edge → ℕ
   scaledMessage e = e .volume * totalDelay
 
-  -- Bottom levels by task: the scaled run time plus the largest, over successors, of scaled message + bottom level.
-  -- n rounds settle every task from which no path has n edges; without a circle, as many rounds as tasks settle all.
-  unfoldable pub levels : ℕ → List ℕ
-  levels zero = []
-  levels (suc n) =
-      let known = levels n in
+  -- Bottom level of an exit task: its scaled run time; else that plus the largest, over successors, of scaled message +
+  -- the successor's bottom level: the levels of all tasks, from those known for their successors.
+  unfoldable pub raised : List ℕ → List ℕ
+  raised known =
       map (λ t. scaledRun t + greatest (map (λ e. scaledMessage e + nth known (e .to)) (outgoing j t))) (below (j .tasks))
 
+  -- This is done until nothing changes; without a circle, as many rounds as there are tasks are enough.
+  unfoldable pub settled : ℕ → List ℕ → List ℕ
+  settled zero known = known
+  settled (suc n) known =
+      let next = raised known in
+      let further = settled n next in
+      if sameNumbers next known then known else further
+
   unfoldable pub bottomLevels : List ℕ
-  bottomLevels = levels (j .tasks)
+  bottomLevels = settled (j .tasks) []
 
   -- A box's largest delay to any box.
   unfoldable pub largestDelay : ℕ → ℕ
@@ -61,20 +76,19 @@ module _ (j : Job) where
       tickOf (largest (map (λ e. least (map (λ d. after (e .volume * largestDelay (d .processor)) (d .time)) (ofTask (e .from) placed))) (incoming j t)))
       * scale
 
-  -- Free tasks: not placed, and all predecessors placed.
-  unfoldable pub freeTasks : List Outcome → List ℕ
-  freeTasks placed =
+  -- Free tasks: all predecessors placed.
+  unfoldable pub freeTasks : List Outcome → List Waiting → List Waiting
+  freeTasks placed waiting =
       let done = map (λ d. d .task) placed in
-      keep (λ t. not (has t done) && all (λ e. has (e .from) done) (incoming j t)) (below (j .tasks))
+      keep (λ w. all (λ e. has (e .from) done) (incoming j (w .task))) waiting
 
-  -- The sum of a task's top and bottom level.
-  unfoldable pub priority : List ℕ → List Outcome → ℕ → ℕ
-  priority bottom placed t = topLevel placed t + nth bottom t
+  -- A task and its priority, the sum of its top and its bottom level.
+  unfoldable pub ranked : List Outcome → Waiting → ℕ × ℕ
+  ranked placed w = (w .task, topLevel placed (w .task) + w .bottom)
 
-  -- Of the free tasks t and ts the one of greatest sum is placed next; ties go to the lowest task number.
-  unfoldable pub criticalTask : List ℕ → List Outcome → ℕ → List ℕ → ℕ
-  criticalTask bottom placed t ts =
-      greatestOf (t, priority bottom placed t) (map (λ u. (u, priority bottom placed u)) ts)
+  -- Of the free tasks w and ws the greatest sum is placed next; ties go to the lowest task number.
+  unfoldable pub criticalTask : List Outcome → Waiting → List Waiting → ℕ
+  criticalTask placed w ws = greatestOf (ranked placed w) (map (ranked placed) ws)
 
   -- The early finish of task t on each box.
   unfoldable pub trial : List Outcome → ℕ → List ℕ
@@ -97,21 +111,22 @@ module _ (j : Job) where
   replicas (e ∷ es) [] = []
   replicas (e ∷ es) (x ∷ ls) = record { processor = e .processor; early = tickOf (e .time); late = tickOf (x .time) } ∷ replicas es ls
 
-  -- n tasks more, after what is placed, with its early and its late ticks; losses is ε.
-  unfoldable pub place : ℕ → List ℕ → ℕ → List Outcome → List Outcome → List Line
-  place losses bottom zero es ls = []
-  place losses bottom (suc n) es ls = elim (freeTasks es) [
+  -- n tasks more, of those that wait, after what is placed, with its early and its late ticks; losses is ε.
+  unfoldable pub place : ℕ → ℕ → List Waiting → List Outcome → List Outcome → List Line
+  place losses zero waiting es ls = []
+  place losses (suc n) waiting es ls = elim (freeTasks es waiting) [
     | [] ↦ []
-    | free ∷ others ↦
-        let t = criticalTask bottom es free others in
+    | w ∷ ws ↦
+        let t = criticalTask es w ws in
         let cs = copiesOf j t (chosen (losses + 1) (trial es t)) in
         let e = walk j least [] es cs in
         let x = walk j largest [] ls cs in
-        record { task = t; replicas = replicas e x } ∷ place losses bottom n (reverseAux e es) (reverseAux x ls)
+        record { task = t; replicas = replicas e x }
+        ∷ place losses n (keep (λ w. not (eqb (w .task) t)) waiting) (reverseAux e es) (reverseAux x ls)
   ]
 
   -- The plan of a job that is to bear this many losses.
   unfoldable pub planFor : ℕ → Plan
   planFor losses =
-      let ns = place losses bottomLevels (j .tasks) [] [] in
+      let ns = place losses (j .tasks) (waitingFrom 0 bottomLevels) [] [] in
       record { best = tickOf (bestEnd j ns); worst = tickOf (worstEnd j ns); lines = ns }

@@ -5,7 +5,7 @@ use mathlib.Core.Path.{_≡_, refl}
 use mathlib.Core.List.{List, [], _∷_, _++_}
 use mathlib.Core.Bool.{Bool, true, false, _&&_}
 use lib.Dec.{eqb}
-use Rattle.definitions.specs.Lists.{bytes}
+use Rattle.definitions.specs.Lists.{bytes, sameNumbers}
 use Rattle.definitions.specs.Limits.{document01}
 use Rattle.definitions.specs.Text.{Result, good, bad}
 use Rattle.definitions.specs.Job.{Job, readJob}
@@ -64,12 +64,6 @@ table =
     ∷ row (checked house loweredPlan) (14 ∷ [])
     ∷ row (checked house housePlan) (0 ∷ [])
     ∷ []
-
-unfoldable pub sameNumbers : List ℕ → List ℕ → Bool
-sameNumbers [] [] = true
-sameNumbers [] (y ∷ ys) = false
-sameNumbers (x ∷ xs) [] = false
-sameNumbers (x ∷ xs) (y ∷ ys) = eqb x y && sameNumbers xs ys
 
 unfoldable pub holds : List Row → Bool
 holds [] = true

@@ -4,15 +4,15 @@ use mathlib.Core.List.{List, [], _∷_, _++_}
 use mathlib.Core.Bool.{Bool, true, false}
 use lib.Dec.{ltb, eqb}
 use lib.ListN.{length}
-use Rattle.definitions.specs.Lists.{if_then_else_, bytes, countFrom, keep, any, all, distinct, sum, greatest}
+use Rattle.definitions.specs.Lists.{if_then_else_, bytes, countFrom, keep, any, all, sameNumbers, distinct, sum, greatest}
 use Rattle.definitions.specs.Limits.{Limits, document01}
 use Rattle.definitions.specs.Text.{firstOf, digits, exactly, number, numbers, line, widthFrom, width, lowDigits, decimal, numbersText, lineText, lines, linesToEnd, Result, good, bad, andThen, unless}
-use Rattle.definitions.specs.Job.{Job, runTime, delay, incoming, outgoing, edgeOrder, onward, onwards, circular, jobHead, jobHeadRule, runRule, delayRule, edgeLine, edgeRule, jobLines, readJob}
+use Rattle.definitions.specs.Job.{Job, runTime, delay, incoming, outgoing, edgeOrder, preceded, remaining, circular, jobHead, jobHeadRule, runRule, delayRule, edgeLine, edgeRule, jobLines, readJob}
 use Rattle.definitions.specs.Plan.{Line, Plan, triples, descends, planHead, planHeadRule, strays, planLine, planLineRule, planLines, readPlan, replicaNumbers, planLinesText, planText}
 use Rattle.definitions.specs.Stops.{Stop, stopLine, stopRule, readStops}
 use Rattle.definitions.specs.Times.{least, largest, ofTask, ready, arrival, dataReady, start, stopTime, finish, walk, copies, earlies, lates, exits, end, bestEnd, worstEnd}
 use Rattle.definitions.specs.Refusals.{doubledTasks, replicasOf, sameTimes, ticksAgree, endsAgree, planRefusal}
-use Rattle.definitions.specs.Planner.{greatestOf, scaledRun, totalDelay, levels, bottomLevels, largestDelay, topLevel, freeTasks, priority, criticalTask, trial, chosen, replicas, place, planFor}
+use Rattle.definitions.specs.Planner.{greatestOf, waitingFrom, scaledRun, totalDelay, raised, settled, bottomLevels, largestDelay, topLevel, freeTasks, ranked, criticalTask, trial, chosen, replicas, place, planFor}
 use Rattle.definitions.specs.Replay.{replay, firstFinish, lowest, firstBox, roundEnd, resultLines, replayText}
 
 -- The bytes of an answer, if the output slice is not shorter (8).
@@ -69,12 +69,12 @@ module _ (l : Limits) where
 
 -- What the plan program prints for a job's bytes.
 unfoldable pub planPrinted : List ℕ → List ℕ
-unfolding countFrom keep any all distinct sum greatest firstOf digits exactly number numbers line widthFrom width lowDigits decimal numbersText lineText lines linesToEnd runTime delay incoming outgoing edgeOrder onward onwards circular jobHead jobHeadRule runRule delayRule edgeLine edgeRule jobLines readJob replicaNumbers planLinesText planText least largest ofTask ready arrival dataReady start stopTime finish walk exits end copies earlies lates bestEnd worstEnd greatestOf scaledRun totalDelay levels bottomLevels largestDelay topLevel freeTasks priority criticalTask trial chosen replicas place planFor planned
+unfolding countFrom keep any all sameNumbers distinct sum greatest firstOf digits exactly number numbers line widthFrom width lowDigits decimal numbersText lineText lines linesToEnd runTime delay incoming outgoing edgeOrder preceded remaining circular jobHead jobHeadRule runRule delayRule edgeLine edgeRule jobLines readJob replicaNumbers planLinesText planText least largest ofTask ready arrival dataReady start stopTime finish walk exits end copies earlies lates bestEnd worstEnd greatestOf waitingFrom scaledRun totalDelay raised settled bottomLevels largestDelay topLevel freeTasks ranked criticalTask trial chosen replicas place planFor planned
 planPrinted job = printed document01 (andThen (readJob document01 job) (λ j. good (planned document01 j)))
 
 -- What the replay program prints for a job's, a plan's and a stop list's bytes.
 unfoldable pub replayPrinted : List ℕ → List ℕ → List ℕ → List ℕ
-unfolding countFrom keep any all distinct sum greatest firstOf digits exactly number numbers line widthFrom width lowDigits decimal numbersText lineText lines linesToEnd runTime delay incoming outgoing edgeOrder onward onwards circular jobHead jobHeadRule runRule delayRule edgeLine edgeRule jobLines readJob triples descends planHead planHeadRule strays planLine planLineRule planLines readPlan stopLine stopRule readStops least largest ofTask ready arrival dataReady start stopTime finish walk exits end copies replay firstFinish lowest firstBox roundEnd resultLines replayText replayed
+unfolding countFrom keep any all sameNumbers distinct sum greatest firstOf digits exactly number numbers line widthFrom width lowDigits decimal numbersText lineText lines linesToEnd runTime delay incoming outgoing edgeOrder preceded remaining circular jobHead jobHeadRule runRule delayRule edgeLine edgeRule jobLines readJob triples descends planHead planHeadRule strays planLine planLineRule planLines readPlan stopLine stopRule readStops least largest ofTask ready arrival dataReady start stopTime finish walk exits end copies replay firstFinish lowest firstBox roundEnd resultLines replayText replayed
 replayPrinted job plan stops = printed document01 (replayed document01 job plan stops)
 
 -- The checker's number, 0 for OK, and with 12 the tasks of which it is true, in plan order.
@@ -84,5 +84,5 @@ numbered (doubled ts) = (12, ts)
 numbered (rejected n) = (n, [])
 
 unfoldable pub checkNumber : List ℕ → List ℕ → ℕ × List ℕ
-unfolding countFrom keep any all distinct sum greatest firstOf digits exactly number numbers line widthFrom width lowDigits decimal numbersText lineText lines linesToEnd runTime delay incoming outgoing edgeOrder onward onwards circular jobHead jobHeadRule runRule delayRule edgeLine edgeRule jobLines readJob triples descends planHead planHeadRule strays planLine planLineRule planLines readPlan least largest ofTask ready arrival dataReady start stopTime finish walk exits end copies earlies lates bestEnd worstEnd doubledTasks replicasOf sameTimes ticksAgree endsAgree planRefusal verdict
+unfolding countFrom keep any all sameNumbers distinct sum greatest firstOf digits exactly number numbers line widthFrom width lowDigits decimal numbersText lineText lines linesToEnd runTime delay incoming outgoing edgeOrder preceded remaining circular jobHead jobHeadRule runRule delayRule edgeLine edgeRule jobLines readJob triples descends planHead planHeadRule strays planLine planLineRule planLines readPlan least largest ofTask ready arrival dataReady start stopTime finish walk exits end copies earlies lates bestEnd worstEnd doubledTasks replicasOf sameTimes ticksAgree endsAgree planRefusal verdict
 checkNumber job plan = numbered (verdict document01 job plan)
