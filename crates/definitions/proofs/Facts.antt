@@ -1,0 +1,57 @@
+-- What is known of a job and of a plan that were read.
+use mathlib.Core.Path.{_≡_}
+use mathlib.Core.List.{List, [], _∷_}
+use mathlib.Core.Bool.{Bool, true, false}
+use Prim.Native.Nat.{ℕ, _+_, _<_, _≤_}
+use lib.ListN.{length}
+use Rattle.definitions.specs.Lists.{In}
+use Rattle.definitions.specs.Limits.{Limits}
+use Rattle.definitions.specs.Job.{Edge, Job, runTime, delay, incoming, circular}
+use Rattle.definitions.specs.Plan.{Replica, Line, Plan, processorsOf, descends}
+use Rattle.definitions.specs.Stops.{Stop}
+
+-- A job that was read.
+pub record JobFacts (l : Limits) (j : Job) : Type 0 where
+  pub some-task : 1 ≤ j .tasks
+  pub tasks-most : j .tasks ≤ l .tasks
+  pub some-processor : 1 ≤ j .processors
+  pub processors-most : j .processors ≤ l .processors
+  pub losses-most : j .losses ≤ l .losses
+  pub enough : j .losses + 1 ≤ j .processors
+  pub edges-most : length (j .edges) ≤ l .edges
+  pub run-least : (t p : ℕ) → t < j .tasks → p < j .processors → 1 ≤ runTime j t p
+  pub run-most : (t p : ℕ) → t < j .tasks → p < j .processors → runTime j t p ≤ l .runTime
+  pub delay-most : (p q : ℕ) → p < j .processors → q < j .processors → delay j p q ≤ l .delay
+  pub delay-self : (p : ℕ) → p < j .processors → delay j p p ≡ 0
+  pub from-task : (e : Edge) → In e (j .edges) → e .from < j .tasks
+  pub to-task : (e : Edge) → In e (j .edges) → e .to < j .tasks
+  pub volume-most : (e : Edge) → In e (j .edges) → e .volume ≤ l .volume
+  pub no-circle : circular j ≡ false
+
+-- A line of a plan for j, after lines with the tasks in `seen`.
+pub record LineFacts (l : Limits) (j : Job) (seen : List ℕ) (n : Line) : Type 0 where
+  pub task-below : n .task < j .tasks
+  pub width : length (n .replicas) ≡ j .losses + 1
+  pub processors-below : (p : ℕ) → In p (processorsOf n) → p < j .processors
+  pub early-most : (r : Replica) → In r (n .replicas) → r .early ≤ l .tick
+  pub late-most : (r : Replica) → In r (n .replicas) → r .late ≤ l .tick
+  pub ascends : descends (processorsOf n) ≡ false
+  pub new : In (n .task) seen → ⊥
+  pub fed : (e : Edge) → In e (incoming j (n .task)) → In (e .from) seen
+
+-- Lines in order, after lines with the tasks in `seen`, the newest first.
+abbrev pub Ordered : Limits → Job → List ℕ → List Line → Type 0
+Ordered l j seen [] = Unit {0}
+Ordered l j seen (n ∷ ns) = LineFacts l j seen n × Ordered l j (n .task ∷ seen) ns
+
+-- A plan that was read for j.
+pub record PlanFacts (l : Limits) (j : Job) (p : Plan) : Type 0 where
+  pub best-most : p .best ≤ l .tick
+  pub worst-most : p .worst ≤ l .tick
+  pub count : length (p .lines) ≡ j .tasks
+  pub ordered : Ordered l j [] (p .lines)
+
+-- Stops on processors that ascend from low on.
+abbrev pub Ascending : Limits → Job → ℕ → List Stop → Type 0
+Ascending l j low [] = Unit {0}
+Ascending l j low (s ∷ ss) = (low ≤ s .processor) × (s .processor < j .processors) × (s .tick ≤ l .tick) × Ascending l j (1 + s .processor) ss
