@@ -29,29 +29,35 @@ pub record JobFacts (l : Limits) (j : Job) : Type 0 where
   pub no-circle : circular j ≡ false
 
 -- A line of a plan for j, after lines with the tasks in `seen`.
-pub record LineFacts (l : Limits) (j : Job) (seen : List ℕ) (n : Line) : Type 0 where
+pub record LineFacts (j : Job) (seen : List ℕ) (n : Line) : Type 0 where
   pub task-below : n .task < j .tasks
   pub width : length (n .replicas) ≡ j .losses + 1
   pub processors-below : (p : ℕ) → In p (processorsOf n) → p < j .processors
-  pub early-most : (r : Replica) → In r (n .replicas) → r .early ≤ l .tick
-  pub late-most : (r : Replica) → In r (n .replicas) → r .late ≤ l .tick
   pub ascends : descends (processorsOf n) ≡ false
   pub new : In (n .task) seen → ⊥
   pub fed : (e : Edge) → In e (incoming j (n .task)) → In (e .from) seen
 
 -- Lines in order, after lines with the tasks in `seen`, the newest first.
-abbrev pub Ordered : Limits → Job → List ℕ → List Line → Type 0
-Ordered l j seen [] = Unit {0}
-Ordered l j seen (n ∷ ns) = LineFacts l j seen n × Ordered l j (n .task ∷ seen) ns
+abbrev pub Ordered : Job → List ℕ → List Line → Type 0
+Ordered j seen [] = Unit {0}
+Ordered j seen (n ∷ ns) = LineFacts j seen n × Ordered j (n .task ∷ seen) ns
 
 -- A plan that was read for j.
 pub record PlanFacts (l : Limits) (j : Job) (p : Plan) : Type 0 where
   pub best-most : p .best ≤ l .tick
   pub worst-most : p .worst ≤ l .tick
   pub count : length (p .lines) ≡ j .tasks
-  pub ordered : Ordered l j [] (p .lines)
+  pub ordered : Ordered j [] (p .lines)
+  pub early-most : (n : Line) → In n (p .lines) → (r : Replica) → In r (n .replicas) → r .early ≤ l .tick
+  pub late-most : (n : Line) → In n (p .lines) → (r : Replica) → In r (n .replicas) → r .late ≤ l .tick
 
 -- Stops on processors that ascend from low on.
 abbrev pub Ascending : Limits → Job → ℕ → List Stop → Type 0
 Ascending l j low [] = Unit {0}
 Ascending l j low (s ∷ ss) = (low ≤ s .processor) × (s .processor < j .processors) × (s .tick ≤ l .tick) × Ascending l j (1 + s .processor) ss
+
+-- Of any tasks of the job there is one that none of them precedes.
+abbrev pub FreeTask : Job → Type 0
+FreeTask j =
+    (us : List ℕ) → ((u : ℕ) → In u us → u < j .tasks) → (u : ℕ) → In u us
+    → (t : ℕ) × In t us × ((e : Edge) → In e (incoming j t) → In (e .from) us → ⊥)

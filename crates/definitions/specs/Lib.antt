@@ -10,3 +10,4 @@ pub mod Planner
 pub mod Replay
 pub mod Tools
 pub mod SmallHouse
+pub mod Claims

@@ -1,13 +1,13 @@
 -- A stop list: lines `S,box,tick` (1, 2, 3, 15).
 use Prim.Native.Nat.{ℕ}
-use mathlib.Core.List.{List, [], _∷_, getLast?}
+use mathlib.Core.List.{List, [], _∷_, _++_, getLast?}
 use mathlib.Core.Bool.{Bool, true, false, not, _||_}
 use mathlib.Core.Option.{Option, none, some}
 use lib.Dec.{leb, ltb}
 use lib.ListN.{length}
 use Rattle.definitions.specs.Lists.{bytes, nth}
 use Rattle.definitions.specs.Limits.{Limits}
-use Rattle.definitions.specs.Text.{Reader, _>>=_, _>>_, return, firstOf, line, linesToEnd, Result, whole}
+use Rattle.definitions.specs.Text.{Reader, _>>=_, _>>_, return, firstOf, line, lineText, linesToEnd, Result, whole}
 use Rattle.definitions.specs.Job.{Job, outside}
 
 -- A failure ("stop"): the processor and the tick at which it stops.
@@ -42,3 +42,8 @@ module _ (l : Limits) where
   -- The empty text means no stop.
   unfoldable pub readStops : Job → List ℕ → Result (List Stop)
   readStops j s = whole l (linesToEnd stopLine (stopRule j) (length s) []) s
+
+  -- A stop list as it is printed.
+  unfoldable pub stopsText : List Stop → List ℕ
+  stopsText [] = []
+  stopsText (s ∷ ss) = lineText l (bytes "S,") (s .processor ∷ s .tick ∷ []) ++ stopsText ss
