@@ -25,51 +25,56 @@ pub record Job : Type 0 where
   pub delays : List (List ℕ)
   pub edges : List Edge
 
--- The run time of task t on processor p.
+-- The run time of task t on processor p: "`C,task,` and m run times".
 unfoldable pub runTime : Job → ℕ → ℕ → ℕ
 runTime j t p = nth (getD (j .runs) t []) p
 
--- The delay for one unit of data from processor p to processor q.
+-- "Ticks per unit of data, from that box to boxes 0..m−1": from processor p to processor q.
 unfoldable pub delay : Job → ℕ → ℕ → ℕ
 delay j p q = nth (getD (j .delays) p []) q
 
--- The edges that enter task t, from its predecessors; those that leave it, to its successors.
+-- The edges that enter task t, from its predecessors.
 unfoldable pub incoming : Job → ℕ → List Edge
 incoming j t = keep (λ e. eqb (e .to) t) (j .edges)
 
+-- The edges that leave task t, to its successors.
 unfoldable pub outgoing : Job → ℕ → List Edge
 outgoing j t = keep (λ e. eqb (e .from) t) (j .edges)
 
+-- "A number outside its range".
 abbrev pub outside : ℕ → ℕ → ℕ → Bool
 outside low high n = ltb n low || ltb high n
 
--- `JOB,v,m,e,ε`
+-- `JOB,v,m,e,ε`: the numbers of a job's head.
 pub record JobHead : Type 0 where
   pub tasks : ℕ
   pub processors : ℕ
   pub edges : ℕ
   pub losses : ℕ
 
+-- The numbers of a head, in order.
 abbrev pub jobHeadOf : List ℕ → JobHead
 jobHeadOf vs = record { tasks = nth vs 0; processors = nth vs 1; edges = nth vs 2; losses = nth vs 3 }
 
+-- The numbers of an edge line, in order.
 abbrev pub edgeOf : List ℕ → Edge
 edgeOf vs = record { from = nth vs 0; to = nth vs 1; volume = nth vs 2 }
 
--- An edge from a task to itself, or a from-to pair that an earlier line has (6). L1's order of edges belongs here.
+-- The rule between an edge and those before it: "an edge from a task to itself, or a from-to pair that an earlier line has" (6).
 unfoldable pub edgeOrder : List Edge → Edge → List (Bool × ℕ)
 edgeOrder seen e = (eqb (e .from) (e .to) || any (λ d. eqb (d .from) (e .from) && eqb (d .to) (e .to)) seen, 6) ∷ []
 
--- What is left of some tasks when those that none of them precedes are taken away; and when this is done n times.
+-- What is left of some tasks when those that none of them precedes are taken away.
 unfoldable pub preceded : List Edge → List ℕ → List ℕ
 preceded es ts = keep (λ t. any (λ e. eqb (e .to) t && has (e .from) ts) es) ts
 
+-- What is left when this is done n times.
 unfoldable pub remaining : ℕ → List Edge → List ℕ → List ℕ
 remaining zero es ts = ts
 remaining (suc n) es ts = remaining n es (preceded es ts)
 
--- The edges form a circle: of all tasks some are left, though it is done as often as there are tasks. It is proved
--- (proofs/Circle.antt) that this is so exactly if there is a circle as the next two definitions say.
+-- "The edges form a circle" (7): of all tasks some are left, though this is done as often as there are tasks.
+-- proofs/Circle.antt proves that this is so exactly if there is a Circle.
 unfoldable pub circular : Job → Bool
 circular j = not (empty (remaining (j .tasks) (j .edges) (below (j .tasks))))
 
@@ -83,12 +88,13 @@ abbrev pub Circle : Job → Type 0
 Circle j = (t : ℕ) × Path (j .edges) t t
 
 module _ (l : Limits) where
-  -- `JOB,v,m,e,ε`: v 1..255, m 1..16, e 0..1,024, ε 0..7 (3), with ε + 1 ≤ m (4).
+  -- A head is known by its fixed opening bytes, here JOB and a comma.
   unfoldable pub jobHead : Reader JobHead
   jobHead = do
     vs ← line l (bytes "JOB,") 4
     return (jobHeadOf vs)
 
+  -- `JOB,v,m,e,ε`: tasks v 1..255, boxes m 1..16, edges e 0..1,024, losses ε 0..7 (3), with ε + 1 ≤ m (4).
   unfoldable pub jobHeadRule : JobHead → ℕ
   jobHeadRule h =
       firstOf
@@ -116,17 +122,18 @@ module _ (l : Limits) where
       ∷ []
       )
 
-  -- `E,from,to,volume`: from and to are tasks, volume 0..4,095 (3); then the rule on the edges before it.
+  -- `E,from,to,volume`
   unfoldable pub edgeLine : Reader Edge
   edgeLine = do
     vs ← line l (bytes "E,") 3
     return (edgeOf vs)
 
+  -- "A task ≥ v", volume 0..4,095 (3); then the rule on the edges before it.
   unfoldable pub edgeRule : ℕ → List Edge → Edge → ℕ
   edgeRule tasks seen e =
       firstOf ((not (ltb (e .from) tasks) || not (ltb (e .to) tasks) || outside 0 (l .volume) (e .volume), 3) ∷ edgeOrder seen e)
 
-  -- The lines of a job, in this order.
+  -- "A job, in this order": the head, v C lines, m D lines, e E lines.
   unfoldable pub jobLines : Reader Job
   jobLines = do
     h ← jobHead
@@ -143,6 +150,6 @@ module _ (l : Limits) where
       edges = edges;
     })
 
-  -- A job's text. After the last line: the edges form a circle (7).
+  -- A job's text. "After the job's last line: 7".
   unfoldable pub readJob : List ℕ → Result Job
   readJob s = andThen (whole l jobLines s) (λ j. unless (firstOf ((circular j, 7) ∷ [])) j)

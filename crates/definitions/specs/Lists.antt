@@ -10,6 +10,7 @@ use mathlib.Core.Bool.{Bool, true, false, not, _&&_, _||_}
 use lib.Dec.{eqb}
 use lib.ListN.{getD}
 
+-- The first of two if a test is true, else the second.
 infix 20 if_then_else_
 abbrev pub if_then_else_ : {A : Type 0} → Bool → A → A → A
 if true then a else b = a
@@ -54,10 +55,12 @@ In x (y ∷ ys) = (y ≡ x) ⊎ In x ys
 abbrev pub has : ℕ → List ℕ → Bool
 has x xs = any (λ y. eqb y x) xs
 
+-- There is no member.
 abbrev pub empty : {A : Type 0} → List A → Bool
 empty [] = true
 empty (x ∷ xs) = false
 
+-- Two lists have the same numbers in the same order.
 unfoldable pub sameNumbers : List ℕ → List ℕ → Bool
 sameNumbers [] [] = true
 sameNumbers [] (y ∷ ys) = false
@@ -69,6 +72,7 @@ unfoldable pub distinct : List ℕ → Bool
 distinct [] = true
 distinct (x ∷ xs) = let others = distinct xs in not (has x xs) && others
 
+-- All members added up.
 unfoldable pub sum : List ℕ → ℕ
 sum [] = 0
 sum (x ∷ xs) = x + sum xs

@@ -30,22 +30,24 @@ pub record Plan : Type 0 where
 abbrev pub processorsOf : Line → List ℕ
 processorsOf n = map (λ r. r .processor) (n .replicas)
 
+-- Triples box, early, late.
 unfoldable pub triples : List ℕ → List Replica
 triples [] = []
 triples (p ∷ []) = []
 triples (p ∷ e ∷ []) = []
 triples (p ∷ e ∷ x ∷ vs) = record { processor = p; early = e; late = x } ∷ triples vs
 
+-- The numbers of a T line, in order.
 abbrev pub lineOf : List ℕ → Line
 lineOf vs = record { task = nth vs 0; replicas = triples (drop 1 vs) }
 
--- Within a line a box is less than the one before (11).
+-- "Within a T line a box is less than the one before" (11).
 unfoldable pub descends : List ℕ → Bool
 descends [] = false
 descends (p ∷ []) = false
 descends (p ∷ q ∷ ps) = let later = descends (q ∷ ps) in ltb q p || later
 
--- `PLAN,v,m,ε,M*,M`
+-- `PLAN,v,m,ε,M*,M`: the numbers of a plan's head.
 pub record PlanHead : Type 0 where
   pub tasks : ℕ
   pub processors : ℕ
@@ -53,16 +55,18 @@ pub record PlanHead : Type 0 where
   pub best : ℕ
   pub worst : ℕ
 
+-- The numbers of a head, in order.
 abbrev pub planHeadOf : List ℕ → PlanHead
 planHeadOf vs = record { tasks = nth vs 0; processors = nth vs 1; losses = nth vs 2; best = nth vs 3; worst = nth vs 4 }
 
 module _ (l : Limits) where
-  -- v, m and ε have the job's ranges, M* and M are 0..4,294,967,295 (3); v, m or ε differ from the job's (9).
+  -- A head is known by its fixed opening bytes, here PLAN and a comma.
   unfoldable pub planHead : Reader PlanHead
   planHead = do
     vs ← line l (bytes "PLAN,") 5
     return (planHeadOf vs)
 
+  -- "v, m and ε have the job's ranges", M* and M are 0..4,294,967,295 (3); "v, m or ε of the plan differ from the job's" (9).
   unfoldable pub planHeadRule : Job → PlanHead → ℕ
   planHeadRule j h =
       firstOf
@@ -77,18 +81,19 @@ module _ (l : Limits) where
       ∷ []
       )
 
-  -- A task ≥ v, a box ≥ m, or a tick outside its range (3).
+  -- "A number outside its range; a task ≥ v or box ≥ m" (3).
   unfoldable pub strays : Job → Line → Bool
   strays j n =
       not (ltb (n .task) (j .tasks))
       || any (λ r. not (ltb (r .processor) (j .processors)) || outside 0 (l .tick) (r .early) || outside 0 (l .tick) (r .late)) (n .replicas)
 
-  -- A T line: 3; then 11; then 10: it repeats a task, or precedes a predecessor of its task.
+  -- `T,task,` and ε + 1 triples.
   unfoldable pub planLine : Job → Reader Line
   planLine j = do
     vs ← line l (bytes "T,") (1 + 3 * (1 + j .losses))
     return (lineOf vs)
 
+  -- "A T line 11, then 10": it "repeats a task, or precedes a predecessor of its task" (10).
   unfoldable pub planLineRule : Job → List Line → Line → ℕ
   planLineRule j seen n =
       let tasks = map (λ n. n .task) seen in
@@ -100,7 +105,7 @@ module _ (l : Limits) where
       ∷ []
       )
 
-  -- The lines of a plan for a job.
+  -- "A plan": the head, then v T lines.
   unfoldable pub planLines : Job → Reader Plan
   planLines j = do
     h ← planHead
@@ -108,18 +113,21 @@ module _ (l : Limits) where
     ns ← lines (planLine j) (planLineRule j) (j .tasks) []
     return (record { best = h .best; worst = h .worst; lines = ns })
 
+  -- A plan's text, for a job.
   unfoldable pub readPlan : Job → List ℕ → Result Plan
   readPlan j s = whole l (planLines j) s
 
-  -- A plan as it is printed.
+  -- The numbers of a line's triples.
   unfoldable pub replicaNumbers : List Replica → List ℕ
   replicaNumbers [] = []
   replicaNumbers (r ∷ rs) = r .processor ∷ r .early ∷ r .late ∷ replicaNumbers rs
 
+  -- The T lines as they are printed.
   unfoldable pub planLinesText : List Line → List ℕ
   planLinesText [] = []
   planLinesText (n ∷ ns) = lineText l (bytes "T,") (n .task ∷ replicaNumbers (n .replicas)) ++ planLinesText ns
 
+  -- A plan as it is printed.
   unfoldable pub planText : Job → Plan → List ℕ
   planText j p =
       lineText l (bytes "PLAN,") (j .tasks ∷ j .processors ∷ j .losses ∷ p .best ∷ p .worst ∷ []) ++ planLinesText (p .lines)

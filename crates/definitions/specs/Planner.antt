@@ -19,37 +19,38 @@ unfoldable pub greatestOf : ℕ × ℕ → List (ℕ × ℕ) → ℕ
 greatestOf x [] = x .0
 greatestOf x (y ∷ ys) = greatestOf (if ltb (x .1) (y .1) then y else x) ys
 
--- A task that is not placed yet, and its bottom level; tasks from k on with these bottom levels.
+-- A task that is not placed yet, and its bottom level.
 pub record Waiting : Type 0 where
   pub task : ℕ
   pub bottom : ℕ
 
+-- The tasks from k on, with these bottom levels.
 unfoldable pub waitingFrom : ℕ → List ℕ → List Waiting
 waitingFrom k [] = []
 waitingFrom k (x ∷ xs) = record { task = k; bottom = x } ∷ waitingFrom (suc k) xs
 
 module _ (j : Job) where
-  -- Priorities are scaled by D = m(m − 1), or 1 where m = 1.
+  -- "Priorities are scaled by D = m(m − 1), or 1 where m = 1".
   abbrev pub scale : ℕ
   scale = if eqb (j .processors) 1 then 1 else j .processors * (j .processors - 1)
 
-  -- Scaled average run time: (m − 1) times the sum of a task's run times (m = 1: the run time).
+  -- "Scaled average run time: (m − 1) times the sum of a task's run times (m = 1: the run time)".
   unfoldable pub scaledRun : ℕ → ℕ
   scaledRun t =
       if eqb (j .processors) 1 then runTime j t 0 else (j .processors - 1) * sum (map (runTime j t) (below (j .processors)))
 
-  -- The sum of all delays between different boxes.
+  -- "The sum of all delays between different boxes".
   unfoldable pub totalDelay : ℕ
   totalDelay =
       let boxes = below (j .processors) in
       sum (map (λ p. sum (map (delay j p) (keep (λ q. not (eqb q p)) boxes))) boxes)
 
-  -- Scaled average message: volume × that sum (m = 1: 0).
+  -- "Scaled average message: volume × the sum" (m = 1: 0, there is no such delay).
   abbrev pub scaledMessage : Edge → ℕ
   scaledMessage e = e .volume * totalDelay
 
-  -- Bottom level of an exit task: its scaled run time; else that plus the largest, over successors, of scaled message +
-  -- the successor's bottom level: the levels of all tasks, from those known for their successors.
+  -- "Bottom level of an exit task: its scaled run time; else that plus the largest, over successors, of scaled message +
+  -- the successor's bottom level": the levels of all tasks, from those known of the successors.
   unfoldable pub raised : List ℕ → List ℕ
   raised known =
       map (λ t. scaledRun t + greatest (map (λ e. scaledMessage e + nth known (e .to)) (outgoing j t))) (below (j .tasks))
@@ -62,21 +63,22 @@ module _ (j : Job) where
       let further = settled n next in
       if sameNumbers next known then known else further
 
+  -- The bottom levels, by task. proofs/Circle.antt proves the sentence above of them.
   unfoldable pub bottomLevels : List ℕ
   bottomLevels = settled (j .tasks) []
 
-  -- A box's largest delay to any box.
+  -- "That copy's largest delay to any box".
   unfoldable pub largestDelay : ℕ → ℕ
   largestDelay p = greatest (map (delay j p) (below (j .processors)))
 
-  -- Top level: 0 without predecessors; else, over predecessors, the largest of (the least, over copies, of early finish
-  -- + volume × that copy's largest delay), times D.
+  -- "Top level: 0 for a task without predecessors; else, over predecessors, the largest of (the least, over copies, of
+  -- early finish + volume × that copy's largest delay to any box), times D".
   unfoldable pub topLevel : List Outcome → ℕ → ℕ
   topLevel placed t =
       tickOf (largest (map (λ e. least (map (λ d. after (e .volume * largestDelay (d .processor)) (d .time)) (ofTask (e .from) placed))) (incoming j t)))
       * scale
 
-  -- Free tasks: all predecessors placed.
+  -- "The free tasks (all predecessors placed)".
   unfoldable pub freeTasks : List Outcome → List Waiting → List Waiting
   freeTasks placed waiting =
       let done = map (λ d. d .task) placed in
@@ -86,7 +88,7 @@ module _ (j : Job) where
   unfoldable pub ranked : List Outcome → Waiting → ℕ × ℕ
   ranked placed w = (w .task, topLevel placed (w .task) + w .bottom)
 
-  -- Of the free tasks w and ws the greatest sum is placed next; ties go to the lowest task number.
+  -- "Of the free tasks the greatest sum is placed next; ties go to the lowest task number": w and ws, ascending.
   unfoldable pub criticalTask : List Outcome → Waiting → List Waiting → ℕ
   criticalTask placed w ws = greatestOf (ranked placed w) (map (ranked placed) ws)
 
@@ -99,7 +101,7 @@ module _ (j : Job) where
   goesBefore finishes p q =
       ltb (nth finishes q) (nth finishes p) || eqb (nth finishes q) (nth finishes p) && ltb q p
 
-  -- The k boxes of least early finish, ascending: those before which fewer than k boxes go.
+  -- "It goes on the ε + 1 boxes of least early finish; ties go to the lowest box": those before which fewer than k boxes go.
   unfoldable pub chosen : ℕ → List ℕ → List ℕ
   chosen k finishes =
       let boxes = below (j .processors) in

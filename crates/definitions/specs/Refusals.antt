@@ -8,7 +8,7 @@ use Rattle.definitions.specs.Job.{Job}
 use Rattle.definitions.specs.Plan.{Replica, Line, Plan, processorsOf}
 use Rattle.definitions.specs.Times.{Time, tick, same, times, earlies, lates, bestEnd, worstEnd}
 
--- The tasks with two copies on one box, in plan order (12).
+-- "Some task has two copies on one box" (12): the tasks of which this is true, in plan order.
 unfoldable pub doubledTasks : List Line → List ℕ
 doubledTasks ns = map (λ n. n .task) (keep (λ n. not (distinct (processorsOf n))) ns)
 
@@ -17,23 +17,24 @@ unfoldable pub replicasOf : List Line → List Replica
 replicasOf [] = []
 replicasOf (n ∷ ns) = n .replicas ++ replicasOf ns
 
+-- The same times in the same order.
 unfoldable pub sameTimes : List Time → List Time → Bool
 sameTimes [] [] = true
 sameTimes [] (y ∷ ys) = false
 sameTimes (x ∷ xs) [] = false
 sameTimes (x ∷ xs) (y ∷ ys) = same x y && sameTimes xs ys
 
--- The written ticks are the equations' (else 13).
+-- "An early or late tick differs from the equations'" (13), if this is false.
 unfoldable pub ticksAgree : Job → List Line → Bool
 ticksAgree j ns =
     sameTimes (times (earlies j ns)) (map (λ r. tick (r .early)) (replicasOf ns))
     && sameTimes (times (lates j ns)) (map (λ r. tick (r .late)) (replicasOf ns))
 
--- M* and M are the equations' (else 14).
+-- "M* or M differs" (14), if this is false.
 unfoldable pub endsAgree : Job → Plan → Bool
 endsAgree j p = same (bestEnd j (p .lines)) (tick (p .best)) && same (worstEnd j (p .lines)) (tick (p .worst))
 
--- The number that is due after the plan's last line; 0 if none is.
+-- "After the plan's last line the checker tries 12 over all lines, then 13, then 14"; 0 if none is due.
 unfoldable pub planRefusal : Job → Plan → ℕ
 planRefusal j p =
     firstOf

@@ -10,11 +10,12 @@ use Rattle.definitions.specs.Plan.{Line}
 use Rattle.definitions.specs.Stops.{Stop}
 use Rattle.definitions.specs.Times.{Time, tick, never, same, least, Outcome, ofTask, times, walk, copies, end}
 
--- The outcome of each copy. Copies run in written order, on the table's run times; the plan's ticks are not used.
+-- "In a doubled plan copies run in written order": the outcome of each copy under the stops. "A copy that cannot finish bars
+-- every later copy on its box": its box is never ready again. The plan's ticks are not used.
 unfoldable pub replay : Job → List Stop → List Line → List Outcome
 replay j stops ns = walk j least stops [] (copies j ns)
 
--- The first finish of task t.
+-- "The first finish" of task t.
 unfoldable pub firstFinish : ℕ → List Outcome → Time
 firstFinish t ds = least (times (ofTask t ds))
 
@@ -24,11 +25,11 @@ lowest [] = 0
 lowest (p ∷ []) = p
 lowest (p ∷ q ∷ ps) = min p (lowest (q ∷ ps))
 
--- The box of the first finish x; ties: lowest box.
+-- The box of the first finish x, "ties: lowest box".
 unfoldable pub firstBox : ℕ → Time → List Outcome → ℕ
 firstBox t x ds = lowest (map (λ d. d .processor) (keep (λ d. same (d .time) x) (ofTask t ds)))
 
--- The round's end: the largest first finish of the exit tasks; never, if one has none.
+-- "The largest first finish of the exit tasks"; never, if one has none.
 unfoldable pub roundEnd : Job → List Outcome → Time
 roundEnd j ds = end j least ds
 
@@ -38,7 +39,7 @@ module _ (l : Limits) where
   resultLine t (tick x) p = lineText l (bytes "R,") (t ∷ p ∷ x ∷ [])
   resultLine t never p = bytes "R," ++ decimal l t ++ bytes ",-,-\n"
 
-  -- One for each task, in task order.
+  -- "For each task, in task order".
   unfoldable pub resultLines : List ℕ → List Outcome → List ℕ
   resultLines [] ds = []
   resultLines (t ∷ ts) ds = resultLine t (firstFinish t ds) (firstBox t (firstFinish t ds) ds) ++ resultLines ts ds
@@ -48,6 +49,6 @@ module _ (l : Limits) where
   endLine (tick x) = lineText l (bytes "L,") (x ∷ [])
   endLine never = bytes "L,-\n"
 
-  -- The replay's answer.
+  -- "Answer": the R lines, then the L line.
   unfoldable pub replayText : Job → List Outcome → List ℕ
   replayText j ds = resultLines (below (j .tasks)) ds ++ endLine (roundEnd j ds)

@@ -15,21 +15,23 @@ pub record Stop : Type 0 where
   pub processor : ℕ
   pub tick : ℕ
 
+-- The numbers of an S line, in order.
 abbrev pub stopOf : List ℕ → Stop
 stopOf vs = record { processor = nth vs 0; tick = nth vs 1 }
 
--- The box is not greater than the previous line's.
+-- "A stop line's box is not greater than the previous line's" (15).
 abbrev pub notAfter : Option Stop → Stop → Bool
 notAfter none s = false
 notAfter (some q) s = leb (s .processor) (q .processor)
 
 module _ (l : Limits) where
-  -- Box < m, tick 0..4,294,967,295 (3); boxes strictly ascending (15).
+  -- `S,box,tick`
   unfoldable pub stopLine : Reader Stop
   stopLine = do
     vs ← line l (bytes "S,") 2
     return (stopOf vs)
 
+  -- A "box ≥ m", tick 0..4,294,967,295 (3); "boxes strictly ascending" (15).
   unfoldable pub stopRule : Job → List Stop → Stop → ℕ
   stopRule j seen s =
       firstOf
@@ -39,7 +41,7 @@ module _ (l : Limits) where
       ∷ []
       )
 
-  -- The empty text means no stop.
+  -- "No line or more lines"; "the empty text means no stop".
   unfoldable pub readStops : Job → List ℕ → Result (List Stop)
   readStops j s = whole l (linesToEnd stopLine (stopRule j) (length s) []) s
 

@@ -12,6 +12,7 @@ pub data Reading (A : Type 0) : Type 0 where
   found : A → List ℕ → Reading A
   refused : ℕ → Reading A
 
+-- A reader of A takes the text that is left.
 abbrev pub Reader : Type 0 → Type 0
 Reader A = List ℕ → Reading A
 
@@ -28,6 +29,7 @@ infixl 10 _>>_
 abbrev pub _>>_ : {A B : Type 0} → Reader A → Reader B → Reader B
 r >> q = λ s. next (r s) (λ a. q)
 
+-- Nothing is read.
 abbrev pub return : {A : Type 0} → A → Reader A
 return a = λ s. found a s
 
@@ -41,17 +43,18 @@ abbrev pub due : ℕ → Reader (Unit {0})
 due zero = return tt
 due (suc n) = λ s. refused (suc n)
 
+-- A decimal digit, '0' to '9'.
 abbrev pub isDigit : ℕ → Bool
 isDigit b = leb 48 b && leb b 57
 
--- At most k more digits, after those that make the value n.
+-- The digits that follow, at most k, after those that make the value n.
 unfoldable pub digits : ℕ → ℕ → Reader ℕ
 digits k n [] = found n []
 digits k n (b ∷ s) =
     let more = digits (k - 1) (n * 10 + (b - 48)) s in
     if isDigit b then (if eqb k 0 then refused 2 else more) else found n (b ∷ s)
 
--- These bytes and no others.
+-- Fixed bytes, such as a line's opening; else the line is bad (2).
 unfoldable pub exactly : List ℕ → Reader (Unit {0})
 exactly [] s = found tt s
 exactly (o ∷ os) [] = refused 2
@@ -62,12 +65,12 @@ abbrev pub mark : ℕ → ℕ
 mark k = if eqb k 0 then 10 else 44
 
 module _ (l : Limits) where
-  -- A number has 1 to 10 decimal digits and no needless leading zero: after a 0 in front no digit may follow.
+  -- "A number has 1 to 10 decimal digits and no needless leading zero": after a 0 in front no digit follows (else 2).
   unfoldable pub number : Reader ℕ
   number [] = refused 2
   number (b ∷ s) = if isDigit b then digits (if eqb b 48 then 0 else l .digits - 1) (b - 48) s else refused 2
 
-  -- The k numbers that end a line.
+  -- "Fields are in a fixed order, parted by commas, without quoting": the k numbers that end a line.
   unfoldable pub numbers : ℕ → Reader (List ℕ)
   numbers zero = return []
   numbers (suc k) = do
@@ -76,17 +79,18 @@ module _ (l : Limits) where
     vs ← numbers k
     return (v ∷ vs)
 
-  -- A line: its opening and k numbers.
+  -- A line: its opening and k numbers, "every line ends in one LF byte".
   unfoldable pub line : List ℕ → ℕ → Reader (List ℕ)
   line opening k = do
     exactly opening
     numbers k
 
-  -- A number's printed width comes from the powers of ten: the least of d, d + 1 and on to d + k whose power n does not reach.
+  -- "Its printed width comes from the ten powers of ten": the least of d, d + 1, .. d + k whose power of ten n does not reach.
   unfoldable pub widthFrom : ℕ → ℕ → ℕ → ℕ
   widthFrom zero d n = d
   widthFrom (suc k) d n = let wider = widthFrom k (d + 1) n in if ltb n (10 ^ d) then d else wider
 
+  -- A number's printed width: 1 digit or more.
   unfoldable pub width : ℕ → ℕ
   width n = widthFrom (l .powers - 1) 1 n
 
@@ -99,16 +103,17 @@ module _ (l : Limits) where
   unfoldable pub decimal : ℕ → List ℕ
   decimal n = lowDigits (width n) n
 
-  -- The numbers that end a line, and a line, as they are printed.
+  -- The numbers that end a line, as they are printed.
   unfoldable pub numbersText : List ℕ → List ℕ
   numbersText [] = []
   numbersText (v ∷ vs) = decimal v ++ mark (length vs) ∷ numbersText vs
 
+  -- A line as it is printed.
   unfoldable pub lineText : List ℕ → List ℕ → List ℕ
   lineText opening vs = opening ++ numbersText vs
 
--- n lines of one kind, after the lines in `seen`. In a line its form comes first, then the line's own rule,
--- which knows the lines before it and gives the number of the refusal, or 0.
+-- "Line by line, in a line 2, then 3, then its own rule": n lines of one kind, after the lines in `seen`. Reading a line
+-- gives 2; then the rule, which knows the lines before it, gives the number of the refusal, or 0.
 unfoldable pub lines : {A : Type 0} → Reader A → (List A → A → ℕ) → ℕ → List A → Reader (List A)
 lines form rule zero seen = return seen
 lines form rule (suc n) seen = do
@@ -129,27 +134,27 @@ linesToEnd form rule (suc n) seen = atEnd (return seen) do
   due (rule seen a)
   linesToEnd form rule n (seen ++ a ∷ [])
 
--- What a whole text is, or the number of its refusal.
+-- What a whole text says, or the number of its refusal.
 pub data Result (A : Type 0) : Type 0 where
   good : A → Result A
   bad : ℕ → Result A
 
--- One text after another; the first refusal counts.
+-- "Order: the job entirely, then the plan, then the stops, then 8": the first refusal counts.
 abbrev pub andThen : {A B : Type 0} → Result A → (A → Result B) → Result B
 andThen (good a) f = f a
 andThen (bad n) f = bad n
 
--- A number that is due after the text's last line (0: none).
+-- A number that is due after a text's last line (0: none).
 abbrev pub unless : {A : Type 0} → ℕ → A → Result A
 unless zero a = good a
 unless (suc n) a = bad (suc n)
 
--- Nothing may be left over (2).
+-- "A line left over gets its 2".
 abbrev pub ended : {A : Type 0} → Reading A → Result A
 ended (found a []) = good a
 ended (found a (b ∷ s)) = bad 2
 ended (refused n) = bad n
 
--- A text that is too long gets 1 before anything else is tried.
+-- "In a text: 1; then line by line".
 abbrev pub whole : {A : Type 0} → Limits → Reader A → List ℕ → Result A
 whole l r s = if ltb (l .textLength) (length s) then bad 1 else ended (r s)

@@ -8,17 +8,18 @@ use Rattle.definitions.specs.Job.{Edge, Job, runTime, delay, incoming, o
 use Rattle.definitions.specs.Plan.{Line, processorsOf}
 use Rattle.definitions.specs.Stops.{Stop}
 
--- A tick, or never.
+-- "A tick is one whole unit of time": the tick at which something has come, or never.
 pub data Time : Type 0 where
   tick : ℕ → Time
   never : Time
 
--- The later of two: both have come. The sooner of two: one of them has come.
+-- The later of two times: both have come.
 abbrev pub later : Time → Time → Time
 later (tick x) (tick y) = tick (max x y)
 later (tick x) never = never
 later never y = never
 
+-- The sooner of two times: one of them has come.
 abbrev pub sooner : Time → Time → Time
 sooner (tick x) (tick y) = tick (min x y)
 sooner (tick x) never = tick x
@@ -29,22 +30,24 @@ abbrev pub after : ℕ → Time → Time
 after n (tick x) = tick (x + n)
 after n never = never
 
+-- Two times are the same.
 abbrev pub same : Time → Time → Bool
 same (tick x) (tick y) = eqb x y
 same (tick x) never = false
 same never (tick y) = false
 same never never = true
 
--- The least of several times; never, of none. The largest of several times; tick 0, of none.
+-- The least of several times; never, of none.
 unfoldable pub least : List Time → Time
 least [] = never
 least (x ∷ xs) = sooner x (least xs)
 
+-- The largest of several times; tick 0, of none.
 unfoldable pub largest : List Time → Time
 largest [] = tick 0
 largest (x ∷ xs) = later x (largest xs)
 
--- A replica in written order, and how long it runs.
+-- A replica ("copy") in written order, and how long it runs.
 pub record Copy : Type 0 where
   pub task : ℕ
   pub processor : ℕ
@@ -56,6 +59,7 @@ pub record Outcome : Type 0 where
   pub processor : ℕ
   pub time : Time
 
+-- A copy that finishes at x.
 abbrev pub outcome : Copy → Time → Outcome
 outcome c x = record { task = c .task; processor = c .processor; time = x }
 
@@ -63,20 +67,21 @@ outcome c x = record { task = c .task; processor = c .processor; time = x }
 unfoldable pub ofTask : ℕ → List Outcome → List Outcome
 ofTask t ds = keep (λ d. eqb (d .task) t) ds
 
+-- The times of some outcomes.
 abbrev pub times : List Outcome → List Time
 times ds = map (λ d. d .time) ds
 
 module _ (j : Job) where
-  -- All boxes are ready at 0.
+  -- "With all boxes ready at 0".
   abbrev pub firstReady : ℕ → Time
   firstReady p = tick 0
 
-  -- A box's ready tick is the finish of its newest copy. What is placed stands newest first.
+  -- "A box's two ready ticks become the two finishes of its newest copy". What is placed stands newest first.
   unfoldable pub ready : ℕ → List Outcome → Time
   ready p [] = firstReady p
   ready p (d ∷ placed) = let older = ready p placed in if eqb (d .processor) p then d .time else older
 
-  -- W = volume × delay from the sender's box to the receiver's.
+  -- "W = volume × delay from the sender's box to the receiver's".
   abbrev pub message : Edge → ℕ → ℕ → ℕ
   message e q p = e .volume * delay j q p
 
@@ -84,15 +89,15 @@ module _ (j : Job) where
   abbrev pub feeding : ℕ → ℕ → List Outcome → List Outcome
   feeding t p placed = ofTask t placed
 
-  -- When the data of edge e is on p: the least, or the largest, over the predecessor's copies, of finish + W.
+  -- When the data of edge e is on p: "the least, over the predecessor's copies, of early finish + W"; late, the largest.
   unfoldable pub arrival : (List Time → Time) → List Outcome → ℕ → Edge → Time
   arrival choose placed p e = choose (map (λ d. after (message e (d .processor) p) (d .time)) (feeding (e .from) p placed))
 
-  -- Over predecessors, the largest of these; 0 with no predecessor.
+  -- "Over predecessors, the largest of" these; 0 with no predecessor.
   unfoldable pub dataReady : (List Time → Time) → List Outcome → ℕ → ℕ → Time
   dataReady choose placed t p = largest (map (arrival choose placed p) (incoming j t))
 
-  -- A copy starts at the later of two ticks: its box is ready, and its data is there.
+  -- "A copy starts at the later of two ticks": its box is ready, and its data is there.
   unfoldable pub start : (List Time → Time) → List Outcome → ℕ → ℕ → Time
   start choose placed t p = later (ready p placed) (dataReady choose placed t p)
 
@@ -101,49 +106,52 @@ module _ (j : Job) where
   stopTime [] p = never
   stopTime (s ∷ stops) p = let others = stopTime stops p in if eqb (s .processor) p then tick (s .tick) else others
 
-  -- It is finished if its finish tick ≤ its box's stop tick.
+  -- "It is finished if its finish tick ≤ its box's stop tick".
   abbrev pub unlessStopped : Time → Time → Time
   unlessStopped never x = x
   unlessStopped (tick s) never = never
   unlessStopped (tick s) (tick x) = if leb x s then tick x else never
 
-  -- A copy's finish: its start and its run time, if its box does not stop before that.
+  -- "Early finish of t on p = run time + the greater of" the two; late and in the replay the same.
   unfoldable pub finish : (List Time → Time) → List Stop → List Outcome → Copy → Time
   finish choose stops placed c =
       unlessStopped (stopTime stops (c .processor)) (after (c .run) (start choose placed (c .task) (c .processor)))
 
-  -- In plan order, the outcome of each copy after those that are placed.
+  -- "In plan order": the outcome of each copy, after those that are placed.
   unfoldable pub walk : (List Time → Time) → List Stop → List Outcome → List Copy → List Outcome
   walk choose stops placed [] = []
   walk choose stops placed (c ∷ cs) =
       let d = outcome c (finish choose stops placed c) in d ∷ walk choose stops (d ∷ placed) cs
 
-  -- The copies of lines in written order, with the table's run times.
+  -- Copies of task t on some processors, with the table's run times.
   abbrev pub copiesOf : ℕ → List ℕ → List Copy
   copiesOf t ps = map (λ p. record { task = t; processor = p; run = runTime j t p }) ps
 
+  -- "Line order is the order in which every box takes up its copies".
   unfoldable pub copies : List Line → List Copy
   copies [] = []
   copies (n ∷ ns) = copiesOf (n .task) (processorsOf n) ++ copies ns
 
-  -- The early and the late finishes.
+  -- The early finishes: the least over a predecessor's copies.
   unfoldable pub earlies : List Line → List Outcome
   earlies ns = walk least [] [] (copies ns)
 
+  -- "Late finish: the same with late ticks throughout and the largest over the copies".
   unfoldable pub lates : List Line → List Outcome
   lates ns = walk largest [] [] (copies ns)
 
-  -- The exit tasks: no successor.
+  -- "Exit tasks (no successor)".
   unfoldable pub exits : List ℕ
   exits = keep (λ t. empty (outgoing j t)) (below (j .tasks))
 
-  -- Over exit tasks, the largest of the least, or of the largest, finish of their copies.
+  -- "Over exit tasks", the largest of the least (or of the largest) finish of their copies.
   unfoldable pub end : (List Time → Time) → List Outcome → Time
   end choose ds = largest (map (λ t. choose (times (ofTask t ds))) exits)
 
-  -- M* and M.
+  -- "M* = over exit tasks, the largest of the least early finish".
   unfoldable pub bestEnd : List Line → Time
   bestEnd ns = end least (earlies ns)
 
+  -- "M = the largest late finish of their copies".
   unfoldable pub worstEnd : List Line → Time
   worstEnd ns = end largest (lates ns)

@@ -15,7 +15,7 @@ use Rattle.definitions.specs.Refusals.{doubledTasks, replicasOf, sameTim
 use Rattle.definitions.specs.Planner.{greatestOf, waitingFrom, scaledRun, totalDelay, raised, settled, bottomLevels, largestDelay, topLevel, freeTasks, ranked, criticalTask, trial, chosen, replicas, place, planFor}
 use Rattle.definitions.specs.Replay.{replay, firstFinish, lowest, firstBox, roundEnd, resultLines, replayText}
 
--- The bytes of an answer, if the output slice is not shorter (8).
+-- "The output slice is shorter than the answer" (8): room is the slice's length.
 abbrev pub fitting : ℕ → List ℕ → Result (List ℕ)
 fitting room answer = if ltb room (length answer) then bad 8 else good answer
 
@@ -34,22 +34,25 @@ module _ (l : Limits) where
   unfoldable pub planAnswer : List ℕ → ℕ → Result (List ℕ)
   planAnswer job room = andThen (readJob l job) (λ j. fitting room (planned j))
 
-  -- The checker: the job, then the plan, then 12, 13 and 14.
+  -- The checker's answer to a plan that was read, where this number is due.
   abbrev pub verdictOf : List Line → ℕ → Verdict
   verdictOf ns n = if eqb n 0 then accepted else (if eqb n 12 then doubled (doubledTasks ns) else rejected n)
 
+  -- The checker's answer to a plan's text, read or refused.
   abbrev pub verdictFor : Job → Result Plan → Verdict
   verdictFor j (good p) = verdictOf (p .lines) (planRefusal j p)
   verdictFor j (bad n) = rejected n
 
+  -- The checker's answer to a job's text, read or refused, and a plan's.
   abbrev pub verdictOn : Result Job → List ℕ → Verdict
   verdictOn (good j) plan = verdictFor j (readPlan l j plan)
   verdictOn (bad n) plan = rejected n
 
+  -- The checker: the job, then the plan, then 12, 13 and 14.
   unfoldable pub verdict : List ℕ → List ℕ → Verdict
   verdict job plan = verdictOn (readJob l job) plan
 
-  -- The replay: the R and L lines, or the number. The job, then the plan, then the stops, then 8; 12, 13 and 14 are skipped.
+  -- The replay: the R and L lines, or the number. "The replay skips 12, 13 and 14".
   unfoldable pub replayed : List ℕ → List ℕ → List ℕ → Result (List ℕ)
   replayed job plan stops =
       andThen (readJob l job) λ j.
@@ -57,10 +60,11 @@ module _ (l : Limits) where
       andThen (readStops l j stops) λ ss.
       good (replayText l j (replay j ss (p .lines)))
 
+  -- The replay into an output slice of this length.
   unfoldable pub replayAnswer : List ℕ → List ℕ → List ℕ → ℕ → Result (List ℕ)
   replayAnswer job plan stops room = andThen (replayed job plan stops) (fitting room)
 
-  -- A program prints the answer, or `N,` and the number.
+  -- The programs "print `N,` and the number on a refusal".
   abbrev pub printed : Result (List ℕ) → List ℕ
   printed (good answer) = answer
   printed (bad n) = lineText l (bytes "N,") (n ∷ [])
@@ -77,12 +81,13 @@ unfoldable pub replayPrinted : List ℕ → List ℕ → List ℕ → List ℕ
 unfolding countFrom keep any all sameNumbers distinct sum greatest firstOf digits exactly number numbers line widthFrom width lowDigits decimal numbersText lineText lines linesToEnd runTime delay incoming outgoing edgeOrder preceded remaining circular jobHead jobHeadRule runRule delayRule edgeLine edgeRule jobLines readJob triples descends planHead planHeadRule strays planLine planLineRule planLines readPlan stopLine stopRule readStops least largest ofTask ready arrival dataReady start stopTime finish walk exits end copies replay firstFinish lowest firstBox roundEnd resultLines replayText replayed
 replayPrinted job plan stops = printed document01 (replayed document01 job plan stops)
 
--- The checker's number, 0 for OK, and with 12 the tasks of which it is true, in plan order.
+-- A verdict as a number and tasks.
 abbrev pub numbered : Verdict → ℕ × List ℕ
 numbered accepted = (0, [])
 numbered (doubled ts) = (12, ts)
 numbered (rejected n) = (n, [])
 
+-- The checker's number for a job's and a plan's bytes, 0 for OK, and with 12 the tasks of which it is true, in plan order.
 unfoldable pub checkNumber : List ℕ → List ℕ → ℕ × List ℕ
 unfolding countFrom keep any all sameNumbers distinct sum greatest firstOf digits exactly number numbers line widthFrom width lowDigits decimal numbersText lineText lines linesToEnd runTime delay incoming outgoing edgeOrder preceded remaining circular jobHead jobHeadRule runRule delayRule edgeLine edgeRule jobLines readJob triples descends planHead planHeadRule strays planLine planLineRule planLines readPlan least largest ofTask ready arrival dataReady start stopTime finish walk exits end copies earlies lates bestEnd worstEnd doubledTasks replicasOf sameTimes ticksAgree endsAgree planRefusal verdict
 checkNumber job plan = numbered (verdict document01 job plan)
