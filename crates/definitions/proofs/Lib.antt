@@ -1,2 +1,5 @@
 pub mod Lists
 pub mod Facts
+pub mod Doubled
+pub mod Circle
+pub mod BottomLevels

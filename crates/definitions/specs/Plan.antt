@@ -59,6 +59,11 @@ pub record PlanHead : Type 0 where
 abbrev pub planHeadOf : List ℕ → PlanHead
 planHeadOf vs = record { tasks = nth vs 0; processors = nth vs 1; losses = nth vs 2; best = nth vs 3; worst = nth vs 4 }
 
+-- The numbers of a line's triples.
+unfoldable pub replicaNumbers : List Replica → List ℕ
+replicaNumbers [] = []
+replicaNumbers (r ∷ rs) = r .processor ∷ r .early ∷ r .late ∷ replicaNumbers rs
+
 module _ (l : Limits) where
   -- A head is known by its fixed opening bytes, here PLAN and a comma.
   unfoldable pub planHead : Reader PlanHead
@@ -116,11 +121,6 @@ module _ (l : Limits) where
   -- A plan's text, for a job.
   unfoldable pub readPlan : Job → List ℕ → Result Plan
   readPlan j s = whole l (planLines j) s
-
-  -- The numbers of a line's triples.
-  unfoldable pub replicaNumbers : List Replica → List ℕ
-  replicaNumbers [] = []
-  replicaNumbers (r ∷ rs) = r .processor ∷ r .early ∷ r .late ∷ replicaNumbers rs
 
   -- The T lines as they are printed.
   unfoldable pub planLinesText : List Line → List ℕ

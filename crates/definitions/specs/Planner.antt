@@ -29,6 +29,17 @@ unfoldable pub waitingFrom : ℕ → List ℕ → List Waiting
 waitingFrom k [] = []
 waitingFrom k (x ∷ xs) = record { task = k; bottom = x } ∷ waitingFrom (suc k) xs
 
+-- Box q goes before box p: it finishes sooner, or as soon and is the lower box.
+abbrev pub goesBefore : List ℕ → ℕ → ℕ → Bool
+goesBefore finishes p q =
+    ltb (nth finishes q) (nth finishes p) || eqb (nth finishes q) (nth finishes p) && ltb q p
+
+-- A line's triples from the early and the late outcomes of its copies.
+unfoldable pub replicas : List Outcome → List Outcome → List Replica
+replicas [] ls = []
+replicas (e ∷ es) [] = []
+replicas (e ∷ es) (x ∷ ls) = record { processor = e .processor; early = tickOf (e .time); late = tickOf (x .time) } ∷ replicas es ls
+
 module _ (j : Job) where
   -- "Priorities are scaled by D = m(m − 1), or 1 where m = 1".
   abbrev pub scale : ℕ
@@ -63,7 +74,7 @@ module _ (j : Job) where
       let further = settled n next in
       if sameNumbers next known then known else further
 
-  -- The bottom levels, by task. proofs/Circle.antt proves the sentence above of them.
+  -- The bottom levels, by task. proofs/BottomLevels.antt proves the sentence above of them.
   unfoldable pub bottomLevels : List ℕ
   bottomLevels = settled (j .tasks) []
 
@@ -96,22 +107,11 @@ module _ (j : Job) where
   unfoldable pub trial : List Outcome → ℕ → List ℕ
   trial placed t = map (λ c. tickOf (finish j least [] placed c)) (copiesOf j t (below (j .processors)))
 
-  -- Box q goes before box p: it finishes sooner, or as soon and is the lower box.
-  abbrev pub goesBefore : List ℕ → ℕ → ℕ → Bool
-  goesBefore finishes p q =
-      ltb (nth finishes q) (nth finishes p) || eqb (nth finishes q) (nth finishes p) && ltb q p
-
   -- "It goes on the ε + 1 boxes of least early finish; ties go to the lowest box": those before which fewer than k boxes go.
   unfoldable pub chosen : ℕ → List ℕ → List ℕ
   chosen k finishes =
       let boxes = below (j .processors) in
       keep (λ p. ltb (length (keep (goesBefore finishes p) boxes)) k) boxes
-
-  -- A line's triples from the early and the late outcomes of its copies.
-  unfoldable pub replicas : List Outcome → List Outcome → List Replica
-  replicas [] ls = []
-  replicas (e ∷ es) [] = []
-  replicas (e ∷ es) (x ∷ ls) = record { processor = e .processor; early = tickOf (e .time); late = tickOf (x .time) } ∷ replicas es ls
 
   -- n tasks more, of those that wait, after what is placed, with its early and its late ticks; losses is ε.
   unfoldable pub place : ℕ → ℕ → List Waiting → List Outcome → List Outcome → List Line

@@ -64,6 +64,16 @@ exactly (o ∷ os) (b ∷ s) = let others = exactly os s in if eqb b o then othe
 abbrev pub mark : ℕ → ℕ
 mark k = if eqb k 0 then 10 else 44
 
+-- "Its printed width comes from the ten powers of ten": the least of d, d + 1, .. d + k whose power of ten n does not reach.
+unfoldable pub widthFrom : ℕ → ℕ → ℕ → ℕ
+widthFrom zero d n = d
+widthFrom (suc k) d n = let wider = widthFrom k (d + 1) n in if ltb n (10 ^ d) then d else wider
+
+-- The d low decimal digits of n, the highest first.
+unfoldable pub lowDigits : ℕ → ℕ → List ℕ
+lowDigits zero n = []
+lowDigits (suc d) n = lowDigits d (n / 10) ++ (48 + n % 10) ∷ []
+
 module _ (l : Limits) where
   -- "A number has 1 to 10 decimal digits and no needless leading zero": after a 0 in front no digit follows (else 2).
   unfoldable pub number : Reader ℕ
@@ -85,19 +95,9 @@ module _ (l : Limits) where
     exactly opening
     numbers k
 
-  -- "Its printed width comes from the ten powers of ten": the least of d, d + 1, .. d + k whose power of ten n does not reach.
-  unfoldable pub widthFrom : ℕ → ℕ → ℕ → ℕ
-  widthFrom zero d n = d
-  widthFrom (suc k) d n = let wider = widthFrom k (d + 1) n in if ltb n (10 ^ d) then d else wider
-
   -- A number's printed width: 1 digit or more.
   unfoldable pub width : ℕ → ℕ
   width n = widthFrom (l .powers - 1) 1 n
-
-  -- The d low decimal digits of n, the highest first.
-  unfoldable pub lowDigits : ℕ → ℕ → List ℕ
-  lowDigits zero n = []
-  lowDigits (suc d) n = lowDigits d (n / 10) ++ (48 + n % 10) ∷ []
 
   -- A number as it is printed.
   unfoldable pub decimal : ℕ → List ℕ

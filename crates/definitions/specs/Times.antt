@@ -71,6 +71,17 @@ ofTask t ds = keep (λ d. eqb (d .task) t) ds
 abbrev pub times : List Outcome → List Time
 times ds = map (λ d. d .time) ds
 
+-- When a processor stops; never, if it is not in the list.
+unfoldable pub stopTime : List Stop → ℕ → Time
+stopTime [] p = never
+stopTime (s ∷ stops) p = let others = stopTime stops p in if eqb (s .processor) p then tick (s .tick) else others
+
+-- "It is finished if its finish tick ≤ its box's stop tick".
+abbrev pub unlessStopped : Time → Time → Time
+unlessStopped never x = x
+unlessStopped (tick s) never = never
+unlessStopped (tick s) (tick x) = if leb x s then tick x else never
+
 module _ (j : Job) where
   -- "With all boxes ready at 0".
   abbrev pub firstReady : ℕ → Time
@@ -100,17 +111,6 @@ module _ (j : Job) where
   -- "A copy starts at the later of two ticks": its box is ready, and its data is there.
   unfoldable pub start : (List Time → Time) → List Outcome → ℕ → ℕ → Time
   start choose placed t p = later (ready p placed) (dataReady choose placed t p)
-
-  -- When a processor stops; never, if it is not in the list.
-  unfoldable pub stopTime : List Stop → ℕ → Time
-  stopTime [] p = never
-  stopTime (s ∷ stops) p = let others = stopTime stops p in if eqb (s .processor) p then tick (s .tick) else others
-
-  -- "It is finished if its finish tick ≤ its box's stop tick".
-  abbrev pub unlessStopped : Time → Time → Time
-  unlessStopped never x = x
-  unlessStopped (tick s) never = never
-  unlessStopped (tick s) (tick x) = if leb x s then tick x else never
 
   -- "Early finish of t on p = run time + the greater of" the two; late and in the replay the same.
   unfoldable pub finish : (List Time → Time) → List Stop → List Outcome → Copy → Time
