@@ -3,3 +3,7 @@ pub mod Facts
 pub mod Doubled
 pub mod Circle
 pub mod BottomLevels
+pub mod Reading
+pub mod Guarantee
+pub mod Decimal
+pub mod RoundTrip

@@ -1,0 +1,433 @@
+-- An accepted plan keeps its promise under every stop list of at most ε lines.
+use mathlib.Core.Path.{_≡_, refl, ap, sym, _∙_}
+use mathlib.Core.Logic.{_⊎_, inl, inr, ⊎-elim}
+use mathlib.Core.List.{List, [], _∷_, _++_, map, reverseAux}
+use mathlib.Core.Bool.{Bool, true, false, not, _||_, true≢false}
+use Prim.Native.Nat.{ℕ, _+_, _<_, _≤_}
+use native.Mathlib.Omega.{arith}
+use lib.Dec.{leb, eqb}
+use lib.ListN.{length, length-map}
+use borrow.Author.Tests.{eqb-true, eq-eqb, not-false}
+use Rattle.definitions.specs.Lists.{if_then_else_, In, keep, any, has, distinct, below, empty}
+use Rattle.definitions.specs.Limits.{Limits}
+use Rattle.definitions.specs.Job.{Edge, Job, runTime, incoming, outgoing}
+use Rattle.definitions.specs.Plan.{Replica, Line, Plan, processorsOf}
+use Rattle.definitions.specs.Stops.{Stop}
+use Rattle.definitions.specs.Times.{Time, tick, never, later, sooner, after, same, least, largest, Copy, Outcome, outcome, ofTask, times, ready, message, feeding, arrival, dataReady, start, stopTime, unlessStopped, finish, walk, copiesOf, copies, earlies, lates, exits, end, bestEnd, worstEnd}
+use Rattle.definitions.specs.Refusals.{doubledTasks, ticksAgree, endsAgree, planRefusal}
+use Rattle.definitions.specs.Replay.{replay, firstFinish, roundEnd}
+use Rattle.definitions.proofs.Lists.{both, passed, append-left, append-right, in-map, map-in, in-any, in-keep, keep-in, has-not, in-below, spare, full}
+use Rattle.definitions.proofs.Facts.{Ordered, PlanFacts}
+
+-- Between early and late --------------------------------------------------------------------------------------
+
+-- A finish under stops is between the early and the late one, or never; if it is sure, it is not never.
+pub data Between : (sure : Bool) → Time → Time → Time → Type 0 where
+  undone : {e : Time} {l : ℕ} → Between false e (tick l) never
+  within : {sure : Bool} {e l f : ℕ} → (e ≤ f) × (f ≤ l) → Between sure (tick e) (tick l) (tick f)
+
+done : {s : Bool} {e l f : ℕ} → (e ≤ f) × (f ≤ l) → Between s (tick e) (tick l) (tick f)
+done = within
+
+later-b : {s : Bool} {e l f e′ l′ f′ : Time} → Between s e l f → Between s e′ l′ f′ → Between s (later e e′) (later l l′) (later f f′)
+later-b undone undone = undone
+later-b undone (within b) = undone
+later-b (within a) undone = undone
+later-b (within a) (within b) = done (omega arith)
+
+sooner-b : {s s′ : Bool} {e l f e′ l′ f′ : Time} → Between s e l f → Between s′ e′ l′ f′ → Between (s || s′) (sooner e e′) (later l l′) (sooner f f′)
+sooner-b undone undone = undone
+sooner-b (undone {e = never}) (within b) = done (omega arith)
+sooner-b (undone {e = tick x}) (within b) = done (omega arith)
+sooner-b (within a) (undone {e = never}) = done (omega arith)
+sooner-b (within a) (undone {e = tick x}) = done (omega arith)
+sooner-b (within a) (within b) = done (omega arith)
+
+after-b : {s : Bool} (n : ℕ) {e l f : Time} → Between s e l f → Between s (after n e) (after n l) (after n f)
+after-b n undone = undone
+after-b n (within a) = done (omega arith)
+
+-- What is less sure.
+sure-b : {s : Bool} (s′ : Bool) {e l f : Time} → (s′ ≡ true → s ≡ true) → Between s e l f → Between s′ e l f
+sure-b true h undone = absurd (true≢false (sym (h refl)))
+sure-b false h undone = undone
+sure-b s′ h (within a) = within a
+
+abbrev pub isNever : Time → Bool
+isNever never = true
+isNever (tick x) = false
+
+stopped-b : (j : Job) (s : Time) {e l f : Time} → Between (isNever s) e l f → Between (isNever s) e l (unlessStopped s f)
+stopped-b j never b = b
+stopped-b j (tick s) undone = undone
+stopped-b j (tick s) (within {e = e} {l = l} {f = f} a) = by (leb f s)
+  where
+    by : (t : Bool) → Between false (tick e) (tick l) (if t then tick f else never)
+    by true = within a
+    by false = undone
+
+-- The largest over any list.
+largest-b : {A : Type 0} (s : Bool) (x y z : A → Time) (g : List A) → ((a : A) → In a g → Between s (x a) (y a) (z a))
+    → Between s (largest (map x g)) (largest (map y g)) (largest (map z g))
+unfolding largest
+largest-b s x y z [] h = done (omega arith)
+largest-b s x y z (a ∷ g) h = later-b (h a (inl refl)) (largest-b s x y z g (λ b i. h b (inr i)))
+
+-- What keeps times between, on each processor.
+abbrev Steady : (ℕ → Time → Time) → Type 0
+Steady w = (q : ℕ) (s : Bool) (e l f : Time) → Between s e l f → Between s (w q e) (w q l) (w q f)
+
+module _ (j : Job) (stops : List Stop) where
+  -- Processor p does not stop.
+  abbrev pub free : ℕ → Bool
+  free p = isNever (stopTime stops p)
+
+  -- Outcomes of the same copies by the early, the late and the replay's equations, side by side.
+  pub data Beside : List Copy → List Outcome → List Outcome → List Outcome → Type 0 where
+    none : Beside [] [] [] []
+    next : {c : Copy} {e l f : Time} {cs : List Copy} {es ls fs : List Outcome} → Between (free (c .processor)) e l f → Beside cs es ls fs
+        → Beside (c ∷ cs) (outcome c e ∷ es) (outcome c l ∷ ls) (outcome c f ∷ fs)
+
+  -- Of those whose task and processor pass a test; of the copies of task t.
+  keep-b : (f : ℕ → ℕ → Bool) {cs : List Copy} {es ls fs : List Outcome} → Beside cs es ls fs
+      → Beside (keep (λ c. f (c .task) (c .processor)) cs) (keep (λ d. f (d .task) (d .processor)) es)
+      (keep (λ d. f (d .task) (d .processor)) ls)
+      (keep (λ d. f (d .task) (d .processor)) fs)
+  unfolding keep
+  keep-b f none = none
+  keep-b f (next {c = c} {e = x} {l = y} {f = z} b r) = by (f (c .task) (c .processor)) (keep-b f r)
+    where
+      by : (a : Bool) {cs : List Copy} {es ls fs : List Outcome} → Beside cs es ls fs
+          → Beside (if a then c ∷ cs else cs) (if a then outcome c x ∷ es else es) (if a then outcome c y ∷ ls else ls) (if a then outcome c z ∷ fs else fs)
+      by true r = next b r
+      by false r = r
+
+  task-b : (t : ℕ) {cs : List Copy} {es ls fs : List Outcome} → Beside cs es ls fs
+      → Beside (keep (λ c. eqb (c .task) t) cs) (ofTask t es) (ofTask t ls) (ofTask t fs)
+  unfolding ofTask
+  task-b t b = keep-b (λ u q. eqb u t) b
+
+  -- The least early, the largest late and the least finish, each as w makes it on its processor; sure if one of them is.
+  least-b : (w : ℕ → Time → Time) → Steady w → {cs : List Copy} {es ls fs : List Outcome} → Beside cs es ls fs
+      → Between (any (λ c. free (c .processor)) cs) (least (map (λ d. w (d .processor) (d .time)) es))
+      (largest (map (λ d. w (d .processor) (d .time)) ls))
+      (least (map (λ d. w (d .processor) (d .time)) fs))
+  unfolding any least largest
+  least-b w h none = undone
+  least-b w h (next {c = c} b r) = sooner-b (h (c .processor) _ _ _ _ b) (least-b w h r)
+
+  ready-b : (p : ℕ) {cs : List Copy} {es ls fs : List Outcome} → Beside cs es ls fs → Between (free p) (ready j p es) (ready j p ls) (ready j p fs)
+  unfolding ready
+  ready-b p none = done (omega arith)
+  ready-b p (next {c = c} {e = e} {l = l} {f = f} b r) = by (eqb (c .processor) p) refl (ready-b p r)
+    where
+      by : (a : Bool) → eqb (c .processor) p ≡ a → {e′ l′ f′ : Time} → Between (free p) e′ l′ f′
+          → Between (free p) (if a then e else e′) (if a then l else l′) (if a then f else f′)
+      by true q r = let i : c .processor ≡ p = eqb-true (c .processor) p q in rw i at b
+      by false q r = r
+
+  -- Task t has a copy on a processor that does not stop.
+  abbrev pub Safe : ℕ → List Copy → Type 0
+  Safe t cs = (c : Copy) × In c cs × (c .task ≡ t) × (free (c .processor) ≡ true)
+
+  safe-free : (t : ℕ) (cs : List Copy) → Safe t cs → any (λ c. free (c .processor)) (keep (λ c. eqb (c .task) t) cs) ≡ true
+  safe-free t cs (c, i, e, f) = in-any (λ c. free (c .processor)) c _ (keep-in (λ c. eqb (c .task) t) c cs i (eq-eqb (c .task) t e)) f
+
+  -- The copies of a safe task that feed p; if p does not stop, one of them is on a processor that does not.
+  feeding-b : (t p : ℕ) {cs : List Copy} {es ls fs : List Outcome} → Beside cs es ls fs → Safe t cs
+      → (ds : List Copy) × Beside ds (feeding j t p es) (feeding j t p ls) (feeding j t p fs)
+      × (free p ≡ true → any (λ c. free (c .processor)) ds ≡ true)
+  feeding-b t p {cs = cs} b s = (keep (λ c. eqb (c .task) t) cs, task-b t b, λ h. safe-free t cs s)
+
+  arrival-b : (p : ℕ) (e : Edge) {cs : List Copy} {es ls fs : List Outcome} → Beside cs es ls fs → Safe (e .from) cs
+      → Between (free p) (arrival j least es p e) (arrival j largest ls p e) (arrival j least fs p e)
+  unfolding arrival
+  arrival-b p e b s =
+      let (ds, r, h) = feeding-b (e .from) p b s in
+      sure-b (free p) h (least-b (λ q. after (message j e q p)) (λ q s x y z. after-b (message j e q p)) r)
+
+  -- Every predecessor of t is safe.
+  abbrev pub Fed : ℕ → List Copy → Type 0
+  Fed t cs = (e : Edge) → In e (incoming j t) → Safe (e .from) cs
+
+  finish-b : (c : Copy) {cs : List Copy} {es ls fs : List Outcome} → Beside cs es ls fs → Fed (c .task) cs
+      → Between (free (c .processor)) (finish j least [] es c) (finish j largest [] ls c) (finish j least stops fs c)
+  unfolding finish start dataReady stopTime
+  finish-b c {es = es} {ls = ls} {fs = fs} b h =
+      let p = c .processor in
+      stopped-b j (stopTime stops p) (after-b (c .run) (later-b (ready-b p b)
+      (largest-b (free p) (arrival j least es p) (arrival j largest ls p) (arrival j least fs p) (incoming j (c .task)) (λ e i. arrival-b p e b (h e i)))))
+
+  -- Each of the copies is fed by those before it, after those that are placed.
+  abbrev pub Supplied : List Copy → List Copy → Type 0
+  Supplied placed [] = Unit {0}
+  Supplied placed (c ∷ cs) = Fed (c .task) placed × Supplied (c ∷ placed) cs
+
+  pub walk-b : (cs : List Copy) {placed : List Copy} {es ls fs : List Outcome} → Supplied placed cs → Beside placed es ls fs
+      → Beside cs (walk j least [] es cs) (walk j largest [] ls cs) (walk j least stops fs cs)
+  unfolding walk
+  walk-b [] s b = none
+  walk-b (c ∷ cs) (s, ss) b = let x = finish-b c b s in next x (walk-b cs ss (next x b))
+
+  first-b : (t : ℕ) {cs : List Copy} {es ls fs : List Outcome} → Beside cs es ls fs → Safe t cs
+      → Between true (least (times (ofTask t es))) (largest (times (ofTask t ls))) (least (times (ofTask t fs)))
+  first-b t {cs = cs} b s = sure-b true (λ _. safe-free t cs s) (least-b (λ q x. x) (λ q s x y z r. r) (task-b t b))
+
+  -- Every task is safe: the ends of the round.
+  end-b : {cs : List Copy} {es ls fs : List Outcome} → Beside cs es ls fs → ((t : ℕ) → t < j .tasks → Safe t cs)
+      → Between true (end j least es) (end j largest ls) (end j least fs)
+  unfolding end exits
+  end-b {es = es} {ls = ls} {fs = fs} b h =
+      largest-b true (λ t. least (times (ofTask t es))) (λ t. largest (times (ofTask t ls))) (λ t. least (times (ofTask t fs)))
+      (exits j) (λ t i. first-b t b (h t (in-below (j .tasks) t (in-keep (λ t. empty (outgoing j t)) t (below (j .tasks)) i .0))))
+
+  -- Every task has a copy on a processor that does not stop -----------------------------------------------------
+
+  -- Each line has a processor that does not stop.
+  abbrev pub Spared : List Line → Type 0
+  Spared ns = (n : Line) → In n ns → (p : ℕ) × In p (processorsOf n) × (free p ≡ true)
+
+  safe-more : (t : ℕ) (cs ds : List Copy) → ((c : Copy) → In c cs → In c ds) → Safe t cs → Safe t ds
+  safe-more t cs ds h (c, i, e, f) = (c, h c i, e, f)
+
+  safe-line : (t p : ℕ) (ps : List ℕ) → In p ps → free p ≡ true → Safe t (copiesOf j t ps)
+  safe-line t p ps i f = (record { task = t; processor = p; run = runTime j t p }, map-in _ p ps i, refl, f)
+
+  -- The copies of one line; then those of the lines after it, with the line's copies among what is placed.
+  supply-line : (t : ℕ) (ps : List ℕ) (placed rest : List Copy) → Fed t placed
+      → ((qs : List Copy) → ((c : Copy) → In c placed → In c qs) → ((c : Copy) → In c (copiesOf j t ps) → In c qs) → Supplied qs rest)
+      → Supplied placed (copiesOf j t ps ++ rest)
+  supply-line t [] placed rest h k = k placed (λ c i. i) (λ c i. absurd i)
+  supply-line t (p ∷ ps) placed rest h k =
+      let c : Copy = record { task = t; processor = p; run = runTime j t p } in (
+        h,
+        supply-line t ps (c ∷ placed) rest (λ e i. safe-more (e .from) placed (c ∷ placed) (λ x. inr) (h e i))
+            (λ qs old new. k qs (λ x i. old x (inr i)) (λ x. ⊎-elim (λ q. old x (inl q)) (new x))),
+      )
+
+  -- Lines in order, each with a processor that does not stop, supply their copies.
+  pub supply : (ns : List Line) (seen : List ℕ) (placed : List Copy) → Ordered j seen ns → Spared ns
+      → ((u : ℕ) → In u seen → Safe u placed) → Supplied placed (copies j ns)
+  unfolding copies
+  supply [] seen placed o s k = tt
+  supply (n ∷ ns) seen placed (o, os) s k =
+      let (p, i, f) = s n (inl refl) in
+      supply-line (n .task) (processorsOf n) placed (copies j ns) (λ e i. k (e .from) (o .fed e i))
+      (λ qs old new. supply ns (n .task ∷ seen) qs os (λ m i. s m (inr i))
+      (λ u. ⊎-elim
+      (λ e. safe-more u (copiesOf j u (processorsOf n)) qs (rw e at new) (safe-line u p (processorsOf n) i f))
+      (λ i. safe-more u placed qs old (k u i))))
+
+  safe-lines : (ns : List Line) → Spared ns → (t : ℕ) → In t (map (λ n. n .task) ns) → Safe t (copies j ns)
+  unfolding copies
+  safe-lines (n ∷ ns) s t (inl e) =
+      let (p, i, f) = s n (inl refl) in
+      let ps = processorsOf n in
+      let cs = copiesOf j (n .task) ps in
+      rw (← e) (safe-more (n .task) cs (cs ++ copies j ns) (λ c. append-left c cs (copies j ns)) (safe-line (n .task) p ps i f))
+  safe-lines (n ∷ ns) s t (inr i) =
+      let cs = copiesOf j (n .task) (processorsOf n) in
+      safe-more t (copies j ns) (cs ++ copies j ns) (λ c. append-right c cs (copies j ns)) (safe-lines ns (λ m i. s m (inr i)) t i)
+
+-- A processor without a stop in the list does not stop.
+pub not-stopped : (j : Job) (p : ℕ) (stops : List Stop) → has p (map (λ s. s .processor) stops) ≡ false → free j stops p ≡ true
+unfolding any stopTime
+not-stopped j p [] h = refl
+not-stopped j p (s ∷ stops) h = by (eqb (s .processor) p) h (not-stopped j p stops)
+  where
+    by : (b : Bool) → (b || has p (map (λ s. s .processor) stops)) ≡ false → (has p (map (λ s. s .processor) stops) ≡ false → free j stops p ≡ true)
+        → isNever (if b then tick (s .tick) else stopTime stops p) ≡ true
+    by true h r = sym h
+    by false h r = r h
+
+-- Lines in order, as many as there are tasks, have every task.
+pub every-task : (j : Job) (ns : List Line) (seen : List ℕ) → Ordered j seen ns → distinct seen ≡ true → ((u : ℕ) → In u seen → u < j .tasks)
+    → length seen + length ns ≡ j .tasks → (t : ℕ) → t < j .tasks → In t seen ⊎ In t (map (λ n. n .task) ns)
+unfolding distinct
+every-task j [] seen o d b l t h = inl (full (j .tasks) seen d b (omega arith) t h)
+every-task j (n ∷ ns) seen (o, os) d b l t h =
+    let new : has (n .task) seen ≡ false = has-not (n .task) seen (o .new) in
+    let r = every-task j ns (n .task ∷ seen) os (rw new d) (λ u. ⊎-elim (λ e. rw (← e) (o .task-below)) (b u)) (omega arith) t h in
+    ⊎-elim (⊎-elim (λ e. inr (inl e)) inl) (λ i. inr (inr i)) r
+
+-- What an accepted plan is ------------------------------------------------------------------------------------
+
+none-kept : {A B : Type 0} (f : A → B) (g : A → Bool) (xs : List A) → empty (map f (keep g xs)) ≡ true → (x : A) → In x xs → g x ≡ false
+none-kept f g xs h x i = by (g x) refl
+  where
+    member : {C : Type 0} (c : C) (cs : List C) → In c cs → empty cs ≡ true → ⊥
+    member c (d ∷ ds) i e = true≢false (sym e)
+
+    by : (b : Bool) → g x ≡ b → g x ≡ false
+    by true e = absurd (member (f x) (map f (keep g xs)) (map-in f x (keep g xs) (keep-in g x xs i e)) h)
+    by false e = e
+
+same-time : (x y : Time) → same x y ≡ true → x ≡ y
+same-time (tick x) (tick y) h = ap tick (eqb-true x y h)
+same-time (tick x) never h = absurd (true≢false (sym h))
+same-time never (tick y) h = absurd (true≢false (sym h))
+same-time never never h = refl
+
+-- A plan with no number due: no line has a processor twice, its ticks are the equations', and so are M* and M.
+pub record AcceptedFacts (j : Job) (p : Plan) : Type 0 where
+  pub apart : (n : Line) → In n (p .lines) → distinct (processorsOf n) ≡ true
+  pub ticks : ticksAgree j (p .lines) ≡ true
+  pub best-end : bestEnd j (p .lines) ≡ tick (p .best)
+  pub worst-end : worstEnd j (p .lines) ≡ tick (p .worst)
+
+pub accepted-facts : (j : Job) (p : Plan) → planRefusal j p ≡ 0 → AcceptedFacts j p
+unfolding planRefusal doubledTasks endsAgree
+accepted-facts j p h =
+    let (a, h1) = passed (not (empty (doubledTasks (p .lines)))) 11 _ h in
+    let (b, h2) = passed (not (ticksAgree j (p .lines))) 12 _ h1 in
+    let (c, h3) = passed (not (endsAgree j p)) 13 _ h2 in
+    let (e, f) = both (same (bestEnd j (p .lines)) (tick (p .best))) _ (not-false _ c) in
+    record {
+      apart = λ n i. not-false _ (none-kept (λ n. n .task) (λ n. not (distinct (processorsOf n))) (p .lines) (not-false _ a) n i);
+      ticks = not-false _ b;
+      best-end = same-time _ _ e;
+      worst-end = same-time _ _ f;
+    }
+
+-- The guarantee -----------------------------------------------------------------------------------------------
+
+-- Lines in order, one for each task, each with a processor that does not stop: the outcomes side by side, and every task safe.
+lines-b : (j : Job) (stops : List Stop) (ns : List Line) → Ordered j [] ns → length ns ≡ j .tasks → Spared j stops ns
+    → Beside j stops (copies j ns) (earlies j ns) (lates j ns) (replay j stops ns) × ((t : ℕ) → t < j .tasks → Safe j stops t (copies j ns))
+unfolding earlies lates replay distinct
+lines-b j stops ns o c s = (
+  walk-b j stops (copies j ns) (supply j stops ns [] [] o s (λ u i. absurd i)) none,
+  λ t h. safe-lines j stops ns s t (⊎-elim (λ i. absurd i) (λ i. i) (every-task j ns [] o refl (λ u i. absurd i) (omega (arith, c)) t h)),
+)
+
+-- Fewer stops than copies of a task: each line has a processor that does not stop.
+few-stops : (j : Job) (stops : List Stop) (ns : List Line) (seen : List ℕ) → Ordered j seen ns
+    → ((n : Line) → In n ns → distinct (processorsOf n) ≡ true) → length stops ≤ j .losses → Spared j stops ns
+few-stops j stops (m ∷ ns) seen (o, os) d few n (inl e) =
+    let w : length (map (λ s. s .processor) stops) < length (processorsOf m) =
+    omega (arith, length-map stops (λ s. s .processor), length-map (m .replicas) (λ r. r .processor), o .width) in
+    let (p, i, f) = spare (processorsOf m) (map (λ s. s .processor) stops) (d m (inl refl)) w in
+    rw (← e) (p, i, not-stopped j p stops f)
+few-stops j stops (m ∷ ns) seen (o, os) d few n (inr i) = few-stops j stops ns (m .task ∷ seen) os (λ k i. d k (inr i)) few n i
+
+value-b : {e l : ℕ} {f : Time} → Between true (tick e) (tick l) f → (x : ℕ) × (f ≡ tick x) × (e ≤ x) × (x ≤ l)
+value-b (within {f = x} (a, b)) = (x, refl, a, b)
+
+-- What is sure comes, by all three equations.
+comes-b : {e l f : Time} → Between true e l f
+    → (x : ℕ) × (y : ℕ) × (z : ℕ) × (e ≡ tick x) × (l ≡ tick y) × (f ≡ tick z) × (x ≤ z) × (z ≤ y)
+comes-b (within {e = e} {l = l} {f = f} (a, b)) = (e, l, f, refl, refl, refl, a, b)
+
+-- An accepted plan, and no more stops than the job bears: every task has a first finish, and the round ends between M* and M.
+pub kept : (l : Limits) (j : Job) (p : Plan) (stops : List Stop) → PlanFacts l j p → planRefusal j p ≡ 0 → length stops ≤ j .losses
+    → ((t : ℕ) → t < j .tasks → (x : ℕ) × (firstFinish t (replay j stops (p .lines)) ≡ tick x))
+    × ((x : ℕ) × (roundEnd j (replay j stops (p .lines)) ≡ tick x) × (p .best ≤ x) × (x ≤ p .worst))
+unfolding firstFinish roundEnd bestEnd worstEnd
+kept l j p stops g h few =
+    let a = accepted-facts j p h in
+    let (b, s) = lines-b j stops (p .lines) (g .ordered) (g .count) (few-stops j stops (p .lines) [] (g .ordered) (a .apart) few) in
+    (λ t i. let r = comes-b (first-b j stops t b (s t i)) in (r .2, r .5), value-b (rw (a .best-end, a .worst-end) at (end-b j stops b s)))
+
+-- With no stop it ends at M*.
+pub quiet : (l : Limits) (j : Job) (p : Plan) → planRefusal j p ≡ 0 → roundEnd j (replay j [] (p .lines)) ≡ tick (p .best)
+unfolding roundEnd replay bestEnd earlies
+quiet l j p h = accepted-facts j p h .best-end
+
+-- Without stops -----------------------------------------------------------------------------------------------
+
+-- Each of the outcomes is a tick.
+abbrev pub Come : List Outcome → Type 0
+Come ds = (d : Outcome) → In d ds → (x : ℕ) × (d .time ≡ tick x)
+
+-- A copy that is placed.
+abbrev copyOf : Outcome → Copy
+copyOf d = record { task = d .task; processor = d .processor; run = 0 }
+
+at-tick : (t : Time) (x : ℕ) → t ≡ tick x → Between true t t t
+at-tick t x h = rw h (done (omega arith))
+
+come-b : (j : Job) (ds : List Outcome) → Come ds → Beside j [] (map copyOf ds) ds ds ds
+unfolding stopTime
+come-b j [] h = none
+come-b j (d ∷ ds) h =
+    let (x, e) = h d (inl refl) in
+    next {c = copyOf d} {e = d .time} {l = d .time} {f = d .time} (at-tick (d .time) x e) (come-b j ds (λ d i. h d (inr i)))
+
+early-come : {j : Job} {cs : List Copy} {es ls fs : List Outcome} → Beside j [] cs es ls fs → Come es
+unfolding stopTime
+early-come none d i = absurd i
+early-come (next b r) d (inl q) = let r = comes-b b in (r .0, ap (λ d. d .time) (sym q) ∙ r .3)
+early-come (next b r) d (inr i) = early-come r d i
+
+late-come : {j : Job} {cs : List Copy} {es ls fs : List Outcome} → Beside j [] cs es ls fs → Come ls
+unfolding stopTime
+late-come none d i = absurd i
+late-come (next b r) d (inl q) = let r = comes-b b in (r .1, ap (λ d. d .time) (sym q) ∙ r .4)
+late-come (next b r) d (inr i) = late-come r d i
+
+-- Every predecessor of t is placed.
+abbrev pub Preceded : Job → ℕ → List Outcome → Type 0
+Preceded j t placed = (e : Edge) → In e (incoming j t) → In (e .from) (map (λ d. d .task) placed)
+
+placed-fed : (j : Job) (t : ℕ) (placed : List Outcome) → Preceded j t placed → Fed j [] t (map copyOf placed)
+unfolding stopTime
+placed-fed j t placed h e i =
+    let (d, k, q) = in-map (λ d. d .task) (e .from) placed (h e i) in
+    (copyOf d, map-in copyOf d placed k, q, refl)
+
+-- A copy finishes at a tick, early and late.
+pub finish-come : (j : Job) (placed : List Outcome) (c : Copy) → Come placed → Preceded j (c .task) placed
+    → ((x : ℕ) × (finish j least [] placed c ≡ tick x)) × ((x : ℕ) × (finish j largest [] placed c ≡ tick x))
+unfolding stopTime
+finish-come j placed c h k =
+    let r = comes-b (finish-b j [] c (come-b j placed h) (placed-fed j (c .task) placed k)) in
+    ((r .0, r .3), (r .1, r .4))
+
+supply-all : (j : Job) (stops : List Stop) (placed cs : List Copy) → ((c : Copy) → In c cs → Fed j stops (c .task) placed) → Supplied j stops placed cs
+supply-all j stops placed [] h = tt
+supply-all j stops placed (c ∷ cs) h =
+    (h c (inl refl), supply-all j stops (c ∷ placed) cs (λ d i e k. safe-more j stops (e .from) placed (c ∷ placed) (λ x. inr) (h d (inr i) e k)))
+
+-- Copies whose predecessors are all placed finish at ticks, early and late.
+pub walk-come : (j : Job) (placed : List Outcome) (cs : List Copy) → Come placed → ((c : Copy) → In c cs → Preceded j (c .task) placed)
+    → Come (walk j least [] placed cs) × Come (walk j largest [] placed cs)
+walk-come j placed cs h k =
+    let b = walk-b j [] cs (supply-all j [] (map copyOf placed) cs (λ c i. placed-fed j (c .task) placed (k c i))) (come-b j placed h) in
+    (early-come b, late-come b)
+
+-- The copies of one task.
+pub line-come : (j : Job) (placed : List Outcome) (t : ℕ) (ps : List ℕ) → Come placed → Preceded j t placed
+    → Come (walk j least [] placed (copiesOf j t ps)) × Come (walk j largest [] placed (copiesOf j t ps))
+line-come j placed t ps h k =
+    walk-come j placed (copiesOf j t ps) h
+    (λ c i. let (p, q, e) = in-map (λ p. record { task = t; processor = p; run = runTime j t p }) c ps i in rw (← e) k)
+
+pub reverse-come : (ds placed : List Outcome) → Come ds → Come placed → Come (reverseAux ds placed)
+reverse-come [] placed h k = k
+reverse-come (d ∷ ds) placed h k = reverse-come ds (d ∷ placed) (λ e i. h e (inr i)) (λ e. ⊎-elim (λ q. h e (inl q)) (k e))
+
+-- A line has a copy, so it has a processor that does not stop.
+no-stops : (j : Job) (ns : List Line) (seen : List ℕ) → Ordered j seen ns → Spared j [] ns
+unfolding stopTime
+no-stops j (m ∷ ns) seen (o, os) n (inl e) = rw (← e) (by (m .replicas) (o .width))
+  where
+    by : (rs : List Replica) → length rs ≡ j .losses + 1 → (p : ℕ) × In p (map (λ r. r .processor) rs) × (true ≡ true)
+    by [] h = absurd (omega arith)
+    by (r ∷ rs) h = (r .processor, inl refl, refl)
+no-stops j (m ∷ ns) seen (o, os) n (inr i) = no-stops j ns (m .task ∷ seen) os n i
+
+-- Lines in order: every copy finishes at a tick, early and late.
+pub all-come : (j : Job) (ns : List Line) → Ordered j [] ns → Come (earlies j ns) × Come (lates j ns)
+unfolding earlies lates
+all-come j ns o =
+    let b = walk-b j [] (copies j ns) (supply j [] ns [] [] o (no-stops j ns [] o) (λ u i. absurd i)) none in
+    (early-come b, late-come b)
+
+-- Lines in order, one for each task: M* and M are ticks, and M* is not more than M.
+pub ends-come : (j : Job) (ns : List Line) → Ordered j [] ns → length ns ≡ j .tasks
+    → (x : ℕ) × (y : ℕ) × (bestEnd j ns ≡ tick x) × (worstEnd j ns ≡ tick y) × (x ≤ y)
+unfolding bestEnd worstEnd
+ends-come j ns o c =
+    let (b, s) = lines-b j [] ns o c (no-stops j ns [] o) in
+    let r = comes-b (end-b j [] b s) in
+    (r .0, r .1, r .3, r .4, omega (arith, r .6, r .7))

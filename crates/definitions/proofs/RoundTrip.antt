@@ -1,0 +1,365 @@
+-- What is printed as a plan or a stop list is read back, and how long it is.
+use mathlib.Core.Path.{_≡_, refl, ap}
+use mathlib.Core.Logic.{inl, inr, ⊎-elim}
+use mathlib.Core.List.{List, [], _∷_, _++_, append-assoc, append-nil, map, map-append, getLast?}
+use mathlib.Core.Bool.{Bool, false, not, _||_}
+use mathlib.Core.Option.{Option, none, some}
+use Prim.Native.Nat.{ℕ, zero, suc, _+_, _*_, _^_, _<_, _≤_}
+use native.Mathlib.Omega.{arith}
+use native.Mathlib.Nat.{mul-le-mul-right}
+use lib.Dec.{ltb}
+use lib.ListN.{length, length-append}
+use borrow.Author.Tests.{lt-ltb, le-ltb, lt-leb, eq-eqb}
+use Rattle.definitions.specs.Lists.{bytes, In, any, has}
+use Rattle.definitions.specs.Limits.{Limits, document01}
+use Rattle.definitions.specs.Text.{found, Reader, firstOf, width, widthFrom, numbersText, lineText, lines, linesToEnd, good, whole}
+use Rattle.definitions.specs.Job.{Job, incoming, outside}
+use Rattle.definitions.specs.Plan.{Replica, Line, Plan, triples, planHeadOf, planHead, planHeadRule, strays, planLine, planLineRule, planLines, readPlan, replicaNumbers, planLinesText, planText}
+use Rattle.definitions.specs.Stops.{Stop, notAfter, stopLine, stopRule, readStops, stopsText}
+use Rattle.definitions.proofs.Lists.{append-left, append-right, in-append, map-in, in-has, has-not, in-all}
+use Rattle.definitions.proofs.Facts.{JobFacts, LineFacts, Ordered, PlanFacts, Ascending}
+use Rattle.definitions.proofs.Decimal.{line-back, width-powers, width-monotone, length-none, length-numbers, length-line}
+
+-- Every number of a text that is in range has no more digits than there are powers.
+pub record Sized (l : Limits) : Type 0 where
+  pub powers-least : 1 ≤ l .powers
+  pub powers-most : l .powers ≤ l .digits
+  pub tasks-sized : l .tasks < 10 ^ l .powers
+  pub processors-sized : l .processors < 10 ^ l .powers
+  pub losses-sized : l .losses < 10 ^ l .powers
+  pub tick-sized : l .tick < 10 ^ l .powers
+
+pub sized01 : Sized document01
+sized01 = record {
+  powers-least = omega arith;
+  powers-most = omega arith;
+  tasks-sized = omega arith;
+  processors-sized = omega arith;
+  losses-sized = omega arith;
+  tick-sized = omega arith;
+}
+
+-- Tests that are false ----------------------------------------------------------------------------------------
+
+neither-false : {a b : Bool} → a ≡ false → b ≡ false → (a || b) ≡ false
+neither-false {a} {b} p q = rw (p, q)
+
+none-any : {A : Type 0} (f : A → Bool) (xs : List A) → ((x : A) → In x xs → f x ≡ false) → any f xs ≡ false
+unfolding any
+none-any f [] h = refl
+none-any f (x ∷ xs) h = neither-false (h x (inl refl)) (none-any f xs (λ y i. h y (inr i)))
+
+inside : (low high n : ℕ) → low ≤ n → n ≤ high → outside low high n ≡ false
+inside low high n h g = neither-false (le-ltb n low h) (le-ltb high n g)
+
+below-true : (n m : ℕ) → n < m → not (ltb n m) ≡ false
+below-true n m h = ap not (lt-ltb n m h)
+
+-- A line of a plan --------------------------------------------------------------------------------------------
+
+module _ (l : Limits) where
+  triples-back : (rs : List Replica) → triples (replicaNumbers rs) ≡ rs
+  unfolding triples replicaNumbers
+  triples-back [] = refl
+  triples-back (r ∷ rs) = ap (λ (qs : List Replica). r ∷ qs) (triples-back rs)
+
+  length-triples : (rs : List Replica) → length (replicaNumbers rs) ≡ 3 * length rs
+  unfolding replicaNumbers
+  length-triples [] = refl
+  length-triples (r ∷ rs) = omega (arith, length-triples rs)
+
+  in-triples : (most : ℕ) (rs : List Replica) → ((r : Replica) → In r rs → (r .processor < most) × (r .early < most) × (r .late < most)) → (v : ℕ) → In v (replicaNumbers rs) → v < most
+  unfolding replicaNumbers
+  in-triples most (r ∷ rs) h v (inl e) = rw e at (h r (inl refl) .0)
+  in-triples most (r ∷ rs) h v (inr (inl e)) = rw e at (h r (inl refl) .1)
+  in-triples most (r ∷ rs) h v (inr (inr (inl e))) = rw e at (h r (inl refl) .2)
+  in-triples most (r ∷ rs) h v (inr (inr (inr i))) = in-triples most rs (λ q k. h q (inr k)) v i
+
+-- The ticks of a line's replicas are at most `most`.
+abbrev pub Ticks : ℕ → Line → Type 0
+Ticks most n = (r : Replica) → In r (n .replicas) → (r .early ≤ most) × (r .late ≤ most)
+
+-- What is known of a replica of such a line.
+in-range : (j : Job) (most : ℕ) (seen : List ℕ) (n : Line) → LineFacts j seen n → Ticks most n → (r : Replica) → In r (n .replicas)
+    → (r .processor < j .processors) × (r .early ≤ most) × (r .late ≤ most)
+in-range j most seen n f ticks r i = (f .processors-below (r .processor) (map-in (λ r. r .processor) r (n .replicas) i), ticks r i .0, ticks r i .1)
+
+abbrev tasksOf : List Line → List ℕ
+tasksOf ns = map (λ n. n .task) ns
+
+-- Two lists have the same members.
+abbrev Same : List ℕ → List ℕ → Type 0
+Same xs ys = ((x : ℕ) → In x xs → In x ys) × ((x : ℕ) → In x ys → In x xs)
+
+-- One more line: its task stands last among the tasks in order, and first among those with the newest first.
+same-more : (seen : List ℕ) (before : List Line) (n : Line) → Same seen (tasksOf before) → Same (n .task ∷ seen) (tasksOf (before ++ n ∷ []))
+same-more seen before n (to, from) =
+    rw (map-append (λ n. n .task) before (n ∷ [])) (
+      (λ t. ⊎-elim (λ e. append-right t (tasksOf before) (n .task ∷ []) (inl e)) (λ i. append-left t (tasksOf before) (n .task ∷ []) (to t i))),
+      (λ t i. ⊎-elim (λ k. inr (from t k)) (⊎-elim inl absurd) (in-append t (tasksOf before) (n .task ∷ []) i)),
+    )
+
+-- The numbers of a plan's first line.
+abbrev headNumbers : Job → Plan → List ℕ
+headNumbers j p = j .tasks ∷ j .processors ∷ j .losses ∷ p .best ∷ p .worst ∷ []
+
+module _ (l : Limits) (sized : Sized l) (j : Job) (facts : JobFacts l j) where
+  line-numbers : (seen : List ℕ) (n : Line) → LineFacts j seen n → Ticks (l .tick) n → (v : ℕ) → In v (n .task ∷ replicaNumbers (n .replicas)) → v < 10 ^ l .powers
+  line-numbers seen n f ticks v (inl e) = omega (arith, f .task-below)
+  line-numbers seen n f ticks v (inr i) =
+      in-triples l (10 ^ l .powers) (n .replicas) (λ r k. let q = in-range j (l .tick) seen n f ticks r k in omega arith) v i
+
+  plan-line-back : (seen : List ℕ) (n : Line) (s : List ℕ) → LineFacts j seen n → Ticks (l .tick) n
+      → planLine l j (lineText l (bytes "T,") (n .task ∷ replicaNumbers (n .replicas)) ++ s) ≡ found n s
+  unfolding planLine
+  plan-line-back seen n s f ticks =
+      let vs : List ℕ = n .task ∷ replicaNumbers (n .replicas) in
+      let k : 1 + 3 * (1 + j .losses) ≡ length vs = omega (arith, length-triples l (n .replicas), f .width) in
+      let r = line-back l (sized .powers-least) (sized .powers-most) (bytes "T,") vs s (line-numbers seen n f ticks) in
+      rw (k, r, triples-back l (n .replicas))
+
+  no-stray : (seen : List ℕ) (n : Line) → LineFacts j seen n → Ticks (l .tick) n → strays l j n ≡ false
+  unfolding strays
+  no-stray seen n f ticks = neither-false (below-true (n .task) (j .tasks) (f .task-below)) (none-any _ (n .replicas) inRange)
+    where
+      inRange : (r : Replica) → In r (n .replicas)
+          → (not (ltb (r .processor) (j .processors)) || outside 0 (l .tick) (r .early) || outside 0 (l .tick) (r .late)) ≡ false
+      inRange r i =
+          let (p, e, x) = in-range j (l .tick) seen n f ticks r i in
+          neither-false (neither-false (below-true (r .processor) (j .processors) p) (inside 0 (l .tick) (r .early) (omega arith) e)) (inside 0 (l .tick) (r .late) (omega arith) x)
+
+  plan-line-rule : (seen : List ℕ) (before : List Line) (n : Line) → LineFacts j seen n → Ticks (l .tick) n
+      → Same seen (tasksOf before) → planLineRule l j before n ≡ 0
+  unfolding planLineRule firstOf
+  plan-line-rule seen before n f ticks (to, from) =
+      let new : has (n .task) (tasksOf before) ≡ false = has-not (n .task) (tasksOf before) (λ i. f .new (from (n .task) i)) in
+      let fed = in-all (λ e. has (e .from) (tasksOf before)) (incoming j (n .task)) (λ e i. in-has (e .from) (tasksOf before) (to (e .from) (f .fed e i))) in
+      rw (no-stray seen n f ticks, f .ascends, new, fed)
+
+  plan-lines-back : (seen : List ℕ) (before ns : List Line) → Ordered j seen ns → ((n : Line) → In n ns → Ticks (l .tick) n) → Same seen (tasksOf before)
+      → lines (planLine l j) (planLineRule l j) (length ns) before (planLinesText l ns) ≡ found (before ++ ns) []
+  unfolding lines planLinesText
+  plan-lines-back seen before [] o ticks same = rw (append-nil before)
+  plan-lines-back seen before (n ∷ ns) (f, fs) ticks same =
+      let e : before ++ n ∷ [] ++ ns ≡ before ++ n ∷ ns = append-assoc before (n ∷ []) ns in
+      let r = plan-lines-back (n .task ∷ seen) (before ++ n ∷ []) ns fs (λ m i. ticks m (inr i)) (same-more seen before n same) in
+      rw (plan-line-back seen n (planLinesText l ns) f (ticks n (inl refl)), plan-line-rule seen before n f (ticks n (inl refl)) same, r, e)
+
+  -- A plan ---------------------------------------------------------------------------------------------------
+
+  head-numbers : (p : Plan) → PlanFacts l j p → (v : ℕ) → In v (headNumbers j p) → v < 10 ^ l .powers
+  head-numbers p f v (inl e) = omega arith
+  head-numbers p f v (inr (inl e)) = omega arith
+  head-numbers p f v (inr (inr (inl e))) = omega arith
+  head-numbers p f v (inr (inr (inr (inl e)))) = omega arith
+  head-numbers p f v (inr (inr (inr (inr (inl e))))) = omega arith
+
+  plan-head-back : (p : Plan) (s : List ℕ) → PlanFacts l j p → planHead l (lineText l (bytes "PLAN,") (headNumbers j p) ++ s) ≡ found (planHeadOf (headNumbers j p)) s
+  unfolding planHead
+  plan-head-back p s f = rw (line-back l (sized .powers-least) (sized .powers-most) (bytes "PLAN,") (headNumbers j p) s (head-numbers p f))
+
+  plan-head-rule : (p : Plan) → PlanFacts l j p → planHeadRule l j (planHeadOf (headNumbers j p)) ≡ 0
+  unfolding planHeadRule firstOf
+  plan-head-rule p f =
+      rw (
+        inside 1 (l .tasks) (j .tasks) (facts .some-task) (facts .tasks-most),
+        inside 1 (l .processors) (j .processors) (facts .some-processor) (facts .processors-most),
+        inside 0 (l .losses) (j .losses) (omega arith) (facts .losses-most),
+        inside 0 (l .tick) (p .best) (omega arith) (f .best-most),
+        inside 0 (l .tick) (p .worst) (omega arith) (f .worst-most),
+        eq-eqb (j .tasks) (j .tasks) refl,
+        eq-eqb (j .processors) (j .processors) refl,
+        eq-eqb (j .losses) (j .losses) refl,
+      )
+
+  plan-read : (p : Plan) → PlanFacts l j p → planLines l j (planText l j p) ≡ found p []
+  unfolding planLines planText
+  plan-read p f =
+      let r = plan-lines-back [] [] (p .lines) (f .ordered) (λ n i r k. (f .early-most n i r k, f .late-most n i r k)) ((λ t i. i), (λ t i. i)) in
+      rw (plan-head-back p (planLinesText l (p .lines)) f, plan-head-rule p f, rw (f .count) at r)
+
+fits : {A : Type 0} (l : Limits) (r : Reader A) (s : List ℕ) (a : A) → length s ≤ l .textLength → r s ≡ found a [] → whole l r s ≡ good a
+fits l r s a h e = rw (le-ltb (l .textLength) (length s) h, e)
+
+-- A printed plan is read back.
+pub plan-back : (l : Limits) → Sized l → (j : Job) (p : Plan) → JobFacts l j → PlanFacts l j p → length (planText l j p) ≤ l .textLength
+    → readPlan l j (planText l j p) ≡ good p
+unfolding readPlan
+plan-back l sized j p facts f h = fits l (planLines l j) (planText l j p) p h (plan-read l sized j facts p f)
+
+-- Stops -------------------------------------------------------------------------------------------------------
+
+-- The last of the stops before, if there is one, is on a processor below low.
+abbrev Past : ℕ → Option Stop → Type 0
+Past low none = Unit {0}
+Past low (some q) = q .processor < low
+
+past-more : (low : ℕ) (q : Option Stop) (s : Stop) → Past low q → low ≤ s .processor → notAfter q s ≡ false
+past-more low none s h g = refl
+past-more low (some q) s h g = lt-leb (s .processor) (q .processor) (omega arith)
+
+last-more : (ss : List Stop) (s : Stop) → getLast? (ss ++ s ∷ []) ≡ some s
+last-more [] s = refl
+last-more (q ∷ []) s = refl
+last-more (q ∷ r ∷ ss) s = last-more (r ∷ ss) s
+
+module _ (l : Limits) (sized : Sized l) (j : Job) (facts : JobFacts l j) where
+  stop-line-back : (s : Stop) (t : List ℕ) → s .processor < j .processors → s .tick ≤ l .tick
+      → stopLine l (lineText l (bytes "S,") (s .processor ∷ s .tick ∷ []) ++ t) ≡ found s t
+  unfolding stopLine
+  stop-line-back s t h g =
+      let vs : List ℕ = s .processor ∷ s .tick ∷ [] in
+      let most : (v : ℕ) → In v vs → v < 10 ^ l .powers = λ v. ⊎-elim (λ e. omega arith) (⊎-elim (λ e. omega arith) absurd) in
+      rw (line-back l (sized .powers-least) (sized .powers-most) (bytes "S,") vs t most)
+
+  stop-rule : (low : ℕ) (before : List Stop) (s : Stop) → Past low (getLast? before) → low ≤ s .processor → s .processor < j .processors → s .tick ≤ l .tick
+      → stopRule l j before s ≡ 0
+  unfolding stopRule firstOf
+  stop-rule low before s past h g t =
+      rw (below-true (s .processor) (j .processors) g, inside 0 (l .tick) (s .tick) (omega arith) t, past-more low (getLast? before) s past h)
+
+  stop-lines-back : (k low : ℕ) (before ss : List Stop) → Ascending l j low ss → Past low (getLast? before) → length (stopsText l ss) ≤ k
+      → linesToEnd (stopLine l) (stopRule l j) k before (stopsText l ss) ≡ found (before ++ ss) []
+  unfolding linesToEnd stopsText lineText
+  stop-lines-back zero low before [] a past h = rw (append-nil before)
+  stop-lines-back (suc k) low before [] a past h = rw (append-nil before)
+  stop-lines-back zero low before (s ∷ ss) a past h = absurd (omega arith)
+  stop-lines-back (suc k) low before (s ∷ ss) (a, b, c, d) past h =
+      let e : before ++ s ∷ [] ++ ss ≡ before ++ s ∷ ss = append-assoc before (s ∷ []) ss in
+      let p : Past (1 + s .processor) (getLast? (before ++ s ∷ [])) = rw (last-more before s) (omega arith) in
+      let n = length-append (lineText l (bytes "S,") (s .processor ∷ s .tick ∷ [])) (stopsText l ss) in
+      let r = stop-lines-back k (1 + s .processor) (before ++ s ∷ []) ss d p (omega arith) in
+      rw (stop-line-back s (stopsText l ss) b c, stop-rule low before s past a b c, r, e)
+
+-- A printed stop list is read back.
+pub stops-back : (l : Limits) → Sized l → (j : Job) (ss : List Stop) → JobFacts l j → Ascending l j 0 ss → length (stopsText l ss) ≤ l .textLength
+    → readStops l j (stopsText l ss) ≡ good ss
+unfolding readStops
+stops-back l sized j ss facts a h =
+    fits l (linesToEnd (stopLine l) (stopRule l j) (length (stopsText l ss)) []) (stopsText l ss) ss h
+    (stop-lines-back l sized j facts (length (stopsText l ss)) 0 [] ss a tt (omega arith))
+
+-- Lengths -----------------------------------------------------------------------------------------------------
+
+-- The most bytes of a replica, of a T line and of a plan whose ticks are at most `most`.
+unfoldable pub replicaLength : Limits → ℕ → ℕ
+replicaLength l most = width l (l .processors) + 1 + (width l most + 1) + (width l most + 1)
+
+unfoldable pub lineLength : Limits → ℕ → ℕ
+lineLength l most = 2 + (width l (l .tasks) + 1) + (l .losses + 1) * replicaLength l most
+
+unfoldable pub headLength : Limits → ℕ → ℕ
+headLength l most = 5 + (width l (l .tasks) + 1) + (width l (l .processors) + 1) + (width l (l .losses) + 1) + (width l most + 1) + (width l most + 1)
+
+unfoldable pub planLength : Limits → ℕ → ℕ
+planLength l most = headLength l most + l .tasks * lineLength l most
+
+pub plan-length01 : planLength document01 521_277_375 ≤ document01 .textLength
+unfolding planLength headLength lineLength replicaLength width widthFrom
+plan-length01 = omega arith
+
+module _ (l : Limits) (most : ℕ) where
+  replicas-length : (rs : List Replica) → ((r : Replica) → In r rs → (r .processor ≤ l .processors) × (r .early ≤ most) × (r .late ≤ most))
+      → length (numbersText l (replicaNumbers rs)) ≤ length rs * replicaLength l most
+  unfolding replicaNumbers replicaLength
+  replicas-length [] h = omega (arith, length-none l)
+  replicas-length (r ∷ rs) h =
+      let ns : List ℕ = replicaNumbers rs in
+      let b = h r (inl refl) in
+      omega (
+        arith,
+        length-numbers l (r .processor) (r .early ∷ r .late ∷ ns),
+        width-monotone l (r .processor) (l .processors) (b .0),
+        length-numbers l (r .early) (r .late ∷ ns),
+        width-monotone l (r .early) most (b .1),
+        length-numbers l (r .late) ns,
+        width-monotone l (r .late) most (b .2),
+        replicas-length rs (λ q i. h q (inr i)),
+      )
+
+  module _ (j : Job) (facts : JobFacts l j) where
+    plan-line-length : (seen : List ℕ) (n : Line) → LineFacts j seen n → Ticks most n
+        → length (lineText l (bytes "T,") (n .task ∷ replicaNumbers (n .replicas))) ≤ lineLength l most
+    unfolding lineLength
+    plan-line-length seen n f ticks =
+        let ns : List ℕ = replicaNumbers (n .replicas) in
+        let r = replicas-length (n .replicas) (λ r i. let q = in-range j most seen n f ticks r i in omega arith) in
+        let w : length (n .replicas) ≤ l .losses + 1 = omega (arith, f .width) in
+        omega (
+          arith,
+          length-line l (bytes "T,") (n .task ∷ ns),
+          length-numbers l (n .task) ns,
+          width-monotone l (n .task) (l .tasks) (omega (arith, f .task-below)),
+          mul-le-mul-right (replicaLength l most) w,
+        )
+
+    plan-lines-length : (seen : List ℕ) (ns : List Line) → Ordered j seen ns → ((n : Line) → In n ns → Ticks most n)
+        → length (planLinesText l ns) ≤ length ns * lineLength l most
+    unfolding planLinesText
+    plan-lines-length seen [] o ticks = omega arith
+    plan-lines-length seen (n ∷ ns) (f, fs) ticks =
+        omega (
+          arith,
+          length-append (lineText l (bytes "T,") (n .task ∷ replicaNumbers (n .replicas))) (planLinesText l ns),
+          plan-line-length seen n f (ticks n (inl refl)),
+          plan-lines-length (n .task ∷ seen) ns fs (λ m i. ticks m (inr i)),
+        )
+
+    -- A printed plan is at most head + tasks × line bytes long.
+    pub plan-length : (p : Plan) → PlanFacts l j p → p .best ≤ most → p .worst ≤ most → ((n : Line) → In n (p .lines) → Ticks most n)
+        → length (planText l j p) ≤ planLength l most
+    unfolding planText planLength headLength
+    plan-length p f best worst ticks =
+        let lines = rw (f .count) at (plan-lines-length [] (p .lines) (f .ordered) ticks) in
+        omega (
+          arith,
+          length-append (lineText l (bytes "PLAN,") (headNumbers j p)) (planLinesText l (p .lines)),
+          length-line l (bytes "PLAN,") (headNumbers j p),
+          length-numbers l (j .tasks) (j .processors ∷ j .losses ∷ p .best ∷ p .worst ∷ []),
+          width-monotone l (j .tasks) (l .tasks) (facts .tasks-most),
+          length-numbers l (j .processors) (j .losses ∷ p .best ∷ p .worst ∷ []),
+          width-monotone l (j .processors) (l .processors) (facts .processors-most),
+          length-numbers l (j .losses) (p .best ∷ p .worst ∷ []),
+          width-monotone l (j .losses) (l .losses) (facts .losses-most),
+          length-numbers l (p .best) (p .worst ∷ []),
+          width-monotone l (p .best) most best,
+          length-numbers l (p .worst) [],
+          width-monotone l (p .worst) most worst,
+          length-none l,
+          mul-le-mul-right (lineLength l most) (facts .tasks-most),
+        )
+
+-- A line of a stop list has at most 2 + 2 × (powers + 1) bytes.
+pub stops-length : (l : Limits) → 1 ≤ l .powers → (ss : List Stop) → length (stopsText l ss) ≤ length ss * (2 + 2 * (l .powers + 1))
+unfolding stopsText
+stops-length l least [] = omega arith
+stops-length l least (s ∷ ss) =
+    omega (
+      arith,
+      length-append (lineText l (bytes "S,") (s .processor ∷ s .tick ∷ [])) (stopsText l ss),
+      length-line l (bytes "S,") (s .processor ∷ s .tick ∷ []),
+      length-numbers l (s .processor) (s .tick ∷ []),
+      width-powers l (s .processor) least,
+      length-numbers l (s .tick) [],
+      width-powers l (s .tick) least,
+      length-none l,
+      stops-length l least ss,
+    )
+
+stops-above : (l : Limits) (j : Job) (low : ℕ) (ss : List Stop) → low ≤ j .processors → Ascending l j low ss → length ss + low ≤ j .processors
+stops-above l j low [] h a = omega arith
+stops-above l j low (s ∷ ss) h (a, b, c, d) = omega (arith, stops-above l j (1 + s .processor) ss (omega arith) d)
+
+-- Stops that ascend are no more than the processors.
+pub stops-count : (l : Limits) (j : Job) (ss : List Stop) → Ascending l j 0 ss → length ss ≤ j .processors
+stops-count l j ss a = omega (arith, stops-above l j 0 ss (omega arith) a)
+
+-- So they fit where a line for each processor does.
+pub stops-fit : (l : Limits) → 1 ≤ l .powers → l .processors * (2 + 2 * (l .powers + 1)) ≤ l .textLength
+    → (j : Job) (ss : List Stop) → JobFacts l j → Ascending l j 0 ss → length (stopsText l ss) ≤ l .textLength
+stops-fit l least room j ss facts a =
+    let n : length ss ≤ l .processors = omega (arith, stops-count l j ss a) in
+    omega (arith, stops-length l least ss, mul-le-mul-right (2 + 2 * (l .powers + 1)) n)
+
+pub stops-room01 : document01 .processors * (2 + 2 * (document01 .powers + 1)) ≤ document01 .textLength
+stops-room01 = omega arith
