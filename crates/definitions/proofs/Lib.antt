@@ -7,3 +7,7 @@ pub mod Reading
 pub mod Guarantee
 pub mod Decimal
 pub mod RoundTrip
+pub mod Chosen
+pub mod Finishing
+pub mod Placing
+pub mod Bounds

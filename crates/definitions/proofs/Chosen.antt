@@ -1,0 +1,195 @@
+-- The boxes that the planner chooses for a task: as many as are asked for, ascending, each once.
+use mathlib.Core.Path.{_≡_, refl, ap, _∙_}
+use mathlib.Core.Logic.{_⊎_, inl, inr, ⊎-elim}
+use mathlib.Core.List.{List, [], _∷_, map}
+use mathlib.Core.Bool.{Bool, true, false, not, _&&_, _||_}
+use Prim.Native.Nat.{ℕ, zero, suc, _<_, _≤_}
+use native.Mathlib.Omega.{arith}
+use lib.Dec.{eqb, ltb}
+use lib.ListN.{length}
+use borrow.Author.Tests.{eqb-true, eqb-false, eq-eqb, not-true, ltb-true, ltb-false, lt-ltb, le-ltb}
+use Rattle.definitions.specs.Lists.{if_then_else_, In, nth, keep, has, distinct, countFrom, below}
+use Rattle.definitions.specs.Job.{Job}
+use Rattle.definitions.specs.Plan.{descends}
+use Rattle.definitions.specs.Planner.{goesBefore, chosen}
+use Rattle.definitions.proofs.Lists.{both, both-true, either, either-right, in-map, map-in, in-keep, keep-in, not-has, has-not, fits, full, length-count, in-count, in-below, below-in, distinct-count}
+
+-- Lists -------------------------------------------------------------------------------------------------------
+
+pub length-map : {A B : Type 0} (f : A → B) (xs : List A) → length (map f xs) ≡ length xs
+length-map f [] = refl
+length-map f (x ∷ xs) = ap suc (length-map f xs)
+
+pub distinct-keep : (f : ℕ → Bool) (xs : List ℕ) → distinct xs ≡ true → distinct (keep f xs) ≡ true
+unfolding distinct keep
+distinct-keep f [] d = refl
+distinct-keep f (x ∷ xs) d =
+    let (n, d′) = both (not (has x xs)) (distinct xs) d in
+    by (f x) (not-has x xs (not-true (has x xs) n)) (distinct-keep f xs d′)
+  where
+    by : (b : Bool) → (In x xs → ⊥) → distinct (keep f xs) ≡ true → distinct (if b then x ∷ keep f xs else keep f xs) ≡ true
+    by true n d = let e : has x (keep f xs) ≡ false = has-not x (keep f xs) (λ i. n (in-keep f x xs i .0)) in rw e d
+    by false n d = d
+
+-- What is kept is less than a list with the same members and one more, which is not kept.
+fewer : (f : ℕ → Bool) (x : ℕ) (xs ys : List ℕ) → distinct xs ≡ true → (f x ≡ true → ⊥) → In x ys
+    → ((y : ℕ) → In y xs → f y ≡ true → In y ys) → length (keep f xs) < length ys
+unfolding distinct
+fewer f x xs ys d n i h =
+    let fresh : has x (keep f xs) ≡ false = has-not x (keep f xs) (λ k. n (in-keep f x xs k .1)) in
+    fits (x ∷ keep f xs) ys (rw fresh (distinct-keep f xs d)) (λ y. ⊎-elim (λ e. rw (← e) i) (λ k. let r = in-keep f y xs k in h y (r .0) (r .1)))
+
+-- Images that differ where the members do are distinct.
+pub distinct-map : (f : ℕ → ℕ) (xs : List ℕ) → ((x y : ℕ) → In x xs → In y xs → f x ≡ f y → x ≡ y) → distinct xs ≡ true
+    → distinct (map f xs) ≡ true
+unfolding distinct
+distinct-map f [] h d = refl
+distinct-map f (x ∷ xs) h d =
+    let (n, d′) = both (not (has x xs)) (distinct xs) d in
+    let apart : In x xs → ⊥ = not-has x xs (not-true (has x xs) n) in
+    let fresh : has (f x) (map f xs) ≡ false =
+    has-not (f x) (map f xs) (λ i. let r = in-map f (f x) xs i in let e : r .0 ≡ x = h (r .0) x (inr (r .1)) (inl refl) (r .2) in apart (rw e at (r .1))) in
+    rw fresh (distinct-map f xs (λ y z i k. h y z (inr i) (inr k)) d′)
+
+-- A number before others that are no less, which do not descend.
+ascends-cons : (p : ℕ) (ps : List ℕ) → ((q : ℕ) → In q ps → p ≤ q) → descends ps ≡ false → descends (p ∷ ps) ≡ false
+unfolding descends
+ascends-cons p [] h d = refl
+ascends-cons p (q ∷ ps) h d = rw (le-ltb q p (h q (inl refl))) d
+
+pub keep-ascends : (f : ℕ → Bool) (k n : ℕ) → descends (keep f (countFrom k n)) ≡ false
+unfolding keep countFrom descends
+keep-ascends f k zero = refl
+keep-ascends f k (suc n) = by (f k) (keep-ascends f (suc k) n)
+  where
+    by : (b : Bool) → descends (keep f (countFrom (suc k) n)) ≡ false → descends (if b then k ∷ keep f (countFrom (suc k) n) else keep f (countFrom (suc k) n)) ≡ false
+    by true d = ascends-cons k (keep f (countFrom (suc k) n)) (λ q i. let r = in-count (suc k) n q (in-keep f q (countFrom (suc k) n) i .0) in omega arith) d
+    by false d = d
+
+-- The order of the boxes --------------------------------------------------------------------------------------
+
+-- A box q with early finish b goes before a box p with early finish a.
+abbrev Goes : (a b p q : ℕ) → Type 0
+Goes a b p q = (b < a) ⊎ ((b ≡ a) × (q < p))
+
+goes : (a b p q : ℕ) → (ltb b a || eqb b a && ltb q p) ≡ true → Goes a b p q
+goes a b p q h =
+    ⊎-elim
+    (λ s. inl (ltb-true b a s))
+    (λ s. let (e, l) = both (eqb b a) (ltb q p) s in inr (eqb-true b a e, ltb-true q p l))
+    (either (ltb b a) (eqb b a && ltb q p) h)
+
+goes-test : (a b p q : ℕ) → Goes a b p q → (ltb b a || eqb b a && ltb q p) ≡ true
+goes-test a b p q (inl h) = rw (lt-ltb b a h)
+goes-test a b p q (inr h) = either-right (ltb b a) (both-true (eq-eqb b a (h .0)) (lt-ltb q p (h .1)))
+
+goes-on : (a b c p q r : ℕ) → Goes a b p q → Goes b c q r → Goes a c p r
+goes-on a b c p q r (inl h) (inl g) = inl (omega arith)
+goes-on a b c p q r (inl h) (inr g) = inl (omega arith)
+goes-on a b c p q r (inr h) (inl g) = inl (omega arith)
+goes-on a b c p q r (inr h) (inr g) = inr (omega arith)
+
+goes-itself : (a p : ℕ) → Goes a a p p → ⊥
+goes-itself a p (inl h) = omega arith
+goes-itself a p (inr h) = omega arith
+
+compare : (a b : ℕ) → (a < b) ⊎ (b ≤ a)
+compare a b = by (ltb a b) refl
+  where
+    by : (t : Bool) → ltb a b ≡ t → (a < b) ⊎ (b ≤ a)
+    by true e = inl (ltb-true a b e)
+    by false e = inr (ltb-false a b e)
+
+one-goes : (a b p q : ℕ) → (p ≡ q → ⊥) → Goes a b p q ⊎ Goes b a q p
+one-goes a b p q n =
+    ⊎-elim
+    (λ h. inr (inl h))
+    (λ h.
+    ⊎-elim
+    (λ g. inl (inl g))
+    (λ g. ⊎-elim (λ k. inr (inr (omega arith))) (λ k. ⊎-elim (λ m. inl (inr (omega arith))) (λ m. absurd (n (omega arith))) (compare q p)) (compare p q))
+    (compare b a))
+    (compare a b)
+
+module _ (j : Job) (finishes : List ℕ) where
+  -- How many boxes go before p.
+  abbrev rank : ℕ → ℕ
+  rank p = length (keep (goesBefore finishes p) (below (j .processors)))
+
+  goes-apart : (p : ℕ) → goesBefore finishes p p ≡ true → ⊥
+  goes-apart p h = goes-itself (nth finishes p) p (goes (nth finishes p) (nth finishes p) p p h)
+
+  goes-past : (p q r : ℕ) → goesBefore finishes p q ≡ true → goesBefore finishes q r ≡ true → goesBefore finishes p r ≡ true
+  goes-past p q r h g =
+      let a = nth finishes p in
+      let b = nth finishes q in
+      let c = nth finishes r in
+      goes-test a c p r (goes-on a b c p q r (goes a b p q h) (goes b c q r g))
+
+  rank-below : (p : ℕ) → p < j .processors → rank p < j .processors
+  rank-below p h =
+      let boxes = below (j .processors) in
+      rw (length-count 0 (j .processors)) at
+      (fewer (goesBefore finishes p) p boxes boxes (distinct-count 0 (j .processors)) (goes-apart p) (below-in (j .processors) p h) (λ q i g. i))
+
+  rank-less : (p q : ℕ) → q < j .processors → goesBefore finishes p q ≡ true → rank q < rank p
+  rank-less p q h g =
+      let boxes = below (j .processors) in
+      fewer (goesBefore finishes q) q boxes (keep (goesBefore finishes p) boxes) (distinct-count 0 (j .processors)) (goes-apart q)
+      (keep-in (goesBefore finishes p) q boxes (below-in (j .processors) q h) g)
+      (λ r i f. keep-in (goesBefore finishes p) r boxes i (goes-past p q r g f))
+
+  rank-apart : (p q : ℕ) → p < j .processors → q < j .processors → rank p ≡ rank q → p ≡ q
+  rank-apart p q h g e = by (eqb p q) refl
+    where
+      by : (b : Bool) → eqb p q ≡ b → p ≡ q
+      by true t = eqb-true p q t
+      by false t =
+          ⊎-elim
+          (λ s. absurd (omega (arith, rank-less p q g (goes-test (nth finishes p) (nth finishes q) p q s))))
+          (λ s. absurd (omega (arith, rank-less q p h (goes-test (nth finishes q) (nth finishes p) q p s))))
+          (one-goes (nth finishes p) (nth finishes q) p q (eqb-false p q t))
+
+  -- Every number below m is the rank of a box.
+  ranks : (r : ℕ) → r < j .processors → (p : ℕ) × In p (below (j .processors)) × (rank p ≡ r)
+  ranks r h =
+      let m = j .processors in
+      let boxes = below m in
+      in-map rank r boxes
+      (full m (map rank boxes)
+      (distinct-map rank boxes (λ p q i k. rank-apart p q (in-below m p i) (in-below m q k)) (distinct-count 0 m))
+      (λ x i. let s = in-map rank x boxes i in let b = rank-below (s .0) (in-below m (s .0) (s .1)) in rw (s .2) at b)
+      (length-map rank boxes ∙ length-count 0 m)
+      r h)
+
+  pub chosen-count : (k : ℕ) → k ≤ j .processors → length (chosen j k finishes) ≡ k
+  unfolding chosen
+  chosen-count k h =
+      let m = j .processors in
+      let boxes = below m in
+      let few : ℕ → Bool = λ p. ltb (rank p) k in
+      let kept = keep few boxes in
+      let most : length (map rank kept) ≤ length (below k) =
+      fits (map rank kept) (below k)
+      (distinct-map rank kept (λ p q i l. rank-apart p q (in-below m p (in-keep few p boxes i .0)) (in-below m q (in-keep few q boxes l .0))) (distinct-keep few boxes (distinct-count 0 m)))
+      (λ x i. let s = in-map rank x kept i in let b = ltb-true (rank (s .0)) k (in-keep few (s .0) boxes (s .1) .1) in below-in k x (rw (s .2) at b)) in
+      let least : length (below k) ≤ length (map rank kept) =
+      fits (below k) (map rank kept) (distinct-count 0 k)
+      (λ x i.
+      let b = in-below k x i in
+      let s = ranks x (omega arith) in
+      let t : rank (s .0) < k = omega (arith, s .2) in
+      rw (s .2) at (map-in rank (s .0) kept (keep-in few (s .0) boxes (s .1) (lt-ltb (rank (s .0)) k t)))) in
+      omega (arith, length-map rank kept, length-count 0 k)
+
+  pub chosen-below : (k p : ℕ) → In p (chosen j k finishes) → p < j .processors
+  unfolding chosen
+  chosen-below k p i = in-below (j .processors) p (in-keep (λ p. ltb (rank p) k) p (below (j .processors)) i .0)
+
+  pub chosen-distinct : (k : ℕ) → distinct (chosen j k finishes) ≡ true
+  unfolding chosen
+  chosen-distinct k = distinct-keep (λ p. ltb (rank p) k) (below (j .processors)) (distinct-count 0 (j .processors))
+
+  pub chosen-ascends : (k : ℕ) → descends (chosen j k finishes) ≡ false
+  unfolding chosen
+  chosen-ascends k = keep-ascends (λ p. ltb (rank p) k) 0 (j .processors)
