@@ -1,0 +1,66 @@
+-- The bytes left to write give the whole answer.
+use mathlib.Core.Path.{_≡_, refl}
+use Prim.Native.Nat.{_≤_, _-_, _+_}
+use native.Mathlib.Omega.{arith}
+use borrow.Author.Needs.{needs}
+use lib.ListN.{length, drop, length-set}
+use native.Mathlib.Nat.{add-zero}
+use Rattle.slices.specs.Over.{over}
+use Rattle.text.proofs.Writing.{copy-next, copy-end}
+use Rattle.text.proofs.copy_in.Statement.{statement}
+use Rattle.text.proofs.copy_in.Tie as tie
+
+abbrev Inv-loop : tie.InvT-loop
+Inv-loop out₀ at p i₀ out i = (i ≤ length p) × (length out ≡ length out₀) × (over out (at + i) (drop i p) ≡ over out₀ at p)
+
+abbrev μ-loop : tie.MeasureT-loop
+μ-loop out₀ at p i₀ out i = length p - i
+
+loop-holds : tie.Need-loop-holds Inv-loop μ-loop
+loop-holds c = (search needs, refl, rw add-zero)
+
+shared-slice-read-out : tie.Need-shared-slice-read-out Inv-loop μ-loop
+shared-slice-read-out c = search needs
+
+add-out : tie.Need-add-out Inv-loop μ-loop
+add-out c = search needs
+
+slice-write-out : tie.Need-slice-write-out Inv-loop μ-loop
+slice-write-out c = search needs
+
+add-i : tie.Need-add-i Inv-loop μ-loop
+add-i c = search needs
+
+loop-less : tie.Need-loop-less Inv-loop μ-loop
+loop-less c = search needs
+
+loop-again : tie.Need-loop-again Inv-loop μ-loop
+loop-again c =
+    let a = c .before .before .before .args in
+    let l = c .before .before .loop in
+    (search needs, simp length-set (search needs), copy-next (l .out) (a .p .now) _ (a .at + l .i) (l .i) (l .inv .2) _ (omega arith) (c .before .loop-test .taken) (omega arith))
+
+same-length : tie.Need-same-length Inv-loop μ-loop
+same-length c = search needs
+
+returns : tie.Need-returns Inv-loop μ-loop
+returns c =
+    let a = c .before .before .args in
+    let l = c .before .loop in
+    copy-end (l .out) (a .p .now) _ (a .at + l .i) (l .i) (l .inv .2) (c .loop-test .left)
+
+pub copy-in-spec : {M : Type 1} → statement M
+copy-in-spec =
+    tie.close
+    (tie.spec
+    Inv-loop
+    μ-loop
+    loop-holds
+    shared-slice-read-out
+    add-out
+    slice-write-out
+    add-i
+    loop-less
+    loop-again
+    same-length
+    returns)

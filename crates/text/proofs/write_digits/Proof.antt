@@ -1,0 +1,61 @@
+-- The digits left to store give the whole answer.
+use mathlib.Core.Path.{_≡_, refl, sym, _∙_}
+use Prim.Native.Nat.{_≤_}
+use borrow.Author.Needs.{needs}
+use lib.ListN.{length, length-set}
+use Rattle.text.proofs.Writing.{stored, stored-end, stored-next, stored-all}
+use Rattle.text.proofs.write_digits.Statement.{statement}
+use Rattle.text.proofs.write_digits.Tie as tie
+
+abbrev Inv-loop : tie.InvT-loop
+Inv-loop out₀ at d n k₀ m₀ out k m = (k ≤ d) × (length out ≡ length out₀) × (stored out at k m ≡ stored out₀ at d n)
+
+abbrev μ-loop : tie.MeasureT-loop
+μ-loop out₀ at d n k₀ m₀ out k m = k
+
+loop-holds : tie.Need-loop-holds Inv-loop μ-loop
+loop-holds c = (search needs, refl, refl)
+
+sub-k : tie.Need-sub-k Inv-loop μ-loop
+sub-k c = search needs
+
+cast-b : tie.Need-cast-b Inv-loop μ-loop
+cast-b c = search needs
+
+add-out : tie.Need-add-out Inv-loop μ-loop
+add-out c = search needs
+
+add-out-2 : tie.Need-add-out-2 Inv-loop μ-loop
+add-out-2 c = search needs
+
+slice-write-out : tie.Need-slice-write-out Inv-loop μ-loop
+slice-write-out c = search needs
+
+loop-less : tie.Need-loop-less Inv-loop μ-loop
+loop-less c = search needs
+
+loop-again : tie.Need-loop-again Inv-loop μ-loop
+loop-again c = (search needs, simp length-set (search needs), sym (stored-next _ _ _ _ (search needs)) ∙ c .before .loop .inv .2)
+
+same-length : tie.Need-same-length Inv-loop μ-loop
+same-length c = search needs
+
+returns : tie.Need-returns Inv-loop μ-loop
+returns c = sym (stored-end _ _ _ _ (c .loop-test .left)) ∙ c .before .loop .inv .2 ∙ stored-all _ _ _ _ (search needs)
+
+pub write-digits-spec : {M : Type 1} → statement M
+write-digits-spec =
+    tie.close
+    (tie.spec
+    Inv-loop
+    μ-loop
+    loop-holds
+    sub-k
+    cast-b
+    add-out
+    add-out-2
+    slice-write-out
+    loop-less
+    loop-again
+    same-length
+    returns)

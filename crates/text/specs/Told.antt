@@ -1,0 +1,30 @@
+-- What the answers of the leaves mean.
+use Prim.Native.Nat.{ℕ, _+_}
+use mathlib.Core.List.{List}
+use lib.Dec.{leb}
+use lib.ListN.{length, drop}
+use Rattle.definitions.specs.Lists.{if_then_else_}
+use Rattle.definitions.specs.Text.{Reading, found, refused}
+use Rattle.slices.specs.Over.{over}
+use Rattle.text.specs.declared.Num.{Num}
+use Rattle.text.specs.declared.Num.the-variants.{Value, Bad}
+use Rattle.text.specs.declared.Step.{Step}
+use Rattle.text.specs.declared.Step.the-variants.{Next, Refused}
+
+-- A number that was read in the text s, or 2.
+abbrev pub numberTold : List ℕ → Num → Reading ℕ
+numberTold s (Value v next) = found v (drop next s)
+numberTold s Bad = refused 2
+
+-- x was read in the text s, or the refusal.
+abbrev pub told : {A : Type 0} → List ℕ → A → Step → Reading A
+told s x (Next next) = found x (drop next s)
+told s x (Refused n) = refused n
+
+-- The output d after t was written from `at` on; as it was, if t does not fit.
+abbrev pub written : List ℕ → ℕ → List ℕ → List ℕ
+written d at t = if leb (at + length t) (length d) then over d at t else d
+
+-- The place after t; the same place, if t does not fit.
+abbrev pub placeAfter : List ℕ → ℕ → List ℕ → ℕ
+placeAfter d at t = if leb (at + length t) (length d) then at + length t else at
