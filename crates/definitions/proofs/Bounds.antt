@@ -1,94 +1,83 @@
 -- No tick passes its bound: of the equations, of the replay, and of the planner's levels.
 use mathlib.Core.Path.{_≡_, refl, ap, _∙_}
 use mathlib.Core.Logic.{_⊎_, inl, inr, ⊎-elim}
-use mathlib.Core.List.{List, [], _∷_, _++_, map, append-nil}
+use mathlib.Core.List.{List, [], _∷_, _++_, map}
 use mathlib.Core.Bool.{Bool, true, false, not}
-use Prim.Native.Nat.{ℕ, zero, suc, _+_, _*_, _-_, _^_, _<_, _≤_, max}
+use Prim.Native.Nat.{ℕ, zero, suc, _+_, _*_, _-_, _<_, _≤_, max}
 use native.Mathlib.Omega.{arith}
 use native.Mathlib.Nat.{suc-mul, one-mul, zero-mul, mul-le-mul, mul-le-mul-left, mul-le-mul-right, mul-assoc, mul-add, mul-left-comm, one-le-mul}
 use lib.Dec.{eqb, leb}
 use lib.ListN.{length, length-map}
 use borrow.Author.Tests.{eqb-true, eq-eqb, not-true}
 use Rattle.definitions.specs.Lists.{if_then_else_, nth, below, In, keep, has, any, distinct, sameNumbers, sum, greatest}
-use Rattle.definitions.specs.Limits.{Limits, document01}
+use Rattle.definitions.specs.Limits.{Limits}
 use Rattle.definitions.specs.Job.{Edge, Job, runTime, delay, incoming, outgoing}
 use Rattle.definitions.specs.Plan.{Line, processorsOf}
 use Rattle.definitions.specs.Stops.{Stop}
-use Rattle.definitions.specs.Times.{Time, tick, never, later, sooner, after, least, largest, Copy, Outcome, ofTask, times, ready, message, arrival, dataReady, start, stopTime, unlessStopped, finish, walk, copiesOf, copies, earlies, lates, exits, end, bestEnd, worstEnd}
-use Rattle.definitions.specs.Refusals.{doubledTasks}
+use Rattle.definitions.specs.Times.{Time, tick, never, later, sooner, after, least, largest, Copy, Outcome, outcome, ofTask, times, ready, message, arrival, dataReady, start, stopTime, unlessStopped, finish, walk, copiesOf, copies, earlies, lates, exits, end, bestEnd, worstEnd}
 use Rattle.definitions.specs.Planner.{tickOf, Waiting, waitingFrom, scale, scaledRun, totalDelay, scaledMessage, raised, settled, bottomLevels, largestDelay, topLevel, ranked, trial}
-use Rattle.definitions.specs.Replay.{replay, firstFinish, roundEnd}
+use Rattle.definitions.specs.Replay.{replay}
+use Rattle.definitions.specs.Claims.{Within, AllWithin, planTicks, replayTicks}
 use Rattle.definitions.proofs.Lists.{both, neither, in-map, map-in, in-keep, length-count, in-below}
-use Rattle.definitions.proofs.Facts.{JobFacts, Ordered}
+use Rattle.definitions.proofs.Facts.{JobFacts, Ordered, Apart}
 
 -- Times -------------------------------------------------------------------------------------------------------
 
--- A time is never, or a tick of at most b.
-pub data AtMost (b : ℕ) : Time → Type 0 where
-  reached : {x : ℕ} → x ≤ b → AtMost b (tick x)
-  undone : AtMost b never
-
-ok : {b x : ℕ} → x ≤ b → AtMost b (tick x)
-ok = reached
-
-pub tick-most : {b x : ℕ} → AtMost b (tick x) → x ≤ b
-tick-most (reached h) = h
-
-pub weaker-most : {b c : ℕ} {x : Time} → b ≤ c → AtMost b x → AtMost c x
-weaker-most h (reached a) = ok (omega arith)
-weaker-most h undone = undone
+pub weaker : {b c : ℕ} (x : Time) → b ≤ c → Within b x → Within c x
+weaker (tick x) h a = omega arith
+weaker never h a = tt
 
 -- n ticks after a time; and the time, of that.
-pub after-most : {b : ℕ} {x : Time} (n : ℕ) → AtMost b x → AtMost (b + n) (after n x)
-after-most n (reached a) = ok (omega arith)
-after-most n undone = undone
+after-within : (b n : ℕ) (x : Time) → Within b x → Within (b + n) (after n x)
+after-within b n (tick x) a = omega arith
+after-within b n never a = tt
 
-before-most : {b : ℕ} (n : ℕ) (x : Time) → AtMost b (after n x) → AtMost b x
-before-most n (tick x) (reached a) = ok (omega arith)
-before-most n never a = undone
+before-within : (b n : ℕ) (x : Time) → Within b (after n x) → Within b x
+before-within b n (tick x) a = omega arith
+before-within b n never a = tt
 
-later-most : {b : ℕ} {x y : Time} → AtMost b x → AtMost b y → AtMost b (later x y)
-later-most (reached a) (reached c) = ok (omega arith)
-later-most (reached a) undone = undone
-later-most undone c = undone
+later-within : (b : ℕ) (x y : Time) → Within b x → Within b y → Within b (later x y)
+later-within b (tick x) (tick y) a c = omega arith
+later-within b (tick x) never a c = tt
+later-within b never y a c = tt
 
-sooner-most : {b : ℕ} {x y : Time} → AtMost b x → AtMost b y → AtMost b (sooner x y)
-sooner-most (reached a) (reached c) = ok (omega arith)
-sooner-most (reached a) undone = reached a
-sooner-most undone c = c
+sooner-within : (b : ℕ) (x y : Time) → Within b x → Within b y → Within b (sooner x y)
+sooner-within b (tick x) (tick y) a c = omega arith
+sooner-within b (tick x) never a c = a
+sooner-within b never y a c = c
 
 -- The time that is chosen of several passes no bound of them all.
 abbrev pub Bounded : (List Time → Time) → Type 0
-Bounded choose = (b : ℕ) (xs : List Time) → ((x : Time) → In x xs → AtMost b x) → AtMost b (choose xs)
+Bounded choose = (b : ℕ) (xs : List Time) → ((x : Time) → In x xs → Within b x) → Within b (choose xs)
 
-pub least-most : Bounded least
+pub least-within : Bounded least
 unfolding least
-least-most b [] h = undone
-least-most b (x ∷ xs) h = sooner-most (h x (inl refl)) (least-most b xs (λ y i. h y (inr i)))
+least-within b [] h = tt
+least-within b (x ∷ xs) h = sooner-within b x (least xs) (h x (inl refl)) (least-within b xs (λ y i. h y (inr i)))
 
-pub largest-most : Bounded largest
+largest-within : Bounded largest
 unfolding largest
-largest-most b [] h = ok (omega arith)
-largest-most b (x ∷ xs) h = later-most (h x (inl refl)) (largest-most b xs (λ y i. h y (inr i)))
+largest-within b [] h = omega arith
+largest-within b (x ∷ xs) h = later-within b x (largest xs) (h x (inl refl)) (largest-within b xs (λ y i. h y (inr i)))
 
 -- The same, of times that a function gives.
-pub chosen-most : {A : Type 0} (b : ℕ) (choose : List Time → Time) → Bounded choose → (f : A → Time) (xs : List A)
-    → ((x : A) → In x xs → AtMost b (f x)) → AtMost b (choose (map f xs))
-chosen-most b choose k f xs h = k b (map f xs) (λ y i. let (x, m, e) = in-map f y xs i in rw (← e) (h x m))
+chosen-within : {A : Type 0} (b : ℕ) (choose : List Time → Time) → Bounded choose → (f : A → Time) (xs : List A)
+    → ((x : A) → In x xs → Within b (f x)) → Within b (choose (map f xs))
+chosen-within b choose k f xs h = k b (map f xs) (λ y i. let (x, m, e) = in-map f y xs i in rw (← e) (h x m))
 
 -- A copy after which n ticks are left: it starts at the later of r and d, and runs u ticks.
-copy-most : {b u v : ℕ} (j : Job) (n : ℕ) (s r d : Time) → u ≤ v → AtMost b (after (n + v) r) → AtMost b (after (n + v) d)
-    → AtMost b (after n (unlessStopped s (after u (later r d))))
-copy-most j n never (tick r) (tick d) h (reached a) (reached c) = ok (omega arith)
-copy-most j n never (tick r) never h a c = undone
-copy-most j n never never d h a c = undone
-copy-most {b} {u} j n (tick s) (tick r) (tick d) h (reached a) (reached c) = by (leb (max r d + u) s)
+copy-within : (b n u v : ℕ) (s r d : Time) → u ≤ v → Within b (after (n + v) r) → Within b (after (n + v) d)
+    → Within b (after n (unlessStopped s (after u (later r d))))
+copy-within b n u v never (tick r) (tick d) h a c = omega arith
+copy-within b n u v (tick s) (tick r) (tick d) h a c = by (leb (max r d + u) s)
   where
-    by : (t : Bool) → AtMost b (after n (if t then tick (max r d + u) else never))
-    by true = ok (omega arith)
-    by false = undone
-copy-most j n (tick s) (tick r) never h a c = undone
-copy-most j n (tick s) never d h a c = undone
+    by : (t : Bool) → Within b (after n (if t then tick (max r d + u) else never))
+    by true = omega arith
+    by false = tt
+copy-within b n u v never (tick r) never h a c = tt
+copy-within b n u v never never d h a c = tt
+copy-within b n u v (tick s) (tick r) never h a c = tt
+copy-within b n u v (tick s) never d h a c = tt
 
 -- How often ---------------------------------------------------------------------------------------------------
 
@@ -137,291 +126,194 @@ often-distinct p (q ∷ ps) h =
 -- The walk ----------------------------------------------------------------------------------------------------
 
 -- What is placed is on the job's processors, and no tick of it passes b.
-abbrev pub PlacedMost : Job → ℕ → List Outcome → Type 0
-PlacedMost j b ds = (d : Outcome) → In d ds → (d .processor < j .processors) × AtMost b (d .time)
+abbrev pub PlacedWithin : Job → ℕ → List Outcome → Type 0
+PlacedWithin j b ds = (d : Outcome) → In d ds → (d .processor < j .processors) × Within b (d .time)
 
 -- What is placed is on the job's processors, and no tick of the tasks in `seen` passes b.
-abbrev pub SuppliedMost : Job → ℕ → List ℕ → List Outcome → Type 0
-SuppliedMost j b seen ds = (d : Outcome) → In d ds → (d .processor < j .processors) × (In (d .task) seen → AtMost b (d .time))
+abbrev SuppliedWithin : Job → ℕ → List ℕ → List Outcome → Type 0
+SuppliedWithin j b seen ds = (d : Outcome) → In d ds → (d .processor < j .processors) × (In (d .task) seen → Within b (d .time))
 
 -- No processor is more than w times in a line of these.
 abbrev pub Repeats : ℕ → List Line → Type 0
 Repeats w ns = (n : Line) → In n ns → (p : ℕ) → often p (processorsOf n) ≤ w
 
-pub ready-most : (j : Job) {b : ℕ} (p : ℕ) (ds : List Outcome) → PlacedMost j b ds → AtMost b (ready j p ds)
+ready-within : (j : Job) (b p : ℕ) (ds : List Outcome) → PlacedWithin j b ds → Within b (ready j p ds)
 unfolding ready
-ready-most j p [] h = ok (omega arith)
-ready-most j {b} p (d ∷ ds) h = by (eqb (d .processor) p) (ready-most j p ds (λ x i. h x (inr i)))
+ready-within j b p [] h = omega arith
+ready-within j b p (d ∷ ds) h = by (eqb (d .processor) p) (ready-within j b p ds (λ x i. h x (inr i)))
   where
-    by : (t : Bool) → AtMost b (ready j p ds) → AtMost b (if t then d .time else ready j p ds)
+    by : (t : Bool) → Within b (ready j p ds) → Within b (if t then d .time else ready j p ds)
     by true r = h d (inl refl) .1
     by false r = r
 
 -- The data of a task's copies, each sent on at w ticks for its processor, of which none passes v.
-fed-most : {b v : ℕ} (choose : List Time → Time) → Bounded choose → (w : ℕ → ℕ) (t : ℕ) (ds : List Outcome)
-    → ((d : Outcome) → In d ds → d .task ≡ t → (w (d .processor) ≤ v) × AtMost b (d .time))
-    → AtMost (b + v) (choose (map (λ d. after (w (d .processor)) (d .time)) (ofTask t ds)))
+fed-within : (b v : ℕ) (choose : List Time → Time) → Bounded choose → (w : ℕ → ℕ) (t : ℕ) (ds : List Outcome)
+    → ((d : Outcome) → In d ds → d .task ≡ t → (w (d .processor) ≤ v) × Within b (d .time))
+    → Within (b + v) (choose (map (λ d. after (w (d .processor)) (d .time)) (ofTask t ds)))
 unfolding ofTask
-fed-most {b} {v} choose k w t ds h =
-    chosen-most (b + v) choose k (λ d. after (w (d .processor)) (d .time)) (ofTask t ds) λ d m.
+fed-within b v choose k w t ds h =
+    chosen-within (b + v) choose k (λ d. after (w (d .processor)) (d .time)) (ofTask t ds) λ d m.
     let (o, e) = in-keep (λ d. eqb (d .task) t) d ds m in
     let (u, a) = h d o (eqb-true (d .task) t e) in
-    weaker-most (omega arith) (after-most (w (d .processor)) a)
+    let n = w (d .processor) in
+    weaker (after n (d .time)) (omega arith) (after-within b n (d .time) a)
 
 module _ (l : Limits) (j : Job) (jf : JobFacts l j) (choose : List Time → Time) (k : Bounded choose) where
-  arrival-most : {b : ℕ} (seen : List ℕ) (ds : List Outcome) (p : ℕ) (e : Edge) → SuppliedMost j b seen ds → In e (j .edges) → In (e .from) seen
-      → p < j .processors → AtMost (b + l .volume * l .delay) (arrival j choose ds p e)
+  -- What a message takes at most.
+  abbrev longest : ℕ
+  longest = l .volume * l .delay
+
+  arrival-within : (b : ℕ) (seen : List ℕ) (ds : List Outcome) (p : ℕ) (e : Edge) → SuppliedWithin j b seen ds → In e (j .edges) → In (e .from) seen
+      → p < j .processors → Within (b + longest) (arrival j choose ds p e)
   unfolding arrival
-  arrival-most seen ds p e s i f h =
-      fed-most choose k (λ q. message j e q p) (e .from) ds λ d o q.
+  arrival-within b seen ds p e s i f h =
+      fed-within b longest choose k (λ q. message j e q p) (e .from) ds λ d o q.
       let (g, a) = s d o in
       (mul-le-mul (jf .volume-most e i) (jf .delay-most (d .processor) p g h), a (rw q f))
 
-  data-most : {b : ℕ} (seen : List ℕ) (ds : List Outcome) (t p : ℕ) → SuppliedMost j b seen ds → ((e : Edge) → In e (incoming j t) → In (e .from) seen)
-      → p < j .processors → AtMost (b + l .volume * l .delay) (dataReady j choose ds t p)
+  data-within : (b : ℕ) (seen : List ℕ) (ds : List Outcome) (t p : ℕ) → SuppliedWithin j b seen ds → ((e : Edge) → In e (incoming j t) → In (e .from) seen)
+      → p < j .processors → Within (b + longest) (dataReady j choose ds t p)
   unfolding dataReady incoming
-  data-most {b} seen ds t p s f h =
-      chosen-most (b + l .volume * l .delay) largest largest-most (arrival j choose ds p) (incoming j t)
-      (λ e i. arrival-most seen ds p e s (in-keep (λ e. eqb (e .to) t) e (j .edges) i .0) (f e i) h)
-
--- One more copy is placed.
-placed-more : {c : ℕ} (j : Job) (ds : List Outcome) (d : Outcome) → PlacedMost j c ds → d .processor < j .processors → AtMost c (d .time) → PlacedMost j c (d ∷ ds)
-placed-more j ds d m h a x = ⊎-elim (λ e. rw (← e) (h, a)) (m x)
-
-supplied-more : {b : ℕ} (j : Job) (seen : List ℕ) (ds : List Outcome) (d : Outcome) → SuppliedMost j b seen ds → d .processor < j .processors
-    → (In (d .task) seen → ⊥) → SuppliedMost j b seen (d ∷ ds)
-supplied-more j seen ds d s h new x = ⊎-elim (λ e. rw (← e) (h, λ i. absurd (new i))) (s x)
+  data-within b seen ds t p s f h =
+      chosen-within (b + longest) largest largest-within (arrival j choose ds p) (incoming j t)
+      (λ e i. arrival-within b seen ds p e s (in-keep (λ e. eqb (e .to) t) e (j .edges) i .0) (f e i) h)
 
 -- A processor's ready tick after one more copy, with the runs that are still to come in the line.
-next-ready : {c : ℕ} (j : Job) (run q : ℕ) (ps : List ℕ) (ds : List Outcome) (d : Outcome) → AtMost c (after (often (d .processor) ps * run) (d .time))
-    → AtMost c (after (often q (d .processor ∷ ps) * run) (ready j q ds)) → AtMost c (after (often q ps * run) (ready j q (d ∷ ds)))
+next-ready : (j : Job) (c run q : ℕ) (ps : List ℕ) (ds : List Outcome) (d : Outcome) → Within c (after (often (d .processor) ps * run) (d .time))
+    → Within c (after (often q (d .processor ∷ ps) * run) (ready j q ds)) → Within c (after (often q ps * run) (ready j q (d ∷ ds)))
 unfolding ready keep
-next-ready {c} j run q ps ds d a h = by (eqb (d .processor) q) refl h
+next-ready j c run q ps ds d a h = by (eqb (d .processor) q) refl h
   where
     by : (t : Bool) → eqb (d .processor) q ≡ t
-        → AtMost c (after (length (if t then d .processor ∷ keep (λ p. eqb p q) ps else keep (λ p. eqb p q) ps) * run) (ready j q ds))
-        → AtMost c (after (often q ps * run) (if t then d .time else ready j q ds))
+        → Within c (after (length (if t then d .processor ∷ keep (λ p. eqb p q) ps else keep (λ p. eqb p q) ps) * run) (ready j q ds))
+        → Within c (after (often q ps * run) (if t then d .time else ready j q ds))
     by true e h = rw (eqb-true (d .processor) q e) at a
     by false e h = h
 
 module _ (l : Limits) (j : Job) (jf : JobFacts l j) (choose : List Time → Time) (k : Bounded choose) (stops : List Stop) where
-  -- A copy's finish, with the runs that are still to come on its processor in the line.
-  finish-most : {b c : ℕ} (n : ℕ) (seen : List ℕ) (ds : List Outcome) (t p : ℕ) → SuppliedMost j b seen ds
-      → ((e : Edge) → In e (incoming j t) → In (e .from) seen) → t < j .tasks → p < j .processors
-      → b + l .volume * l .delay + (n + l .runTime) ≤ c → AtMost c (after (n + l .runTime) (ready j p ds))
-      → AtMost c (after n (finish j choose stops ds (record { task = t; processor = p; run = runTime j t p })))
-  unfolding finish start
-  finish-most n seen ds t p s f ht hp h a =
-      copy-most j n (stopTime stops p) (ready j p ds) (dataReady j choose ds t p) (jf .run-most t p ht hp) a
-      (weaker-most h (after-most (n + l .runTime) (data-most l j jf choose k seen ds t p s f hp)))
+  abbrev copy : ℕ → ℕ → Copy
+  copy t p = record { task = t; processor = p; run = runTime j t p }
 
-  line-most : (b c g : ℕ) (seen : List ℕ) (t : ℕ) → t < j .tasks → (In t seen → ⊥) → ((e : Edge) → In e (incoming j t) → In (e .from) seen)
-      → c ≤ g → (rest : List Copy) → ((ds : List Outcome) → PlacedMost j c ds → PlacedMost j g (walk j choose stops ds rest))
+  -- A copy's finish, with the runs that are still to come on its processor in the line.
+  finish-within : (b c n : ℕ) (seen : List ℕ) (ds : List Outcome) (t p : ℕ) → SuppliedWithin j b seen ds
+      → ((e : Edge) → In e (incoming j t) → In (e .from) seen) → t < j .tasks → p < j .processors
+      → b + l .volume * l .delay + (n + l .runTime) ≤ c → Within c (after (n + l .runTime) (ready j p ds))
+      → Within c (after n (finish j choose stops ds (copy t p)))
+  unfolding finish start
+  finish-within b c n seen ds t p s f ht hp h a =
+      let there = dataReady j choose ds t p in
+      copy-within c n (runTime j t p) (l .runTime) (stopTime stops p) (ready j p ds) there (jf .run-most t p ht hp) a
+      (weaker (after (n + l .runTime) there) h (after-within (b + l .volume * l .delay) (n + l .runTime) there (data-within l j jf choose k b seen ds t p s f hp)))
+
+  -- A line's copies, with the runs that are still to come, and what follows them.
+  line-runs : (b c g : ℕ) (seen : List ℕ) (t : ℕ) → t < j .tasks → (In t seen → ⊥) → ((e : Edge) → In e (incoming j t) → In (e .from) seen)
+      → c ≤ g → (rest : List Copy) → ((ds : List Outcome) → PlacedWithin j c ds → PlacedWithin j g (walk j choose stops ds rest))
       → (ps : List ℕ) → ((p : ℕ) → In p ps → p < j .processors) → ((p : ℕ) → b + l .volume * l .delay + often p ps * l .runTime ≤ c)
-      → (ds : List Outcome) → SuppliedMost j b seen ds → PlacedMost j c ds
-      → ((p : ℕ) → AtMost c (after (often p ps * l .runTime) (ready j p ds)))
-      → PlacedMost j g (walk j choose stops ds (copiesOf j t ps ++ rest))
+      → (ds : List Outcome) → SuppliedWithin j b seen ds → PlacedWithin j c ds
+      → ((p : ℕ) → Within c (after (often p ps * l .runTime) (ready j p ds)))
+      → PlacedWithin j g (walk j choose stops ds (copiesOf j t ps ++ rest))
   unfolding walk
-  line-most b c g seen t ht new f hg rest go [] below h ds s m r = go ds m
-  line-most b c g seen t ht new f hg rest go (p ∷ ps) below h ds s m r =
+  line-runs b c g seen t ht new f hg rest go [] below h ds s m r = go ds m
+  line-runs b c g seen t ht new f hg rest go (p ∷ ps) below h ds s m r =
       let n = often p ps * l .runTime in
       let hp = below p (inl refl) in
       let e : often p (p ∷ ps) * l .runTime ≡ n + l .runTime = rw (often-here p ps) (suc-mul (often p ps) (l .runTime)) in
-      let x = finish j choose stops ds (record { task = t; processor = p; run = runTime j t p }) in
-      let a : AtMost c (after n x) = finish-most n seen ds t p s f ht hp (rw e at (h p)) (rw e at (r p)) in
-      let d : Outcome = record { task = t; processor = p; time = x } in
-      let y : AtMost c x = before-most n x a in
-      placed-more j (walk j choose stops (d ∷ ds) (copiesOf j t ps ++ rest)) d
-      (line-most b c g seen t ht new f hg rest go ps (λ q i. below q (inr i)) (λ q. let u = mul-le-mul-right (l .runTime) (often-more q p ps) in omega (arith, h q))
+      let x = finish j choose stops ds (copy t p) in
+      let a : Within c (after n x) = finish-within b c n seen ds t p s f ht hp (rw e at (h p)) (rw e at (r p)) in
+      let d : Outcome = outcome (copy t p) x in
+      let y : Within c x = before-within c n x a in
+      let after-it = line-runs b c g seen t ht new f hg rest go ps (λ q i. below q (inr i))
+      (λ q. let u = mul-le-mul-right (l .runTime) (often-more q p ps) in omega (arith, h q))
       (d ∷ ds)
-      (supplied-more j seen ds d s hp new)
-      (placed-more j ds d m hp y)
-      (λ q. next-ready j (l .runTime) q ps ds d a (r q))
-      )
-      hp
-      (weaker-most hg y)
+      (λ o. ⊎-elim (λ q. rw (← q) (hp, λ i. absurd (new i))) (s o))
+      (λ o. ⊎-elim (λ q. rw (← q) (hp, y)) (m o))
+      (λ q. next-ready j c (l .runTime) q ps ds d a (r q)) in
+      λ o. ⊎-elim (λ q. rw (← q) (hp, weaker x hg y)) (after-it o)
 
-  -- A task's copies, and what follows them: with no processor more than w times they add at most w runs and a message.
-  pub line-placed : (w b g : ℕ) (seen : List ℕ) (t : ℕ) → t < j .tasks → (In t seen → ⊥) → ((e : Edge) → In e (incoming j t) → In (e .from) seen)
-      → (ps : List ℕ) → ((p : ℕ) → In p ps → p < j .processors) → ((p : ℕ) → often p ps ≤ w) → (ds : List Outcome) → PlacedMost j b ds
-      → b + (w * l .runTime + l .volume * l .delay) ≤ g → (rest : List Copy)
-      → ((ds : List Outcome) → PlacedMost j (b + (w * l .runTime + l .volume * l .delay)) ds → PlacedMost j g (walk j choose stops ds rest))
-      → PlacedMost j g (walk j choose stops ds (copiesOf j t ps ++ rest))
-  line-placed w b g seen t ht new f ps below h ds m hg rest go =
-      let s = w * l .runTime + l .volume * l .delay in
-      let few : (p : ℕ) → often p ps * l .runTime ≤ w * l .runTime = λ p. mul-le-mul-right (l .runTime) (h p) in
-      line-most b (b + s) g seen t ht new f hg rest go ps below
-      (λ p. omega (arith, few p))
-      ds
-      (λ d i. let (x, y) = m d i in (x, λ seen. y))
-      (λ d i. let (x, y) = m d i in (x, weaker-most (omega arith) y))
-      (λ p. weaker-most (omega (arith, few p)) (after-most (often p ps * l .runTime) (ready-most j p ds m)))
-
-  -- Lines after what is placed.
-  pub walk-most : (w b : ℕ) (seen : List ℕ) (ns : List Line) → Ordered j seen ns → Repeats w ns → (ds : List Outcome) → PlacedMost j b ds
-      → PlacedMost j (b + length ns * (w * l .runTime + l .volume * l .delay)) (walk j choose stops ds (copies j ns))
+  -- A line with no processor more than w times adds at most w runs and a message.
+  walk-within : (w b : ℕ) (seen : List ℕ) (ns : List Line) → Ordered j seen ns → Repeats w ns → (ds : List Outcome) → PlacedWithin j b ds
+      → PlacedWithin j (b + length ns * (w * l .runTime + l .volume * l .delay)) (walk j choose stops ds (copies j ns))
   unfolding walk copies
-  walk-most w b seen [] o h ds m = λ d i. absurd i
-  walk-most w b seen (n ∷ ns) (o, os) h ds m =
+  walk-within w b seen [] o h ds m = λ d i. absurd i
+  walk-within w b seen (n ∷ ns) (o, os) h ds m =
       let s = w * l .runTime + l .volume * l .delay in
       let g = b + suc (length ns) * s in
       let e : b + s + length ns * s ≡ g = omega (arith, suc-mul (length ns) s) in
-      line-placed w b g seen (n .task) (o .task-below) (o .new) (o .fed) (processorsOf n) (o .processors-below) (h n (inl refl)) ds m (omega arith) (copies j ns)
-      (λ ds′ m′. rw e at (walk-most w (b + s) (n .task ∷ seen) ns os (λ x i. h x (inr i)) ds′ m′))
+      let few : (p : ℕ) → often p (processorsOf n) * l .runTime ≤ w * l .runTime = λ p. mul-le-mul-right (l .runTime) (h n (inl refl) p) in
+      line-runs b (b + s) g seen (n .task) (o .task-below) (o .new) (o .fed) (omega arith) (copies j ns)
+      (λ ds′ m′. rw e at (walk-within w (b + s) (n .task ∷ seen) ns os (λ x i. h x (inr i)) ds′ m′))
+      (processorsOf n)
+      (o .processors-below)
+      (λ p. omega (arith, few p))
+      ds
+      (λ d i. let (x, y) = m d i in (x, λ _. y))
+      (λ d i. let (x, y) = m d i in (x, weaker (d .time) (omega arith) y))
+      (λ p. weaker (after (often p (processorsOf n) * l .runTime) (ready j p ds)) (omega (arith, few p)) (after-within b (often p (processorsOf n) * l .runTime) (ready j p ds) (ready-within j b p ds m)))
 
-  -- A task's copies on different boxes, after what is placed.
-  pub apart-line : (b : ℕ) (seen : List ℕ) (t : ℕ) → t < j .tasks → (In t seen → ⊥) → ((e : Edge) → In e (incoming j t) → In (e .from) seen)
-      → (ps : List ℕ) → ((p : ℕ) → In p ps → p < j .processors) → distinct ps ≡ true → (ds : List Outcome) → PlacedMost j b ds
-      → PlacedMost j (b + (l .runTime + l .volume * l .delay)) (walk j choose stops ds (copiesOf j t ps))
-  unfolding walk
-  apart-line b seen t ht new f ps below h ds m =
-      let r = line-placed 1 b (b + (1 * l .runTime + l .volume * l .delay)) seen t ht new f ps below (λ p. often-distinct p ps h) ds m (omega arith) []
-      (λ ds m d i. absurd i) in
-      rw (append-nil (copiesOf j t ps), one-mul (l .runTime)) at r
+  -- So do lines from the start.
+  pub lines-within : (w : ℕ) (ns : List Line) → Ordered j [] ns → Repeats w ns
+      → PlacedWithin j (length ns * (w * l .runTime + l .volume * l .delay)) (walk j choose stops [] (copies j ns))
+  lines-within w ns o h =
+      let b = length ns * (w * l .runTime + l .volume * l .delay) in
+      let e : 0 + b ≡ b = omega arith in
+      rw e at (walk-within w 0 [] ns o h [] (λ d i. absurd i))
 
 -- The replay, the early and the late finishes -----------------------------------------------------------------
 
 -- A processor is in a line as often as the line is wide, at most; once at most, where no task has two copies on it.
-pub repeats-width : (j : Job) (seen : List ℕ) (ns : List Line) → Ordered j seen ns → Repeats (j .losses + 1) ns
+repeats-width : (j : Job) (seen : List ℕ) (ns : List Line) → Ordered j seen ns → Repeats (j .losses + 1) ns
 repeats-width j seen (n ∷ ns) (o, os) x (inl e) p =
     let r = keep-length (λ q. eqb q p) (processorsOf n) in
     let w : length (processorsOf n) ≡ j .losses + 1 = length-map (n .replicas) (λ r. r .processor) ∙ o .width in
     rw (← e) (omega arith)
 repeats-width j seen (n ∷ ns) (o, os) x (inr i) p = repeats-width j (n .task ∷ seen) ns os x i p
 
-pub repeats-apart : (ns : List Line) → doubledTasks ns ≡ [] → Repeats 1 ns
-unfolding doubledTasks keep
-repeats-apart (n ∷ ns) h x i p = by (distinct (processorsOf n)) refl h i (λ h k. repeats-apart ns h x k p)
-  where
-    by : (b : Bool) → distinct (processorsOf n) ≡ b
-        → map (λ n. n .task) (if not b then n ∷ keep (λ n. not (distinct (processorsOf n))) ns else keep (λ n. not (distinct (processorsOf n))) ns) ≡ []
-        → (n ≡ x) ⊎ In x ns → (doubledTasks ns ≡ [] → In x ns → often p (processorsOf x) ≤ 1) → often p (processorsOf x) ≤ 1
-    by true e h (inl q) r = rw (← q) (often-distinct p (processorsOf n) e)
-    by true e h (inr i) r = r h i
-    by false e h i r = let z : _≡_ {A = ℕ} 0 1 = cc in absurd (omega arith)
+repeats-apart : (ns : List Line) → Apart ns → Repeats 1 ns
+repeats-apart ns h n i p = often-distinct p (processorsOf n) (h n i)
 
--- No tick of these outcomes passes b.
-abbrev pub TimesMost : ℕ → List Outcome → Type 0
-TimesMost b ds = (d : Outcome) → In d ds → AtMost b (d .time)
+-- The ends chosen among such outcomes.
+end-within : (j : Job) (b : ℕ) (choose : List Time → Time) → Bounded choose → (ds : List Outcome) → AllWithin b ds → Within b (end j choose ds)
+unfolding end ofTask
+end-within j b choose k ds h =
+    chosen-within b largest largest-within (λ t. choose (times (ofTask t ds))) (exits j)
+    (λ t i. chosen-within b choose k (λ d. d .time) (ofTask t ds) (λ d i. h d (in-keep (λ d. eqb (d .task) t) d ds i .0)))
 
--- Then none of the ticks that are chosen among those of a task, or of the exit tasks, does.
-pub task-most : (b : ℕ) (choose : List Time → Time) → Bounded choose → (t : ℕ) (ds : List Outcome) → TimesMost b ds → AtMost b (choose (times (ofTask t ds)))
-unfolding ofTask
-task-most b choose k t ds h = chosen-most b choose k (λ d. d .time) (ofTask t ds) (λ d i. h d (in-keep (λ d. eqb (d .task) t) d ds i .0))
+module _ (l : Limits) (j : Job) (jf : JobFacts l j) where
+  -- No tick passes the first bound where no line has a processor twice: n lines take n runs and n messages at most.
+  pub apart-within : (choose : List Time → Time) → Bounded choose → (ns : List Line) → Ordered j [] ns → Apart ns
+      → PlacedWithin j (length ns * (l .runTime + l .volume * l .delay)) (walk j choose [] [] (copies j ns))
+  apart-within choose k ns o h = rw (one-mul (l .runTime)) at (lines-within l j jf choose k [] 1 ns o (repeats-apart ns h))
 
-pub end-most : (j : Job) (b : ℕ) (choose : List Time → Time) → Bounded choose → (ds : List Outcome) → TimesMost b ds → AtMost b (end j choose ds)
-unfolding end
-end-most j b choose k ds h = chosen-most b largest largest-most (λ t. choose (times (ofTask t ds))) (exits j) (λ t i. task-most b choose k t ds h)
+  pub plan-bound : (n : ℕ) → n ≤ j .tasks → n * (l .runTime + l .volume * l .delay) ≤ planTicks l
+  plan-bound n h = mul-le-mul-right (l .runTime + l .volume * l .delay) (omega (arith, jf .tasks-most))
 
-pub first-most : (b t : ℕ) (ds : List Outcome) → TimesMost b ds → AtMost b (firstFinish t ds)
-unfolding firstFinish
-first-most b t ds h = task-most b least least-most t ds h
+  module _ (ns : List Line) (o : Ordered j [] ns) (c : length ns ≡ j .tasks) (h : Apart ns) where
+    plan-within : (choose : List Time → Time) → Bounded choose → AllWithin (planTicks l) (walk j choose [] [] (copies j ns))
+    plan-within choose k d i = weaker (d .time) (plan-bound (length ns) (omega arith)) (apart-within choose k ns o h d i .1)
 
-pub round-most : (j : Job) (b : ℕ) (ds : List Outcome) → TimesMost b ds → AtMost b (roundEnd j ds)
-unfolding roundEnd
-round-most j b ds h = end-most j b least least-most ds h
-
--- What no tick passes: in a replay of these lines; in the equations, where no task has two copies on one box.
-abbrev pub replayBound : Limits → Job → List Line → ℕ
-replayBound l j ns = length ns * ((j .losses + 1) * l .runTime + l .volume * l .delay)
-
-abbrev pub planBound : Limits → List Line → ℕ
-planBound l ns = length ns * (l .runTime + l .volume * l .delay)
-
-module _ (l : Limits) (j : Job) (ns : List Line) where
-  none-placed : PlacedMost j 0 []
-  none-placed d i = absurd i
-
-  pub replay-placed : (stops : List Stop) → JobFacts l j → Ordered j [] ns → PlacedMost j (replayBound l j ns) (replay j stops ns)
-  unfolding replay
-  replay-placed stops jf o =
-      let e : 0 + replayBound l j ns ≡ replayBound l j ns = omega arith in
-      rw e at (walk-most l j jf least least-most stops (j .losses + 1) 0 [] ns o (repeats-width j [] ns o) [] none-placed)
-
-  pub apart-placed : (choose : List Time → Time) → Bounded choose → (stops : List Stop) → JobFacts l j → Ordered j [] ns → doubledTasks ns ≡ []
-      → PlacedMost j (planBound l ns) (walk j choose stops [] (copies j ns))
-  apart-placed choose k stops jf o h =
-      let e : 0 + length ns * (1 * l .runTime + l .volume * l .delay) ≡ planBound l ns = rw (one-mul (l .runTime)) (omega arith) in
-      rw e at (walk-most l j jf choose k stops 1 0 [] ns o (repeats-apart ns h) [] none-placed)
-
-  -- No outcome of the replay passes its bound, no first finish of a task, and not the round's end.
-  module _ (stops : List Stop) (jf : JobFacts l j) (o : Ordered j [] ns) where
-    pub replay-most : TimesMost (replayBound l j ns) (replay j stops ns)
-    replay-most d i = replay-placed stops jf o d i .1
-
-    pub replay-first-most : (t : ℕ) → AtMost (replayBound l j ns) (firstFinish t (replay j stops ns))
-    replay-first-most t = first-most (replayBound l j ns) t (replay j stops ns) replay-most
-
-    pub replay-round-most : AtMost (replayBound l j ns) (roundEnd j (replay j stops ns))
-    replay-round-most = round-most j (replayBound l j ns) (replay j stops ns) replay-most
-
-  -- Where no task has two copies on one box, no early or late finish, M* or M passes the plan's bound, nor does a replay.
-  module _ (jf : JobFacts l j) (o : Ordered j [] ns) (h : doubledTasks ns ≡ []) where
-    pub apart-most : (choose : List Time → Time) → Bounded choose → (stops : List Stop) → TimesMost (planBound l ns) (walk j choose stops [] (copies j ns))
-    apart-most choose k stops d i = apart-placed choose k stops jf o h d i .1
-
-    pub earlies-most : TimesMost (planBound l ns) (earlies j ns)
+    pub earlies-within : AllWithin (planTicks l) (earlies j ns)
     unfolding earlies
-    earlies-most = apart-most least least-most []
+    earlies-within = plan-within least least-within
 
-    pub lates-most : TimesMost (planBound l ns) (lates j ns)
+    pub lates-within : AllWithin (planTicks l) (lates j ns)
     unfolding lates
-    lates-most = apart-most largest largest-most []
+    lates-within = plan-within largest largest-within
 
-    pub replay-apart-most : (stops : List Stop) → TimesMost (planBound l ns) (replay j stops ns)
-    unfolding replay
-    replay-apart-most = apart-most least least-most
-
-    pub best-most : AtMost (planBound l ns) (bestEnd j ns)
+    pub best-within : Within (planTicks l) (bestEnd j ns)
     unfolding bestEnd
-    best-most = end-most j (planBound l ns) least least-most (earlies j ns) earlies-most
+    best-within = end-within j (planTicks l) least least-within (earlies j ns) earlies-within
 
-    pub worst-most : AtMost (planBound l ns) (worstEnd j ns)
+    pub worst-within : Within (planTicks l) (worstEnd j ns)
     unfolding worstEnd
-    worst-most = end-most j (planBound l ns) largest largest-most (lates j ns) lates-most
+    worst-within = end-within j (planTicks l) largest largest-within (lates j ns) lates-within
 
--- The bounds for a whole plan ---------------------------------------------------------------------------------
-
-module _ (l : Limits) (j : Job) (ns : List Line) (jf : JobFacts l j) (count : length ns ≡ j .tasks) where
-  pub plan-bound : planBound l ns ≤ l .tasks * (l .runTime + l .volume * l .delay)
-  plan-bound = rw count (mul-le-mul-right (l .runTime + l .volume * l .delay) (jf .tasks-most))
-
-  pub replay-bound : replayBound l j ns ≤ l .tasks * ((l .losses + 1) * l .runTime + l .volume * l .delay)
-  replay-bound =
+  -- No tick of a replay passes the second.
+  pub replay-within : (stops : List Stop) (ns : List Line) → Ordered j [] ns → length ns ≡ j .tasks → AllWithin (replayTicks l) (replay j stops ns)
+  unfolding replay
+  replay-within stops ns o c d i =
       let w : (j .losses + 1) * l .runTime ≤ (l .losses + 1) * l .runTime = mul-le-mul-right (l .runTime) (omega (arith, jf .losses-most)) in
-      rw count (mul-le-mul (jf .tasks-most) (omega arith))
-
--- With the limits of document 01 they are these, and fit a plan's ticks.
-module _ (j : Job) (ns : List Line) (jf : JobFacts document01 j) (count : length ns ≡ j .tasks) where
-  pub plan-bound-01 : planBound document01 ns ≤ 521_277_375
-  plan-bound-01 = plan-bound document01 j ns jf count
-
-  pub replay-bound-01 : replayBound document01 j ns ≤ 2_306_277_375
-  replay-bound-01 = replay-bound document01 j ns jf count
-
-  -- No tick of an accepted plan passes the one, no tick of a replay the other.
-  pub plan-ticks-01 : Ordered j [] ns → doubledTasks ns ≡ []
-      → TimesMost 521_277_375 (earlies j ns) × TimesMost 521_277_375 (lates j ns) × AtMost 521_277_375 (bestEnd j ns)
-      × AtMost 521_277_375 (worstEnd j ns)
-      × ((stops : List Stop) → TimesMost 521_277_375 (replay j stops ns) × AtMost 521_277_375 (roundEnd j (replay j stops ns)))
-  plan-ticks-01 o h = (
-    λ d i. weaker-most plan-bound-01 (earlies-most document01 j ns jf o h d i),
-    λ d i. weaker-most plan-bound-01 (lates-most document01 j ns jf o h d i),
-    weaker-most plan-bound-01 (best-most document01 j ns jf o h),
-    weaker-most plan-bound-01 (worst-most document01 j ns jf o h),
-    λ stops.
-        let r : TimesMost 521_277_375 (replay j stops ns) = λ d i. weaker-most plan-bound-01 (replay-apart-most document01 j ns jf o h stops d i) in
-        (r, round-most j 521_277_375 (replay j stops ns) r),
-  )
-
-  pub replay-ticks-01 : Ordered j [] ns → (stops : List Stop)
-      → TimesMost 2_306_277_375 (replay j stops ns) × AtMost 2_306_277_375 (roundEnd j (replay j stops ns))
-  replay-ticks-01 o stops =
-      let r : TimesMost 2_306_277_375 (replay j stops ns) = λ d i. weaker-most replay-bound-01 (replay-most document01 j ns stops jf o d i) in
-      (r, round-most j 2_306_277_375 (replay j stops ns) r)
-
-pub bounds-fit : (521_277_375 ≤ document01 .tick) × (2_306_277_375 ≤ document01 .tick)
-bounds-fit = omega arith
+      weaker (d .time) (mul-le-mul (omega (arith, jf .tasks-most)) (omega arith))
+      (lines-within l j jf least least-within stops (j .losses + 1) ns o (repeats-width j [] ns o) d i .1)
 
 -- The planner's levels ----------------------------------------------------------------------------------------
 
@@ -450,9 +342,9 @@ nth-most [] i h = omega arith
 nth-most (x ∷ xs) zero h = h x (inl refl)
 nth-most (x ∷ xs) (suc i) h = nth-most xs i (λ y k. h y (inr k))
 
-tickOf-most : {b : ℕ} {x : Time} → AtMost b x → tickOf x ≤ b
-tickOf-most (reached h) = h
-tickOf-most undone = omega arith
+tickOf-most : (b : ℕ) (x : Time) → Within b x → tickOf x ≤ b
+tickOf-most b (tick x) h = h
+tickOf-most b never h = omega arith
 
 -- What a task adds to a bottom level at most.
 abbrev pub levelBound : Limits → Job → ℕ
@@ -542,71 +434,62 @@ module _ (l : Limits) (j : Job) (jf : JobFacts l j) where
   unfolding largestDelay
   largestDelay-most p h = greatest-most (delay j p) (below (j .processors)) (λ q i. jf .delay-most p q h (in-below (j .processors) q i))
 
-  pub top-most : (b : ℕ) (placed : List Outcome) (t : ℕ) → PlacedMost j b placed
+  top-most : (b : ℕ) (placed : List Outcome) (t : ℕ) → PlacedWithin j b placed
       → topLevel j placed t ≤ (b + l .volume * l .delay) * (j .processors * j .processors)
   unfolding topLevel incoming
-  top-most b placed t h = mul-le-mul (tickOf-most all-sent) (scale-most j)
+  top-most b placed t h = mul-le-mul (tickOf-most (b + l .volume * l .delay) (largest (map sent (incoming j t))) all-sent) (scale-most j)
     where
-      sent : (e : Edge) → In e (j .edges)
-          → AtMost (b + l .volume * l .delay) (least (map (λ d. after (e .volume * largestDelay j (d .processor)) (d .time)) (ofTask (e .from) placed)))
-      sent e i =
-          fed-most least least-most (λ p. e .volume * largestDelay j p) (e .from) placed λ d o q.
-          let (g, a) = h d o in
-          (mul-le-mul (jf .volume-most e i) (largestDelay-most (d .processor) g), a)
+      sent : Edge → Time
+      sent e = least (map (λ d. after (e .volume * largestDelay j (d .processor)) (d .time)) (ofTask (e .from) placed))
 
-      all-sent : AtMost (b + l .volume * l .delay)
-          (largest (map (λ e. least (map (λ d. after (e .volume * largestDelay j (d .processor)) (d .time)) (ofTask (e .from) placed))) (incoming j t)))
+      all-sent : Within (b + l .volume * l .delay) (largest (map sent (incoming j t)))
       all-sent =
-          chosen-most (b + l .volume * l .delay) largest largest-most
-          (λ e. least (map (λ d. after (e .volume * largestDelay j (d .processor)) (d .time)) (ofTask (e .from) placed)))
-          (incoming j t)
-          (λ e i. sent e (in-keep (λ e. eqb (e .to) t) e (j .edges) i .0))
+          chosen-within (b + l .volume * l .delay) largest largest-within sent (incoming j t) λ e i.
+          fed-within b (l .volume * l .delay) least least-within (λ p. e .volume * largestDelay j p) (e .from) placed λ d o q.
+          let (g, a) = h d o in
+          (mul-le-mul (jf .volume-most e (in-keep (λ e. eqb (e .to) t) e (j .edges) i .0)) (largestDelay-most (d .processor) g), a)
 
   -- A task's early finishes on all boxes.
-  pub trial-most : (b : ℕ) (placed : List Outcome) (t : ℕ) → t < j .tasks → PlacedMost j b placed
+  pub trial-most : (b : ℕ) (placed : List Outcome) (t : ℕ) → t < j .tasks → PlacedWithin j b placed
       → NumbersMost (b + (l .runTime + l .volume * l .delay)) (trial j placed t)
   unfolding trial
   trial-most b placed t ht h x i =
       let (c, o, e) = in-map (λ c. tickOf (finish j least [] placed c)) x (copiesOf j t (below (j .processors))) i in
       let (p, q, r) = in-map (λ p. record { task = t; processor = p; run = runTime j t p }) c (below (j .processors)) o in
-      rw (← e, ← r) (tickOf-most (on-box p (in-below (j .processors) p q)))
+      rw (← e, ← r) (on-box p (in-below (j .processors) p q))
     where
-      seen : List ℕ
-      seen = map (λ e. e .from) (incoming j t)
-
       on-box : (p : ℕ) → p < j .processors
-          → AtMost (b + (l .runTime + l .volume * l .delay)) (finish j least [] placed (record { task = t; processor = p; run = runTime j t p }))
+          → tickOf (finish j least [] placed (record { task = t; processor = p; run = runTime j t p })) ≤ b + (l .runTime + l .volume * l .delay)
       on-box p g =
-          let a : AtMost (b + (l .runTime + l .volume * l .delay)) (after (0 + l .runTime) (ready j p placed)) =
-          weaker-most (omega arith) (after-most (0 + l .runTime) (ready-most j p placed h)) in
-          before-most 0 (finish j least [] placed (record { task = t; processor = p; run = runTime j t p }))
-          (finish-most l j jf least least-most [] 0 seen placed t p (λ d i. let (u, v) = h d i in (u, λ k. v))
+          let c = b + (l .runTime + l .volume * l .delay) in
+          let x = finish j least [] placed (record { task = t; processor = p; run = runTime j t p }) in
+          let ready-soon = weaker {c = c} (after (0 + l .runTime) (ready j p placed)) (omega arith) (after-within b (0 + l .runTime) (ready j p placed) (ready-within j b p placed h)) in
+          let a = finish-within l j jf least least-within [] b c 0 (map (λ e. e .from) (incoming j t)) placed t p
+          (λ d i. let (u, v) = h d i in (u, λ _. v))
           (λ e i. map-in (λ e. e .from) e (incoming j t) i)
           ht
           g
           (omega arith)
-          a
-          )
+          ready-soon in
+          tickOf-most c x (before-within c 0 x a)
 
--- A waiting task's bottom level is one of those given.
-pub in-waiting : (k : ℕ) (w : Waiting) (xs : List ℕ) → In w (waitingFrom k xs) → In (w .bottom) xs
-unfolding waitingFrom
-in-waiting k w (x ∷ xs) (inl e) = inl (ap (λ w. w .bottom) e)
-in-waiting k w (x ∷ xs) (inr i) = inr (in-waiting (suc k) w xs i)
+  -- A waiting task's bottom level is one of those given.
+  in-waiting : (k : ℕ) (w : Waiting) (xs : List ℕ) → In w (waitingFrom k xs) → In (w .bottom) xs
+  unfolding waitingFrom
+  in-waiting k w (x ∷ xs) (inl e) = inl (ap (λ w. w .bottom) e)
+  in-waiting k w (x ∷ xs) (inr i) = inr (in-waiting (suc k) w xs i)
 
--- With the limits of document 01 a task's priority fits 64 bits.
-module _ (j : Job) (jf : JobFacts document01 j) where
-  pub levels-fit : (b t x : ℕ) (placed : List Outcome) → b ≤ document01 .tick → PlacedMost j b placed → In x (bottomLevels j)
-      → topLevel j placed t + x < 2 ^ 64
-  levels-fit b t x placed h m i =
-      let s : j .processors * j .processors ≤ 16 * 16 = mul-le-mul (jf .processors-most) (jf .processors-most) in
-      let top = top-most document01 j jf b placed t m in
-      let u : b + 1_044_225 ≤ 4_296_011_520 = omega arith in
-      let g : (b + 1_044_225) * (j .processors * j .processors) ≤ 4_296_011_520 * 256 = mul-le-mul u s in
-      let bottom = bottom-most document01 j jf x i in
-      omega arith
-
-  pub ranked-fits : (b k : ℕ) (w : Waiting) (placed : List Outcome) → b ≤ document01 .tick → PlacedMost j b placed
-      → In w (waitingFrom k (bottomLevels j)) → ranked j placed w .1 < 2 ^ 64
+  -- A task's priority, where no tick of what is placed passes b.
+  pub ranked-most : (b : ℕ) (placed : List Outcome) (w : Waiting) → b ≤ planTicks l → PlacedWithin j b placed → In w (waitingFrom 0 (bottomLevels j))
+      → ranked j placed w .1 ≤ l .processors * l .processors * (2 * planTicks l + l .volume * l .delay)
   unfolding ranked
-  ranked-fits b k w placed h m i = levels-fit b (w .task) (w .bottom) placed h m (in-waiting k w (bottomLevels j) i)
+  ranked-most b placed w h m i =
+      let own = j .processors * j .processors in
+      let most = l .processors * l .processors in
+      let v = l .volume * l .delay in
+      let few : own ≤ most = mul-le-mul (jf .processors-most) (jf .processors-most) in
+      let u : b + v ≤ planTicks l + v = omega arith in
+      let top : (b + v) * own ≤ (planTicks l + v) * most = mul-le-mul u few in
+      let bottom : l .tasks * (own * (l .runTime + v)) ≤ most * planTicks l = rw (mul-left-comm (l .tasks) own (l .runTime + v)) (mul-le-mul-right (planTicks l) few) in
+      let two : (planTicks l + v) * most + most * planTicks l ≡ most * (2 * planTicks l + v) = omega arith in
+      omega (arith, top-most b placed (w .task) m, bottom-most (w .bottom) (in-waiting 0 w (bottomLevels j) i))

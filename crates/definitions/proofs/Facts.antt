@@ -4,7 +4,7 @@ use mathlib.Core.List.{List, [], _∷_}
 use mathlib.Core.Bool.{Bool, true, false}
 use Prim.Native.Nat.{ℕ, _+_, _<_, _≤_}
 use lib.ListN.{length}
-use Rattle.definitions.specs.Lists.{In}
+use Rattle.definitions.specs.Lists.{In, distinct}
 use Rattle.definitions.specs.Limits.{Limits}
 use Rattle.definitions.specs.Job.{Edge, Job, runTime, delay, incoming, circular}
 use Rattle.definitions.specs.Plan.{Replica, Line, Plan, processorsOf, descends}
@@ -41,6 +41,10 @@ pub record LineFacts (j : Job) (seen : List ℕ) (n : Line) : Type 0 where
 abbrev pub Ordered : Job → List ℕ → List Line → Type 0
 Ordered j seen [] = Unit {0}
 Ordered j seen (n ∷ ns) = LineFacts j seen n × Ordered j (n .task ∷ seen) ns
+
+-- No line has a processor twice.
+abbrev pub Apart : List Line → Type 0
+Apart ns = (n : Line) → In n ns → distinct (processorsOf n) ≡ true
 
 -- A plan that was read for j.
 pub record PlanFacts (l : Limits) (j : Job) (p : Plan) : Type 0 where

@@ -17,7 +17,7 @@ use Rattle.definitions.specs.Times.{Time, tick, never, later, sooner, af
 use Rattle.definitions.specs.Refusals.{doubledTasks, ticksAgree, endsAgree, planRefusal}
 use Rattle.definitions.specs.Replay.{replay, firstFinish, roundEnd}
 use Rattle.definitions.proofs.Lists.{both, passed, append-left, append-right, in-map, map-in, in-any, in-keep, keep-in, has-not, in-below, spare, full}
-use Rattle.definitions.proofs.Facts.{Ordered, PlanFacts}
+use Rattle.definitions.proofs.Facts.{Ordered, Apart, PlanFacts}
 
 -- Between early and late --------------------------------------------------------------------------------------
 
@@ -262,7 +262,7 @@ none-kept f g xs h x i = by (g x) refl
     by true e = absurd (member (f x) (map f (keep g xs)) (map-in f x (keep g xs) (keep-in g x xs i e)) h)
     by false e = e
 
-same-time : (x y : Time) → same x y ≡ true → x ≡ y
+pub same-time : (x y : Time) → same x y ≡ true → x ≡ y
 same-time (tick x) (tick y) h = ap tick (eqb-true x y h)
 same-time (tick x) never h = absurd (true≢false (sym h))
 same-time never (tick y) h = absurd (true≢false (sym h))
@@ -270,7 +270,7 @@ same-time never never h = refl
 
 -- A plan with no number due: no line has a processor twice, its ticks are the equations', and so are M* and M.
 pub record AcceptedFacts (j : Job) (p : Plan) : Type 0 where
-  pub apart : (n : Line) → In n (p .lines) → distinct (processorsOf n) ≡ true
+  pub apart : Apart (p .lines)
   pub ticks : ticksAgree j (p .lines) ≡ true
   pub best-end : bestEnd j (p .lines) ≡ tick (p .best)
   pub worst-end : worstEnd j (p .lines) ≡ tick (p .worst)
@@ -302,7 +302,7 @@ lines-b j stops ns o c s = (
 
 -- Fewer stops than copies of a task: each line has a processor that does not stop.
 few-stops : (j : Job) (stops : List Stop) (ns : List Line) (seen : List ℕ) → Ordered j seen ns
-    → ((n : Line) → In n ns → distinct (processorsOf n) ≡ true) → length stops ≤ j .losses → Spared j stops ns
+    → Apart ns → length stops ≤ j .losses → Spared j stops ns
 few-stops j stops (m ∷ ns) seen (o, os) d few n (inl e) =
     let w : length (map (λ s. s .processor) stops) < length (processorsOf m) =
     omega (arith, length-map stops (λ s. s .processor), length-map (m .replicas) (λ r. r .processor), o .width) in

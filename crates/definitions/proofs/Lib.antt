@@ -11,3 +11,4 @@ pub mod Chosen
 pub mod Finishing
 pub mod Placing
 pub mod Bounds
+pub mod Claims

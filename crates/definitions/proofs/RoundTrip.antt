@@ -11,33 +11,15 @@ use lib.Dec.{ltb}
 use lib.ListN.{length, length-append}
 use borrow.Author.Tests.{lt-ltb, le-ltb, lt-leb, eq-eqb}
 use Rattle.definitions.specs.Lists.{bytes, In, any, has}
-use Rattle.definitions.specs.Limits.{Limits, document01}
-use Rattle.definitions.specs.Text.{found, Reader, firstOf, width, widthFrom, numbersText, lineText, lines, linesToEnd, good, whole}
+use Rattle.definitions.specs.Limits.{Limits}
+use Rattle.definitions.specs.Text.{found, Reader, firstOf, numbersText, lineText, lines, linesToEnd, good, whole}
 use Rattle.definitions.specs.Job.{Job, incoming, outside}
 use Rattle.definitions.specs.Plan.{Replica, Line, Plan, triples, planHeadOf, planHead, planHeadRule, strays, planLine, planLineRule, planLines, readPlan, replicaNumbers, planLinesText, planText}
 use Rattle.definitions.specs.Stops.{Stop, notAfter, stopLine, stopRule, readStops, stopsText}
+use Rattle.definitions.specs.Claims.{planTicks, fieldLength, lineLength, planLength, Roomy}
 use Rattle.definitions.proofs.Lists.{append-left, append-right, in-append, map-in, in-has, has-not, in-all}
 use Rattle.definitions.proofs.Facts.{JobFacts, LineFacts, Ordered, PlanFacts, Ascending}
 use Rattle.definitions.proofs.Decimal.{line-back, width-powers, width-monotone, length-none, length-numbers, length-line}
-
--- Every number of a text that is in range has no more digits than there are powers.
-pub record Sized (l : Limits) : Type 0 where
-  pub powers-least : 1 ≤ l .powers
-  pub powers-most : l .powers ≤ l .digits
-  pub tasks-sized : l .tasks < 10 ^ l .powers
-  pub processors-sized : l .processors < 10 ^ l .powers
-  pub losses-sized : l .losses < 10 ^ l .powers
-  pub tick-sized : l .tick < 10 ^ l .powers
-
-pub sized01 : Sized document01
-sized01 = record {
-  powers-least = omega arith;
-  powers-most = omega arith;
-  tasks-sized = omega arith;
-  processors-sized = omega arith;
-  losses-sized = omega arith;
-  tick-sized = omega arith;
-}
 
 -- Tests that are false ----------------------------------------------------------------------------------------
 
@@ -103,7 +85,7 @@ same-more seen before n (to, from) =
 abbrev headNumbers : Job → Plan → List ℕ
 headNumbers j p = j .tasks ∷ j .processors ∷ j .losses ∷ p .best ∷ p .worst ∷ []
 
-module _ (l : Limits) (sized : Sized l) (j : Job) (facts : JobFacts l j) where
+module _ (l : Limits) (roomy : Roomy l) (j : Job) (facts : JobFacts l j) where
   line-numbers : (seen : List ℕ) (n : Line) → LineFacts j seen n → Ticks (l .tick) n → (v : ℕ) → In v (n .task ∷ replicaNumbers (n .replicas)) → v < 10 ^ l .powers
   line-numbers seen n f ticks v (inl e) = omega (arith, f .task-below)
   line-numbers seen n f ticks v (inr i) =
@@ -115,7 +97,7 @@ module _ (l : Limits) (sized : Sized l) (j : Job) (facts : JobFacts l j) where
   plan-line-back seen n s f ticks =
       let vs : List ℕ = n .task ∷ replicaNumbers (n .replicas) in
       let k : 1 + 3 * (1 + j .losses) ≡ length vs = omega (arith, length-triples l (n .replicas), f .width) in
-      let r = line-back l (sized .powers-least) (sized .powers-most) (bytes "T,") vs s (line-numbers seen n f ticks) in
+      let r = line-back l (roomy .some-digit) (roomy .digits-read) (bytes "T,") vs s (line-numbers seen n f ticks) in
       rw (k, r, triples-back l (n .replicas))
 
   no-stray : (seen : List ℕ) (n : Line) → LineFacts j seen n → Ticks (l .tick) n → strays l j n ≡ false
@@ -156,7 +138,7 @@ module _ (l : Limits) (sized : Sized l) (j : Job) (facts : JobFacts l j) where
 
   plan-head-back : (p : Plan) (s : List ℕ) → PlanFacts l j p → planHead l (lineText l (bytes "PLAN,") (headNumbers j p) ++ s) ≡ found (planHeadOf (headNumbers j p)) s
   unfolding planHead
-  plan-head-back p s f = rw (line-back l (sized .powers-least) (sized .powers-most) (bytes "PLAN,") (headNumbers j p) s (head-numbers p f))
+  plan-head-back p s f = rw (line-back l (roomy .some-digit) (roomy .digits-read) (bytes "PLAN,") (headNumbers j p) s (head-numbers p f))
 
   plan-head-rule : (p : Plan) → PlanFacts l j p → planHeadRule l j (planHeadOf (headNumbers j p)) ≡ 0
   unfolding planHeadRule firstOf
@@ -182,10 +164,10 @@ fits : {A : Type 0} (l : Limits) (r : Reader A) (s : List ℕ) (a : A) → lengt
 fits l r s a h e = rw (le-ltb (l .textLength) (length s) h, e)
 
 -- A printed plan is read back.
-pub plan-back : (l : Limits) → Sized l → (j : Job) (p : Plan) → JobFacts l j → PlanFacts l j p → length (planText l j p) ≤ l .textLength
+pub plan-back : (l : Limits) → Roomy l → (j : Job) (p : Plan) → JobFacts l j → PlanFacts l j p → length (planText l j p) ≤ l .textLength
     → readPlan l j (planText l j p) ≡ good p
 unfolding readPlan
-plan-back l sized j p facts f h = fits l (planLines l j) (planText l j p) p h (plan-read l sized j facts p f)
+plan-back l roomy j p facts f h = fits l (planLines l j) (planText l j p) p h (plan-read l roomy j facts p f)
 
 -- Stops -------------------------------------------------------------------------------------------------------
 
@@ -203,14 +185,14 @@ last-more [] s = refl
 last-more (q ∷ []) s = refl
 last-more (q ∷ r ∷ ss) s = last-more (r ∷ ss) s
 
-module _ (l : Limits) (sized : Sized l) (j : Job) (facts : JobFacts l j) where
+module _ (l : Limits) (roomy : Roomy l) (j : Job) (facts : JobFacts l j) where
   stop-line-back : (s : Stop) (t : List ℕ) → s .processor < j .processors → s .tick ≤ l .tick
       → stopLine l (lineText l (bytes "S,") (s .processor ∷ s .tick ∷ []) ++ t) ≡ found s t
   unfolding stopLine
   stop-line-back s t h g =
       let vs : List ℕ = s .processor ∷ s .tick ∷ [] in
       let most : (v : ℕ) → In v vs → v < 10 ^ l .powers = λ v. ⊎-elim (λ e. omega arith) (⊎-elim (λ e. omega arith) absurd) in
-      rw (line-back l (sized .powers-least) (sized .powers-most) (bytes "S,") vs t most)
+      rw (line-back l (roomy .some-digit) (roomy .digits-read) (bytes "S,") vs t most)
 
   stop-rule : (low : ℕ) (before : List Stop) (s : Stop) → Past low (getLast? before) → low ≤ s .processor → s .processor < j .processors → s .tick ≤ l .tick
       → stopRule l j before s ≡ 0
@@ -232,69 +214,55 @@ module _ (l : Limits) (sized : Sized l) (j : Job) (facts : JobFacts l j) where
       rw (stop-line-back s (stopsText l ss) b c, stop-rule low before s past a b c, r, e)
 
 -- A printed stop list is read back.
-pub stops-back : (l : Limits) → Sized l → (j : Job) (ss : List Stop) → JobFacts l j → Ascending l j 0 ss → length (stopsText l ss) ≤ l .textLength
+pub stops-back : (l : Limits) → Roomy l → (j : Job) (ss : List Stop) → JobFacts l j → Ascending l j 0 ss → length (stopsText l ss) ≤ l .textLength
     → readStops l j (stopsText l ss) ≡ good ss
 unfolding readStops
-stops-back l sized j ss facts a h =
+stops-back l roomy j ss facts a h =
     fits l (linesToEnd (stopLine l) (stopRule l j) (length (stopsText l ss)) []) (stopsText l ss) ss h
-    (stop-lines-back l sized j facts (length (stopsText l ss)) 0 [] ss a tt (omega arith))
+    (stop-lines-back l roomy j facts (length (stopsText l ss)) 0 [] ss a tt (omega arith))
 
 -- Lengths -----------------------------------------------------------------------------------------------------
 
--- The most bytes of a replica, of a T line and of a plan whose ticks are at most `most`.
-unfoldable pub replicaLength : Limits → ℕ → ℕ
-replicaLength l most = width l (l .processors) + 1 + (width l most + 1) + (width l most + 1)
+-- A triple's bytes.
+abbrev tripleLength : Limits → ℕ
+tripleLength l = fieldLength l (l .processors) + fieldLength l (planTicks l) + fieldLength l (planTicks l)
 
-unfoldable pub lineLength : Limits → ℕ → ℕ
-lineLength l most = 2 + (width l (l .tasks) + 1) + (l .losses + 1) * replicaLength l most
+module _ (l : Limits) where
+  field-length : (n most : ℕ) (vs : List ℕ) → n ≤ most → length (numbersText l (n ∷ vs)) ≤ fieldLength l most + length (numbersText l vs)
+  field-length n most vs h = omega (arith, length-numbers l n vs, width-monotone l n most h)
 
-unfoldable pub headLength : Limits → ℕ → ℕ
-headLength l most = 5 + (width l (l .tasks) + 1) + (width l (l .processors) + 1) + (width l (l .losses) + 1) + (width l most + 1) + (width l most + 1)
-
-unfoldable pub planLength : Limits → ℕ → ℕ
-planLength l most = headLength l most + l .tasks * lineLength l most
-
-pub plan-length01 : planLength document01 521_277_375 ≤ document01 .textLength
-unfolding planLength headLength lineLength replicaLength width widthFrom
-plan-length01 = omega arith
-
-module _ (l : Limits) (most : ℕ) where
-  replicas-length : (rs : List Replica) → ((r : Replica) → In r rs → (r .processor ≤ l .processors) × (r .early ≤ most) × (r .late ≤ most))
-      → length (numbersText l (replicaNumbers rs)) ≤ length rs * replicaLength l most
-  unfolding replicaNumbers replicaLength
+  replicas-length : (rs : List Replica) → ((r : Replica) → In r rs → (r .processor ≤ l .processors) × (r .early ≤ planTicks l) × (r .late ≤ planTicks l))
+      → length (numbersText l (replicaNumbers rs)) ≤ length rs * tripleLength l
+  unfolding replicaNumbers
   replicas-length [] h = omega (arith, length-none l)
   replicas-length (r ∷ rs) h =
       let ns : List ℕ = replicaNumbers rs in
       let b = h r (inl refl) in
       omega (
         arith,
-        length-numbers l (r .processor) (r .early ∷ r .late ∷ ns),
-        width-monotone l (r .processor) (l .processors) (b .0),
-        length-numbers l (r .early) (r .late ∷ ns),
-        width-monotone l (r .early) most (b .1),
-        length-numbers l (r .late) ns,
-        width-monotone l (r .late) most (b .2),
+        field-length (r .processor) (l .processors) (r .early ∷ r .late ∷ ns) (b .0),
+        field-length (r .early) (planTicks l) (r .late ∷ ns) (b .1),
+        field-length (r .late) (planTicks l) ns (b .2),
         replicas-length rs (λ q i. h q (inr i)),
       )
 
   module _ (j : Job) (facts : JobFacts l j) where
-    plan-line-length : (seen : List ℕ) (n : Line) → LineFacts j seen n → Ticks most n
-        → length (lineText l (bytes "T,") (n .task ∷ replicaNumbers (n .replicas))) ≤ lineLength l most
+    plan-line-length : (seen : List ℕ) (n : Line) → LineFacts j seen n → Ticks (planTicks l) n
+        → length (lineText l (bytes "T,") (n .task ∷ replicaNumbers (n .replicas))) ≤ lineLength l
     unfolding lineLength
     plan-line-length seen n f ticks =
         let ns : List ℕ = replicaNumbers (n .replicas) in
-        let r = replicas-length (n .replicas) (λ r i. let q = in-range j most seen n f ticks r i in omega arith) in
+        let r = replicas-length (n .replicas) (λ r i. let q = in-range j (planTicks l) seen n f ticks r i in omega arith) in
         let w : length (n .replicas) ≤ l .losses + 1 = omega (arith, f .width) in
         omega (
           arith,
           length-line l (bytes "T,") (n .task ∷ ns),
-          length-numbers l (n .task) ns,
-          width-monotone l (n .task) (l .tasks) (omega (arith, f .task-below)),
-          mul-le-mul-right (replicaLength l most) w,
+          field-length (n .task) (l .tasks) ns (omega (arith, f .task-below)),
+          mul-le-mul-right (tripleLength l) w,
         )
 
-    plan-lines-length : (seen : List ℕ) (ns : List Line) → Ordered j seen ns → ((n : Line) → In n ns → Ticks most n)
-        → length (planLinesText l ns) ≤ length ns * lineLength l most
+    plan-lines-length : (seen : List ℕ) (ns : List Line) → Ordered j seen ns → ((n : Line) → In n ns → Ticks (planTicks l) n)
+        → length (planLinesText l ns) ≤ length ns * lineLength l
     unfolding planLinesText
     plan-lines-length seen [] o ticks = omega arith
     plan-lines-length seen (n ∷ ns) (f, fs) ticks =
@@ -305,28 +273,23 @@ module _ (l : Limits) (most : ℕ) where
           plan-lines-length (n .task ∷ seen) ns fs (λ m i. ticks m (inr i)),
         )
 
-    -- A printed plan is at most head + tasks × line bytes long.
-    pub plan-length : (p : Plan) → PlanFacts l j p → p .best ≤ most → p .worst ≤ most → ((n : Line) → In n (p .lines) → Ticks most n)
-        → length (planText l j p) ≤ planLength l most
-    unfolding planText planLength headLength
+    -- A printed plan of which no tick passes the bound is at most as long as the longest.
+    pub plan-length : (p : Plan) → PlanFacts l j p → p .best ≤ planTicks l → p .worst ≤ planTicks l → ((n : Line) → In n (p .lines) → Ticks (planTicks l) n)
+        → length (planText l j p) ≤ planLength l
+    unfolding planText planLength
     plan-length p f best worst ticks =
         let lines = rw (f .count) at (plan-lines-length [] (p .lines) (f .ordered) ticks) in
         omega (
           arith,
           length-append (lineText l (bytes "PLAN,") (headNumbers j p)) (planLinesText l (p .lines)),
           length-line l (bytes "PLAN,") (headNumbers j p),
-          length-numbers l (j .tasks) (j .processors ∷ j .losses ∷ p .best ∷ p .worst ∷ []),
-          width-monotone l (j .tasks) (l .tasks) (facts .tasks-most),
-          length-numbers l (j .processors) (j .losses ∷ p .best ∷ p .worst ∷ []),
-          width-monotone l (j .processors) (l .processors) (facts .processors-most),
-          length-numbers l (j .losses) (p .best ∷ p .worst ∷ []),
-          width-monotone l (j .losses) (l .losses) (facts .losses-most),
-          length-numbers l (p .best) (p .worst ∷ []),
-          width-monotone l (p .best) most best,
-          length-numbers l (p .worst) [],
-          width-monotone l (p .worst) most worst,
+          field-length (j .tasks) (l .tasks) (j .processors ∷ j .losses ∷ p .best ∷ p .worst ∷ []) (facts .tasks-most),
+          field-length (j .processors) (l .processors) (j .losses ∷ p .best ∷ p .worst ∷ []) (facts .processors-most),
+          field-length (j .losses) (l .losses) (p .best ∷ p .worst ∷ []) (facts .losses-most),
+          field-length (p .best) (planTicks l) (p .worst ∷ []) best,
+          field-length (p .worst) (planTicks l) [] worst,
           length-none l,
-          mul-le-mul-right (lineLength l most) (facts .tasks-most),
+          mul-le-mul-right (lineLength l) (facts .tasks-most),
         )
 
 -- A line of a stop list has at most 2 + 2 × (powers + 1) bytes.
@@ -355,11 +318,7 @@ pub stops-count : (l : Limits) (j : Job) (ss : List Stop) → Ascending l j 0 ss
 stops-count l j ss a = omega (arith, stops-above l j 0 ss (omega arith) a)
 
 -- So they fit where a line for each processor does.
-pub stops-fit : (l : Limits) → 1 ≤ l .powers → l .processors * (2 + 2 * (l .powers + 1)) ≤ l .textLength
-    → (j : Job) (ss : List Stop) → JobFacts l j → Ascending l j 0 ss → length (stopsText l ss) ≤ l .textLength
-stops-fit l least room j ss facts a =
+pub stops-fit : (l : Limits) → Roomy l → (j : Job) (ss : List Stop) → JobFacts l j → Ascending l j 0 ss → length (stopsText l ss) ≤ l .textLength
+stops-fit l roomy j ss facts a =
     let n : length ss ≤ l .processors = omega (arith, stops-count l j ss a) in
-    omega (arith, stops-length l least ss, mul-le-mul-right (2 + 2 * (l .powers + 1)) n)
-
-pub stops-room01 : document01 .processors * (2 + 2 * (document01 .powers + 1)) ≤ document01 .textLength
-stops-room01 = omega arith
+    omega (arith, stops-length l (roomy .some-digit) ss, mul-le-mul-right (2 + 2 * (l .powers + 1)) n)

@@ -1,17 +1,18 @@
 -- "The words of demand 3", and what is claimed of the definitions. proofs/ proves each claim.
 use mathlib.Core.Path.{_≡_}
-use mathlib.Core.List.{List, [], _∷_, map}
+use mathlib.Core.List.{List, [], _∷_, map, reverse}
 use mathlib.Core.Bool.{Bool, true, false}
-use Prim.Native.Nat.{ℕ, zero, suc, _≤_, _<_}
+use Prim.Native.Nat.{ℕ, zero, suc, _+_, _*_, _^_, _≤_, _<_}
 use lib.Dec.{eqb}
-use lib.ListN.{length}
+use lib.ListN.{length, take}
 use Rattle.definitions.specs.Lists.{if_then_else_, In, has}
 use Rattle.definitions.specs.Limits.{Limits, document01}
-use Rattle.definitions.specs.Text.{Result, good}
+use Rattle.definitions.specs.Text.{width, Result, good}
 use Rattle.definitions.specs.Job.{Job, readJob}
 use Rattle.definitions.specs.Plan.{Line, Plan, processorsOf, readPlan}
 use Rattle.definitions.specs.Stops.{Stop, readStops, stopsText}
-use Rattle.definitions.specs.Times.{Time, tick, never, exits}
+use Rattle.definitions.specs.Times.{Time, tick, never, Outcome, earlies, lates, exits}
+use Rattle.definitions.specs.Planner.{Waiting, waitingFrom, bottomLevels, ranked, trial, planFor}
 use Rattle.definitions.specs.Replay.{replay, firstFinish, roundEnd}
 use Rattle.definitions.specs.Tools.{accepted, doubled, verdict, planned}
 
@@ -32,7 +33,55 @@ halted ps = map (λ p. record { processor = p; tick = 0 }) ps
 abbrev pub haltingOf : ℕ → List Line → List Stop
 haltingOf t ns = halted (once (boxesOf t ns))
 
+-- A time does not pass b; no time of some outcomes does.
+abbrev pub Within : ℕ → Time → Type 0
+Within b (tick x) = x ≤ b
+Within b never = Unit {0}
+
+abbrev pub AllWithin : ℕ → List Outcome → Type 0
+AllWithin b ds = (d : Outcome) → In d ds → Within b (d .time)
+
+-- What the planner has placed after k lines of its plan, the newest first.
+abbrev pub placedAfter : Job → ℕ → List Outcome
+placedAfter j k = reverse (earlies j (take k (planFor j (j .losses) .lines)))
+
 module _ (l : Limits) where
+  -- "255 × 2,044,225": a run and a message for each task; and "255 × 9,044,225": ε + 1 runs and a message.
+  abbrev pub planTicks : ℕ
+  planTicks = l .tasks * (l .runTime + l .volume * l .delay)
+
+  abbrev pub replayTicks : ℕ
+  replayTicks = l .tasks * ((l .losses + 1) * l .runTime + l .volume * l .delay)
+
+  -- The most bytes of a printed number up to n and of the mark after it.
+  abbrev pub fieldLength : ℕ → ℕ
+  fieldLength n = width l n + 1
+
+  -- The most bytes of a T line: its task and ε + 1 triples.
+  unfoldable pub lineLength : ℕ
+  lineLength = 2 + fieldLength (l .tasks) + (l .losses + 1) * (fieldLength (l .processors) + fieldLength planTicks + fieldLength planTicks)
+
+  -- The most bytes of a plan: its head and a T line for each task.
+  unfoldable pub planLength : ℕ
+  planLength =
+      5 + fieldLength (l .tasks) + fieldLength (l .processors) + fieldLength (l .losses) + fieldLength planTicks + fieldLength planTicks
+      + l .tasks * lineLength
+
+  -- The limits leave room for what the tools print: every number in range has no more digits than are printed and read; a
+  -- stop line for each processor, and the longest plan, fit a text; the greatest tick of a plan is in range, and the
+  -- greatest priority of a task fits 64 bits.
+  pub record Roomy : Type 0 where
+    pub some-digit : 1 ≤ l .powers
+    pub digits-read : l .powers ≤ l .digits
+    pub task-digits : l .tasks < 10 ^ l .powers
+    pub processor-digits : l .processors < 10 ^ l .powers
+    pub losses-digits : l .losses < 10 ^ l .powers
+    pub tick-digits : l .tick < 10 ^ l .powers
+    pub stops-room : l .processors * (2 + 2 * (l .powers + 1)) ≤ l .textLength
+    pub plan-room : planLength ≤ l .textLength
+    pub tick-room : planTicks ≤ l .tick
+    pub level-room : l .processors * l .processors * (2 * planTicks + l .volume * l .delay) < 2 ^ 64
+
   -- A job, a plan and a stop list that were read.
   pub record Read (job plan stops : List ℕ) (j : Job) (p : Plan) (ss : List Stop) : Type 0 where
     pub job-read : readJob l job ≡ good j
@@ -41,7 +90,7 @@ module _ (l : Limits) where
 
   -- Every accepted plan keeps its promise: under every stop list of at most ε lines each task has a first finish, and
   -- the round ends between M* and M.
-  pub Kept : Type 0
+  abbrev pub Kept : Type 0
   Kept =
       (job plan stops : List ℕ) (j : Job) (p : Plan) (ss : List Stop) → Read job plan stops j p ss
       → verdict l job plan ≡ accepted → length ss ≤ j .losses
@@ -49,14 +98,14 @@ module _ (l : Limits) where
       × ((x : ℕ) × (roundEnd j (replay j ss (p .lines)) ≡ tick x) × (p .best ≤ x) × (x ≤ p .worst))
 
   -- With no stop it ends at M*.
-  pub Quiet : Type 0
+  abbrev pub Quiet : Type 0
   Quiet =
       (job plan stops : List ℕ) (j : Job) (p : Plan) → Read job plan stops j p [] → verdict l job plan ≡ accepted
       → roundEnd j (replay j [] (p .lines)) ≡ tick (p .best)
 
   -- Where 12 is due, for each task with two copies on one box: its boxes stopped at tick 0 are a well formed stop list
   -- of at most ε lines, and under it the task is undone, and so is the round if it is an exit task.
-  pub Doubled : Type 0
+  abbrev pub Doubled : Type 0
   Doubled =
       (job plan : List ℕ) (j : Job) (p : Plan) (ts : List ℕ) → readJob l job ≡ good j → readPlan l j plan ≡ good p
       → verdict l job plan ≡ doubled ts → (t : ℕ) → In t ts
@@ -66,5 +115,32 @@ module _ (l : Limits) where
       × (In t (exits j) → roundEnd j (replay j (haltingOf t (p .lines)) (p .lines)) ≡ never)
 
   -- The planner's own plans are accepted.
-  pub OwnAccepted : Type 0
+  abbrev pub OwnAccepted : Type 0
   OwnAccepted = (job : List ℕ) (j : Job) → readJob l job ≡ good j → verdict l job (planned l j) ≡ accepted
+
+  -- No tick of an accepted plan passes the first bound, and no tick of a replay the second, whatever stops.
+  abbrev pub TicksFit : Type 0
+  TicksFit =
+      (job plan : List ℕ) (j : Job) (p : Plan) → readJob l job ≡ good j → readPlan l j plan ≡ good p
+      → (verdict l job plan ≡ accepted → AllWithin planTicks (earlies j (p .lines)) × AllWithin planTicks (lates j (p .lines)))
+      × ((ss : List Stop) → AllWithin replayTicks (replay j ss (p .lines)))
+
+  -- Whatever the planner has placed, the priority of every task fits 64 bits; and while a task is left to be placed, no
+  -- finish that is tried passes the first bound.
+  abbrev pub LevelsFit : Type 0
+  LevelsFit =
+      (job : List ℕ) (j : Job) → readJob l job ≡ good j → (k : ℕ)
+      → ((w : Waiting) → In w (waitingFrom 0 (bottomLevels j)) → ranked j (placedAfter j k) w .1 < 2 ^ 64)
+      × (k < j .tasks → (t : ℕ) → t < j .tasks → (x : ℕ) → In x (trial j (placedAfter j k) t) → x ≤ planTicks)
+
+-- All of this is true with the limits of document 01, and the two bounds on ticks are those that it gives.
+abbrev pub Claim : Type 0
+Claim =
+    Kept document01
+    × Quiet document01
+    × Doubled document01
+    × OwnAccepted document01
+    × TicksFit document01
+    × LevelsFit document01
+    × (planTicks document01 ≡ 521_277_375)
+    × (replayTicks document01 ≡ 2_306_277_375)

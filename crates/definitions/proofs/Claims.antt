@@ -1,0 +1,240 @@
+-- The claims of specs/Claims.antt are true.
+use mathlib.Core.Path.{_≡_, refl, ap, ap₂, _∙_, sym}
+use mathlib.Core.Logic.{_⊎_, inl, inr, ⊎-elim}
+use mathlib.Core.List.{List, [], _∷_, _++_, map, reverse}
+use mathlib.Core.Bool.{Bool, true, false, false≢true}
+use Prim.Native.Nat.{ℕ, zero, suc, _+_, _*_, _^_, _<_, _≤_}
+use native.Mathlib.Omega.{arith}
+use native.Mathlib.Nat.{suc-mul}
+use lib.Dec.{eqb}
+use lib.ListN.{length, take, length-take}
+use borrow.Author.Tests.{eqb-true}
+use Rattle.definitions.specs.Lists.{if_then_else_, In}
+use Rattle.definitions.specs.Limits.{Limits, document01}
+use Rattle.definitions.specs.Text.{widthFrom, width, Result, good}
+use Rattle.definitions.specs.Job.{Job, readJob}
+use Rattle.definitions.specs.Plan.{Replica, Line, Plan, readPlan}
+use Rattle.definitions.specs.Stops.{Stop, readStops, stopsText}
+use Rattle.definitions.specs.Times.{Time, tick, same, least, largest, Outcome, times, walk, copies, earlies, lates, bestEnd, worstEnd}
+use Rattle.definitions.specs.Refusals.{doubledTasks, replicasOf, sameTimes, ticksAgree, planRefusal}
+use Rattle.definitions.specs.Planner.{Waiting, waitingFrom, bottomLevels, ranked, trial, planFor}
+use Rattle.definitions.specs.Tools.{Verdict, accepted, doubled, rejected, verdictOf, verdict, planned}
+use Rattle.definitions.specs.Claims.{haltingOf, Within, AllWithin, placedAfter, planTicks, replayTicks, lineLength, planLength, Roomy, Read, Kept, Quiet, Doubled, OwnAccepted, TicksFit, LevelsFit, Claim}
+use Rattle.definitions.proofs.Lists.{both, append-left, append-right, in-map, map-in}
+use Rattle.definitions.proofs.Facts.{JobFacts, Ordered, Apart, PlanFacts}
+use Rattle.definitions.proofs.Reading.{job-facts, plan-facts}
+use Rattle.definitions.proofs.Guarantee.{AcceptedFacts, accepted-facts, same-time, kept, quiet}
+use Rattle.definitions.proofs.Doubled.{doubled-undone}
+use Rattle.definitions.proofs.Circle.{free-task}
+use Rattle.definitions.proofs.Placing.{placed-count, placed-ordered, placed-accepted}
+use Rattle.definitions.proofs.Bounds.{least-within, PlacedWithin, apart-within, plan-bound, earlies-within, lates-within, best-within, worst-within, replay-within, trial-most, ranked-most}
+use Rattle.definitions.proofs.RoundTrip.{plan-back, plan-length, stops-back, stops-fit}
+use Rattle.definitions.proofs.Finishing.{in-reverse}
+
+-- The checker's answer ----------------------------------------------------------------------------------------
+
+module _ (l : Limits) (ns : List Line) (n : ℕ) where
+  -- It accepts only where no number is due, and names tasks only that are doubled.
+  accepted-due : verdictOf l ns n ≡ accepted → n ≡ 0
+  accepted-due h = by (eqb n 0) (eqb n 12) refl h
+    where
+      by : (a b : Bool) → eqb n 0 ≡ a → (if a then accepted else (if b then doubled (doubledTasks ns) else rejected n)) ≡ accepted → n ≡ 0
+      by true b e h = eqb-true n 0 e
+      by false true e h = let z : _≡_ {A = ℕ} 0 1 = cc in absurd (omega arith)
+      by false false e h = let z : _≡_ {A = ℕ} 0 1 = cc in absurd (omega arith)
+
+  doubled-due : (ts : List ℕ) → verdictOf l ns n ≡ doubled ts → doubledTasks ns ≡ ts
+  doubled-due ts h = by (eqb n 0) (eqb n 12) h
+    where
+      by : (a b : Bool) → (if a then accepted else (if b then doubled (doubledTasks ns) else rejected n)) ≡ doubled ts → doubledTasks ns ≡ ts
+      by true b h = let z : _≡_ {A = ℕ} 0 1 = cc in absurd (omega arith)
+      by false true h = cc
+      by false false h = let z : _≡_ {A = ℕ} 0 1 = cc in absurd (omega arith)
+
+module _ (l : Limits) (job plan : List ℕ) (j : Job) (p : Plan) (job-read : readJob l job ≡ good j) (plan-read : readPlan l j plan ≡ good p) where
+  -- Of texts that were read it is the answer to what they say.
+  verdict-read : verdict l job plan ≡ verdictOf l (p .lines) (planRefusal j p)
+  unfolding verdict
+  verdict-read = rw (job-read, plan-read)
+
+  none-due : verdict l job plan ≡ accepted → planRefusal j p ≡ 0
+  none-due h = accepted-due l (p .lines) (planRefusal j p) (rw verdict-read at h)
+
+-- Demand 3 ----------------------------------------------------------------------------------------------------
+
+pub kept-promise : (l : Limits) → Kept l
+kept-promise l job plan stops j p ss r h =
+    kept l j p ss (plan-facts l j plan p (r .plan-read)) (none-due l job plan j p (r .job-read) (r .plan-read) h)
+
+pub quiet-promise : (l : Limits) → Quiet l
+quiet-promise l job plan stops j p r h = quiet l j p (none-due l job plan j p (r .job-read) (r .plan-read) h)
+
+pub doubled-promise : (l : Limits) → Roomy l → Doubled l
+doubled-promise l roomy job plan j p ts job-read plan-read h t i =
+    let facts = job-facts l job j job-read in
+    let same : doubledTasks (p .lines) ≡ ts = doubled-due l (p .lines) (planRefusal j p) ts (rw (verdict-read l job plan j p job-read plan-read) at h) in
+    let (a, b, c, d) = doubled-undone l j p t facts (plan-facts l j plan p plan-read) (rw same i) in
+    (stops-back l roomy j (haltingOf t (p .lines)) facts a (stops-fit l roomy j (haltingOf t (p .lines)) facts a), b, c, d)
+
+-- Ticks -------------------------------------------------------------------------------------------------------
+
+pub ticks-fit : (l : Limits) → TicksFit l
+ticks-fit l job plan j p job-read plan-read =
+    let facts = job-facts l job j job-read in
+    let g = plan-facts l j plan p plan-read in
+    let apart : verdict l job plan ≡ accepted → Apart (p .lines) = λ h. accepted-facts j p (none-due l job plan j p job-read plan-read h) .apart in (
+      λ h. (earlies-within l j facts (p .lines) (g .ordered) (g .count) (apart h), lates-within l j facts (p .lines) (g .ordered) (g .count) (apart h)),
+      λ ss. replay-within l j facts ss (p .lines) (g .ordered) (g .count),
+    )
+
+-- The planner's own plans -------------------------------------------------------------------------------------
+
+same-times : (xs ys : List Time) → sameTimes xs ys ≡ true → xs ≡ ys
+unfolding sameTimes
+same-times [] [] h = refl
+same-times [] (y ∷ ys) h = absurd (false≢true h)
+same-times (x ∷ xs) [] h = absurd (false≢true h)
+same-times (x ∷ xs) (y ∷ ys) h =
+    let (p, q) = both (same x y) (sameTimes xs ys) h in
+    ap₂ _∷_ (same-time x y p) (same-times xs ys q)
+
+in-replicas : (n : Line) (r : Replica) (ns : List Line) → In n ns → In r (n .replicas) → In r (replicasOf ns)
+unfolding replicasOf
+in-replicas n r (m ∷ ns) (inl e) k = append-left r (m .replicas) (replicasOf ns) (rw e k)
+in-replicas n r (m ∷ ns) (inr i) k = append-right r (m .replicas) (replicasOf ns) (in-replicas n r ns i k)
+
+-- Ticks that are written as the equations give them pass no bound of the equations'.
+written-within : (b : ℕ) (written : Replica → ℕ) (ds : List Outcome) (ns : List Line)
+    → sameTimes (times ds) (map (λ r. tick (written r)) (replicasOf ns)) ≡ true → AllWithin b ds
+    → (n : Line) → In n ns → (r : Replica) → In r (n .replicas) → written r ≤ b
+written-within b written ds ns e h n i r k =
+    let all = replicasOf ns in
+    let here : In (tick (written r)) (times ds) =
+    rw (same-times (times ds) (map (λ r. tick (written r)) all) e) (map-in (λ r. tick (written r)) r all (in-replicas n r ns i k)) in
+    let (d, m, q) = in-map (λ d. d .time) (tick (written r)) ds here in
+    rw q at (h d m)
+
+module _ (l : Limits) (roomy : Roomy l) (j : Job) (facts : JobFacts l j) where
+  abbrev own : Plan
+  own = planFor j (j .losses)
+
+  own-due : planRefusal j own ≡ 0
+  own-due = placed-accepted l j facts (free-task j (facts .no-circle))
+
+  own-ordered : Ordered j [] (own .lines)
+  own-ordered = placed-ordered l j facts (free-task j (facts .no-circle))
+
+  own-count : length (own .lines) ≡ j .tasks
+  own-count = placed-count l j facts (free-task j (facts .no-circle))
+
+  own-apart : Apart (own .lines)
+  own-apart = accepted-facts j own own-due .apart
+
+  own-best : own .best ≤ planTicks l
+  own-best = rw (accepted-facts j own own-due .best-end) at (best-within l j facts (own .lines) own-ordered own-count own-apart)
+
+  own-worst : own .worst ≤ planTicks l
+  own-worst = rw (accepted-facts j own own-due .worst-end) at (worst-within l j facts (own .lines) own-ordered own-count own-apart)
+
+  own-ticks : (n : Line) → In n (own .lines) → (r : Replica) → In r (n .replicas) → (r .early ≤ planTicks l) × (r .late ≤ planTicks l)
+  unfolding ticksAgree
+  own-ticks n i r k =
+      let (e, f) = both _ _ (accepted-facts j own own-due .ticks) in (
+        written-within (planTicks l) (λ r. r .early) (earlies j (own .lines)) (own .lines) e (earlies-within l j facts (own .lines) own-ordered own-count own-apart) n i r k,
+        written-within (planTicks l) (λ r. r .late) (lates j (own .lines)) (own .lines) f (lates-within l j facts (own .lines) own-ordered own-count own-apart) n i r k,
+      )
+
+  -- So they are in range, and the plan can be read.
+  own-facts : PlanFacts l j own
+  own-facts =
+      record {
+        best-most = omega (arith, own-best);
+        worst-most = omega (arith, own-worst);
+        count = own-count;
+        ordered = own-ordered;
+        early-most = λ n i r k. omega (arith, own-ticks n i r k .0);
+        late-most = λ n i r k. omega (arith, own-ticks n i r k .1);
+      }
+
+  own-read : readPlan l j (planned l j) ≡ good own
+  unfolding planned
+  own-read = plan-back l roomy j own facts own-facts (omega (arith, plan-length l j facts own own-facts own-best own-worst own-ticks))
+
+pub own-accepted : (l : Limits) → Roomy l → OwnAccepted l
+own-accepted l roomy job j h =
+    let facts = job-facts l job j h in
+    verdict-read l job (planned l j) j (planFor j (j .losses)) h (own-read l roomy j facts) ∙ rw (own-due l roomy j facts)
+
+-- The planner's numbers ---------------------------------------------------------------------------------------
+
+in-take : {A : Type 0} (k : ℕ) (x : A) (xs : List A) → In x (take k xs) → In x xs
+in-take (suc k) x (y ∷ xs) (inl e) = inl e
+in-take (suc k) x (y ∷ xs) (inr i) = inr (in-take k x xs i)
+
+ordered-take : (j : Job) (k : ℕ) (seen : List ℕ) (ns : List Line) → Ordered j seen ns → Ordered j seen (take k ns)
+ordered-take j zero seen ns o = tt
+ordered-take j (suc k) seen [] o = tt
+ordered-take j (suc k) seen (n ∷ ns) (o, os) = (o, ordered-take j k (n .task ∷ seen) ns os)
+
+module _ (l : Limits) (roomy : Roomy l) (j : Job) (facts : JobFacts l j) (k : ℕ) where
+  -- How many lines there are after k.
+  abbrev count : ℕ
+  count = length (take k (planFor j (j .losses) .lines))
+
+  count-most : (count ≤ k) × (count ≤ j .tasks)
+  count-most = let e = length-take k (planFor j (j .losses) .lines) in omega (arith, own-count l roomy j facts)
+
+  after-within : PlacedWithin j (count * (l .runTime + l .volume * l .delay)) (placedAfter j k)
+  unfolding earlies
+  after-within d i =
+      let ns = planFor j (j .losses) .lines in
+      ⊎-elim
+      (apart-within l j facts least least-within (take k ns) (ordered-take j k [] ns (own-ordered l roomy j facts)) (λ n m. own-apart l roomy j facts n (in-take k n ns m)) d)
+      absurd
+      (in-reverse d (earlies j (take k ns)) [] i)
+
+  ranked-fits : (w : Waiting) → In w (waitingFrom 0 (bottomLevels j)) → ranked j (placedAfter j k) w .1 < 2 ^ 64
+  ranked-fits w i = omega (arith, roomy .level-room, ranked-most l j facts (count * (l .runTime + l .volume * l .delay)) (placedAfter j k) w (plan-bound l j facts count (count-most .1)) after-within i)
+
+  trial-fits : k < j .tasks → (t : ℕ) → t < j .tasks → (x : ℕ) → In x (trial j (placedAfter j k) t) → x ≤ planTicks l
+  trial-fits h t ht x i =
+      let s = l .runTime + l .volume * l .delay in
+      let more : suc count * s ≡ count * s + s = suc-mul count s in
+      omega (arith, trial-most l j facts (count * s) (placedAfter j k) t ht after-within x i, plan-bound l j facts (suc count) (omega (arith, count-most .0)))
+
+pub levels-fit : (l : Limits) → Roomy l → LevelsFit l
+levels-fit l roomy job j h k =
+    let facts = job-facts l job j h in (ranked-fits l roomy j facts k, trial-fits l roomy j facts k)
+
+-- With the limits of document 01 ------------------------------------------------------------------------------
+
+pub roomy01 : Roomy document01
+unfolding planLength lineLength width widthFrom
+roomy01 =
+    record {
+      some-digit = omega arith;
+      digits-read = omega arith;
+      task-digits = omega arith;
+      processor-digits = omega arith;
+      losses-digits = omega arith;
+      tick-digits = omega arith;
+      stops-room = omega arith;
+      plan-room = omega arith;
+      tick-room = omega arith;
+      level-room = omega arith;
+    }
+
+pub ticks01 : (planTicks document01 ≡ 521_277_375) × (replayTicks document01 ≡ 2_306_277_375)
+ticks01 = (refl, refl)
+
+pub claim : Claim
+claim = (
+  kept-promise document01,
+  quiet-promise document01,
+  doubled-promise document01 roomy01,
+  own-accepted document01 roomy01,
+  ticks-fit document01,
+  levels-fit document01 roomy01,
+  ticks01 .0,
+  ticks01 .1,
+)
