@@ -1,58 +1,19 @@
 -- The bottom levels of a job without a circle are as the document says, each from those of its successors.
-use mathlib.Core.Path.{_≡_, refl, ap, ap₂, _∙_, sym}
+use mathlib.Core.Path.{_≡_, refl, ap, _∙_, sym}
 use mathlib.Core.Logic.{_⊎_, inl, inr, ⊎-elim}
-use mathlib.Core.List.{List, [], _∷_, map}
-use mathlib.Core.Bool.{Bool, true, false, true≢false, false≢true}
+use mathlib.Core.List.{List, [], map}
+use mathlib.Core.Bool.{Bool, true, false, true≢false}
 use Prim.Native.Nat.{ℕ, zero, suc, _+_, _<_, _≤_}
 use native.Mathlib.Omega.{arith}
-use lib.Dec.{eqb}
 use lib.ListN.{length, length-map}
-use borrow.Author.Tests.{eqb-true}
-use Rattle.definitions.specs.Lists.{if_then_else_, In, nth, countFrom, below, sameNumbers, greatest}
+use Rattle.definitions.specs.Lists.{if_then_else_, In, nth, below, sameNumbers, greatest}
 use Rattle.definitions.specs.Limits.{Limits}
 use Rattle.definitions.specs.Job.{Edge, Job, outgoing, Circle}
 use Rattle.definitions.specs.Planner.{scaledRun, scaledMessage, raised, settled, bottomLevels}
-use Rattle.definitions.proofs.Lists.{both, in-keep, length-count, in-below}
+use Rattle.definitions.proofs.Lists.{map-same, each-or-one, length-count, in-below, same-numbers, nth-below}
 use Rattle.definitions.proofs.Facts.{JobFacts}
+use Rattle.definitions.proofs.Tasks.{in-outgoing}
 use Rattle.definitions.proofs.Circle.{Chain, stay, step, chain-circle, circle-seen}
-
--- Lists -------------------------------------------------------------------------------------------------------
-
--- Functions that agree on every member.
-pub map-same : {A B : Type 0} (f g : A → B) (xs : List A) → ((x : A) → In x xs → f x ≡ g x) → map f xs ≡ map g xs
-map-same f g [] h = refl
-map-same f g (x ∷ xs) h = ap₂ _∷_ (h x (inl refl)) (map-same f g xs (λ y i. h y (inr i)))
-
--- Either every member has the one, or some member has the other.
-pub each-or-one : {A : Type 0} (P Q : A → Type 0) (xs : List A) → ((x : A) → In x xs → P x ⊎ Q x) → ((x : A) → In x xs → P x) ⊎ ((x : A) × In x xs × Q x)
-each-or-one P Q [] h = inl (λ x i. absurd i)
-each-or-one {A = A} P Q (x ∷ xs) h = by (h x (inl refl)) (each-or-one P Q xs (λ y i. h y (inr i)))
-  where
-    by : P x ⊎ Q x → ((y : A) → In y xs → P y) ⊎ ((y : A) × In y xs × Q y)
-        → ((y : A) → (x ≡ y) ⊎ In y xs → P y) ⊎ ((y : A) × ((x ≡ y) ⊎ In y xs) × Q y)
-    by (inl p) (inl f) = inl (λ y. ⊎-elim (λ e. rw e at p) (f y))
-    by (inl p) (inr r) = inr (r .0, inr (r .1), r .2)
-    by (inr q) r = inr (x, inl refl, q)
-
-pub same-numbers : (xs ys : List ℕ) → sameNumbers xs ys ≡ true → xs ≡ ys
-unfolding sameNumbers
-same-numbers [] [] h = refl
-same-numbers [] (y ∷ ys) h = absurd (false≢true h)
-same-numbers (x ∷ xs) [] h = absurd (false≢true h)
-same-numbers (x ∷ xs) (y ∷ ys) h =
-    let (p, q) = both (eqb x y) (sameNumbers xs ys) h in
-    ap₂ _∷_ (eqb-true x y p) (same-numbers xs ys q)
-
--- Number i of the values of f at the n numbers from k on.
-nth-count : (f : ℕ → ℕ) (k n i : ℕ) → i < n → nth (map f (countFrom k n)) i ≡ f (k + i)
-unfolding countFrom
-nth-count f k zero i h = absurd (omega arith)
-nth-count f k (suc n) zero h = let e : k ≡ k + 0 = omega arith in ap f e
-nth-count f k (suc n) (suc i) h = let e : suc k + i ≡ k + suc i = omega arith in nth-count f (suc k) n i (omega arith) ∙ ap f e
-
--- Number i of the values of f at the numbers below n.
-pub nth-below : (f : ℕ → ℕ) (n i : ℕ) → i < n → nth (map f (below n)) i ≡ f i
-nth-below f n i h = let e : 0 + i ≡ i = omega arith in nth-count f 0 n i h ∙ ap f e
 
 -- Rounds ------------------------------------------------------------------------------------------------------
 
@@ -86,11 +47,6 @@ module _ (j : Job) where
       by true e r = same-numbers (raised j (rounds k)) (rounds k) e
       by false e r = r
 
-  -- An edge that leaves t is an edge, from t.
-  pub in-outgoing : (t : ℕ) (e : Edge) → In e (outgoing j t) → In e (j .edges) × (e .from ≡ t)
-  unfolding outgoing
-  in-outgoing t e i = let (k, q) = in-keep (λ e. eqb (e .from) t) e (j .edges) i in (k, eqb-true (e .from) t q)
-
   -- The level of a task is the same where those known for its successors are.
   level-same : (known others : List ℕ) (t : ℕ) → ((e : Edge) → In e (outgoing j t) → nth known (e .to) ≡ nth others (e .to))
       → levelFrom known t ≡ levelFrom others t
@@ -106,12 +62,12 @@ module _ (j : Job) where
   change b (suc n) t h =
       ⊎-elim
       (λ f. inl (raised-at (rounds (suc n)) t h ∙ level-same (rounds (suc n)) (rounds n) t f ∙ sym (raised-at (rounds n) t h)))
-      (λ r. let (k, q) = in-outgoing t (r .0) (r .1) in inr (step h (r .0) k q refl (r .2)))
+      (λ r. let (k, q) = in-outgoing j t (r .0) (r .1) in inr (step h (r .0) k q refl (r .2)))
       (each-or-one
       (λ e. nth (rounds (suc n)) (e .to) ≡ nth (rounds n) (e .to))
       (λ e. Chain (j .edges) (j .tasks) (e .to) n)
       (outgoing j t)
-      (λ e i. change b n (e .to) (b e (in-outgoing t e i .0))))
+      (λ e i. change b n (e .to) (b e (in-outgoing j t e i .0))))
 
   -- Without a circle the round after the last changes nothing.
   rounds-same : ((e : Edge) → In e (j .edges) → e .to < j .tasks) → (Circle j → ⊥) → 1 ≤ j .tasks

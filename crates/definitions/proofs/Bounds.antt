@@ -1,5 +1,5 @@
 -- No tick passes its bound: of the equations, of the replay, and of the planner's levels.
-use mathlib.Core.Path.{_≡_, refl, ap, _∙_}
+use mathlib.Core.Path.{_≡_, refl, ap, _∙_, sym}
 use mathlib.Core.Logic.{_⊎_, inl, inr, ⊎-elim}
 use mathlib.Core.List.{List, [], _∷_, _++_, map}
 use mathlib.Core.Bool.{Bool, true, false, not}
@@ -8,8 +8,8 @@ use native.Mathlib.Omega.{arith}
 use native.Mathlib.Nat.{suc-mul, one-mul, zero-mul, mul-le-mul, mul-le-mul-left, mul-le-mul-right, mul-assoc, mul-add, mul-left-comm, one-le-mul}
 use lib.Dec.{eqb, leb}
 use lib.ListN.{length, length-map}
-use borrow.Author.Tests.{eqb-true, eq-eqb, not-true}
-use Rattle.definitions.specs.Lists.{if_then_else_, nth, below, In, keep, has, any, distinct, sameNumbers, sum, greatest}
+use borrow.Author.Tests.{eqb-true, eq-eqb}
+use Rattle.definitions.specs.Lists.{if_then_else_, nth, below, In, keep, distinct, sameNumbers, sum, greatest}
 use Rattle.definitions.specs.Limits.{Limits}
 use Rattle.definitions.specs.Job.{Edge, Job, runTime, delay, incoming, outgoing}
 use Rattle.definitions.specs.Plan.{Line, processorsOf}
@@ -18,8 +18,9 @@ use Rattle.definitions.specs.Times.{Time, tick, never, later, sooner, af
 use Rattle.definitions.specs.Planner.{tickOf, Waiting, waitingFrom, scale, scaledRun, totalDelay, scaledMessage, raised, settled, bottomLevels, largestDelay, topLevel, ranked, trial}
 use Rattle.definitions.specs.Replay.{replay}
 use Rattle.definitions.specs.Claims.{Within, AllWithin, planTicks, replayTicks}
-use Rattle.definitions.proofs.Lists.{both, neither, in-map, map-in, in-keep, length-count, in-below}
-use Rattle.definitions.proofs.Facts.{JobFacts, Ordered, Apart}
+use Rattle.definitions.proofs.Lists.{in-map, map-in, in-keep, keep-length, fits, distinct-keep, length-count, in-below, NumbersMost, nth-most, sum-most, greatest-most}
+use Rattle.definitions.proofs.Facts.{JobFacts, Fed, Ordered, Apart}
+use Rattle.definitions.proofs.Tasks.{in-incoming, in-outgoing, in-task, copyOf}
 
 -- Times -------------------------------------------------------------------------------------------------------
 
@@ -85,15 +86,6 @@ copy-within b n u v (tick s) never d h a c = tt
 abbrev pub often : ℕ → List ℕ → ℕ
 often p ps = length (keep (λ q. eqb q p) ps)
 
-keep-length : {A : Type 0} (f : A → Bool) (xs : List A) → length (keep f xs) ≤ length xs
-unfolding keep
-keep-length f [] = omega arith
-keep-length f (x ∷ xs) = by (f x) (keep-length f xs)
-  where
-    by : (b : Bool) → length (keep f xs) ≤ length xs → length (if b then x ∷ keep f xs else keep f xs) ≤ suc (length xs)
-    by true h = omega arith
-    by false h = omega arith
-
 often-here : (p : ℕ) (ps : List ℕ) → often p (p ∷ ps) ≡ suc (often p ps)
 unfolding keep
 often-here p ps = rw (eq-eqb p p refl)
@@ -107,21 +99,10 @@ often-more q p ps = by (eqb p q)
     by false = omega arith
 
 -- Among different ones, once at most.
-often-absent : (p : ℕ) (ps : List ℕ) → has p ps ≡ false → often p ps ≡ 0
-unfolding keep any
-often-absent p [] h = refl
-often-absent p (q ∷ ps) h = let (a, c) = neither (eqb q p) (has p ps) h in rw a (often-absent p ps c)
-
 often-distinct : (p : ℕ) (ps : List ℕ) → distinct ps ≡ true → often p ps ≤ 1
-unfolding keep distinct
-often-distinct p [] h = omega arith
-often-distinct p (q ∷ ps) h =
-    let (a, c) = both (not (has q ps)) (distinct ps) h in
-    by (eqb q p) refl (not-true (has q ps) a) (often-distinct p ps c)
-  where
-    by : (b : Bool) → eqb q p ≡ b → has q ps ≡ false → often p ps ≤ 1 → length (if b then q ∷ keep (λ q. eqb q p) ps else keep (λ q. eqb q p) ps) ≤ 1
-    by true e a r = let z : often p ps ≡ 0 = often-absent p ps (rw (eqb-true q p e) at a) in omega arith
-    by false e a r = r
+often-distinct p ps d =
+    let it : ℕ → Bool = λ q. eqb q p in
+    fits (keep it ps) (p ∷ []) (distinct-keep it ps d) (λ q i. inl (sym (eqb-true q p (in-keep it q ps i .1))))
 
 -- The walk ----------------------------------------------------------------------------------------------------
 
@@ -150,11 +131,10 @@ ready-within j b p (d ∷ ds) h = by (eqb (d .processor) p) (ready-within j b p 
 fed-within : (b v : ℕ) (choose : List Time → Time) → Bounded choose → (w : ℕ → ℕ) (t : ℕ) (ds : List Outcome)
     → ((d : Outcome) → In d ds → d .task ≡ t → (w (d .processor) ≤ v) × Within b (d .time))
     → Within (b + v) (choose (map (λ d. after (w (d .processor)) (d .time)) (ofTask t ds)))
-unfolding ofTask
 fed-within b v choose k w t ds h =
     chosen-within (b + v) choose k (λ d. after (w (d .processor)) (d .time)) (ofTask t ds) λ d m.
-    let (o, e) = in-keep (λ d. eqb (d .task) t) d ds m in
-    let (u, a) = h d o (eqb-true (d .task) t e) in
+    let (o, e) = in-task t d ds m in
+    let (u, a) = h d o e in
     let n = w (d .processor) in
     weaker (after n (d .time)) (omega arith) (after-within b n (d .time) a)
 
@@ -171,12 +151,12 @@ module _ (l : Limits) (j : Job) (jf : JobFacts l j) (choose : List Time → Time
       let (g, a) = s d o in
       (mul-le-mul (jf .volume-most e i) (jf .delay-most (d .processor) p g h), a (rw q f))
 
-  data-within : (b : ℕ) (seen : List ℕ) (ds : List Outcome) (t p : ℕ) → SuppliedWithin j b seen ds → ((e : Edge) → In e (incoming j t) → In (e .from) seen)
+  data-within : (b : ℕ) (seen : List ℕ) (ds : List Outcome) (t p : ℕ) → SuppliedWithin j b seen ds → Fed j t seen
       → p < j .processors → Within (b + longest) (dataReady j choose ds t p)
-  unfolding dataReady incoming
+  unfolding dataReady
   data-within b seen ds t p s f h =
       chosen-within (b + longest) largest largest-within (arrival j choose ds p) (incoming j t)
-      (λ e i. arrival-within b seen ds p e s (in-keep (λ e. eqb (e .to) t) e (j .edges) i .0) (f e i) h)
+      (λ e i. arrival-within b seen ds p e s (in-incoming j t e i .0) (f e i) h)
 
 -- A processor's ready tick after one more copy, with the runs that are still to come in the line.
 next-ready : (j : Job) (c run q : ℕ) (ps : List ℕ) (ds : List Outcome) (d : Outcome) → Within c (after (often (d .processor) ps * run) (d .time))
@@ -191,14 +171,11 @@ next-ready j c run q ps ds d a h = by (eqb (d .processor) q) refl h
     by false e h = h
 
 module _ (l : Limits) (j : Job) (jf : JobFacts l j) (choose : List Time → Time) (k : Bounded choose) (stops : List Stop) where
-  abbrev copy : ℕ → ℕ → Copy
-  copy t p = record { task = t; processor = p; run = runTime j t p }
-
   -- A copy's finish, with the runs that are still to come on its processor in the line.
   finish-within : (b c n : ℕ) (seen : List ℕ) (ds : List Outcome) (t p : ℕ) → SuppliedWithin j b seen ds
-      → ((e : Edge) → In e (incoming j t) → In (e .from) seen) → t < j .tasks → p < j .processors
+      → Fed j t seen → t < j .tasks → p < j .processors
       → b + l .volume * l .delay + (n + l .runTime) ≤ c → Within c (after (n + l .runTime) (ready j p ds))
-      → Within c (after n (finish j choose stops ds (copy t p)))
+      → Within c (after n (finish j choose stops ds (copyOf j t p)))
   unfolding finish start
   finish-within b c n seen ds t p s f ht hp h a =
       let there = dataReady j choose ds t p in
@@ -206,7 +183,7 @@ module _ (l : Limits) (j : Job) (jf : JobFacts l j) (choose : List Time → Time
       (weaker (after (n + l .runTime) there) h (after-within (b + l .volume * l .delay) (n + l .runTime) there (data-within l j jf choose k b seen ds t p s f hp)))
 
   -- A line's copies, with the runs that are still to come, and what follows them.
-  line-runs : (b c g : ℕ) (seen : List ℕ) (t : ℕ) → t < j .tasks → (In t seen → ⊥) → ((e : Edge) → In e (incoming j t) → In (e .from) seen)
+  line-runs : (b c g : ℕ) (seen : List ℕ) (t : ℕ) → t < j .tasks → (In t seen → ⊥) → Fed j t seen
       → c ≤ g → (rest : List Copy) → ((ds : List Outcome) → PlacedWithin j c ds → PlacedWithin j g (walk j choose stops ds rest))
       → (ps : List ℕ) → ((p : ℕ) → In p ps → p < j .processors) → ((p : ℕ) → b + l .volume * l .delay + often p ps * l .runTime ≤ c)
       → (ds : List Outcome) → SuppliedWithin j b seen ds → PlacedWithin j c ds
@@ -218,9 +195,9 @@ module _ (l : Limits) (j : Job) (jf : JobFacts l j) (choose : List Time → Time
       let n = often p ps * l .runTime in
       let hp = below p (inl refl) in
       let e : often p (p ∷ ps) * l .runTime ≡ n + l .runTime = rw (often-here p ps) (suc-mul (often p ps) (l .runTime)) in
-      let x = finish j choose stops ds (copy t p) in
+      let x = finish j choose stops ds (copyOf j t p) in
       let a : Within c (after n x) = finish-within b c n seen ds t p s f ht hp (rw e at (h p)) (rw e at (r p)) in
-      let d : Outcome = outcome (copy t p) x in
+      let d : Outcome = outcome (copyOf j t p) x in
       let y : Within c x = before-within c n x a in
       let after-it = line-runs b c g seen t ht new f hg rest go ps (λ q i. below q (inr i))
       (λ q. let u = mul-le-mul-right (l .runTime) (often-more q p ps) in omega (arith, h q))
@@ -273,10 +250,10 @@ repeats-apart ns h n i p = often-distinct p (processorsOf n) (h n i)
 
 -- The ends chosen among such outcomes.
 end-within : (j : Job) (b : ℕ) (choose : List Time → Time) → Bounded choose → (ds : List Outcome) → AllWithin b ds → Within b (end j choose ds)
-unfolding end ofTask
+unfolding end
 end-within j b choose k ds h =
     chosen-within b largest largest-within (λ t. choose (times (ofTask t ds))) (exits j)
-    (λ t i. chosen-within b choose k (λ d. d .time) (ofTask t ds) (λ d i. h d (in-keep (λ d. eqb (d .task) t) d ds i .0)))
+    (λ t i. chosen-within b choose k (λ d. d .time) (ofTask t ds) (λ d i. h d (in-task t d ds i .0)))
 
 module _ (l : Limits) (j : Job) (jf : JobFacts l j) where
   -- No tick passes the first bound where no line has a processor twice: n lines take n runs and n messages at most.
@@ -316,31 +293,6 @@ module _ (l : Limits) (j : Job) (jf : JobFacts l j) where
       (lines-within l j jf least least-within stops (j .losses + 1) ns o (repeats-width j [] ns o) d i .1)
 
 -- The planner's levels ----------------------------------------------------------------------------------------
-
--- No member passes b.
-abbrev pub NumbersMost : ℕ → List ℕ → Type 0
-NumbersMost b xs = (x : ℕ) → In x xs → x ≤ b
-
-sum-most : {A : Type 0} {b : ℕ} (f : A → ℕ) (xs : List A) → ((x : A) → In x xs → f x ≤ b) → sum (map f xs) ≤ length xs * b
-unfolding sum
-sum-most f [] h = omega arith
-sum-most {b} f (x ∷ xs) h =
-    let r : sum (map f xs) ≤ length xs * b = sum-most f xs (λ y i. h y (inr i)) in
-    let g = h x (inl refl) in
-    rw (suc-mul (length xs) b) (omega arith)
-
-greatest-most : {A : Type 0} {b : ℕ} (f : A → ℕ) (xs : List A) → ((x : A) → In x xs → f x ≤ b) → greatest (map f xs) ≤ b
-unfolding greatest
-greatest-most f [] h = omega arith
-greatest-most f (x ∷ xs) h =
-    let r = greatest-most f xs (λ y i. h y (inr i)) in
-    let g = h x (inl refl) in
-    omega arith
-
-nth-most : {b : ℕ} (xs : List ℕ) (i : ℕ) → NumbersMost b xs → nth xs i ≤ b
-nth-most [] i h = omega arith
-nth-most (x ∷ xs) zero h = h x (inl refl)
-nth-most (x ∷ xs) (suc i) h = nth-most xs i (λ y k. h y (inr k))
 
 tickOf-most : (b : ℕ) (x : Time) → Within b x → tickOf x ≤ b
 tickOf-most b (tick x) h = h
@@ -397,10 +349,9 @@ module _ (l : Limits) (j : Job) (jf : JobFacts l j) where
   -- One round adds a task's part at most; so n rounds add n times as much.
   successor-most : {b : ℕ} (known : List ℕ) (t : ℕ) → NumbersMost b known
       → greatest (map (λ e. scaledMessage j e + nth known (e .to)) (outgoing j t)) ≤ j .processors * j .processors * (l .volume * l .delay) + b
-  unfolding outgoing
   successor-most known t h =
       greatest-most (λ e. scaledMessage j e + nth known (e .to)) (outgoing j t) λ e o.
-      let m = message-level e (in-keep (λ e. eqb (e .from) t) e (j .edges) o .0) in
+      let m = message-level e (in-outgoing j t e o .0) in
       let k = nth-most known (e .to) h in
       omega arith
 
@@ -436,7 +387,7 @@ module _ (l : Limits) (j : Job) (jf : JobFacts l j) where
 
   top-most : (b : ℕ) (placed : List Outcome) (t : ℕ) → PlacedWithin j b placed
       → topLevel j placed t ≤ (b + l .volume * l .delay) * (j .processors * j .processors)
-  unfolding topLevel incoming
+  unfolding topLevel
   top-most b placed t h = mul-le-mul (tickOf-most (b + l .volume * l .delay) (largest (map sent (incoming j t))) all-sent) (scale-most j)
     where
       sent : Edge → Time
@@ -447,7 +398,7 @@ module _ (l : Limits) (j : Job) (jf : JobFacts l j) where
           chosen-within (b + l .volume * l .delay) largest largest-within sent (incoming j t) λ e i.
           fed-within b (l .volume * l .delay) least least-within (λ p. e .volume * largestDelay j p) (e .from) placed λ d o q.
           let (g, a) = h d o in
-          (mul-le-mul (jf .volume-most e (in-keep (λ e. eqb (e .to) t) e (j .edges) i .0)) (largestDelay-most (d .processor) g), a)
+          (mul-le-mul (jf .volume-most e (in-incoming j t e i .0)) (largestDelay-most (d .processor) g), a)
 
   -- A task's early finishes on all boxes.
   pub trial-most : (b : ℕ) (placed : List Outcome) (t : ℕ) → t < j .tasks → PlacedWithin j b placed
@@ -455,14 +406,14 @@ module _ (l : Limits) (j : Job) (jf : JobFacts l j) where
   unfolding trial
   trial-most b placed t ht h x i =
       let (c, o, e) = in-map (λ c. tickOf (finish j least [] placed c)) x (copiesOf j t (below (j .processors))) i in
-      let (p, q, r) = in-map (λ p. record { task = t; processor = p; run = runTime j t p }) c (below (j .processors)) o in
+      let (p, q, r) = in-map (copyOf j t) c (below (j .processors)) o in
       rw (← e, ← r) (on-box p (in-below (j .processors) p q))
     where
       on-box : (p : ℕ) → p < j .processors
-          → tickOf (finish j least [] placed (record { task = t; processor = p; run = runTime j t p })) ≤ b + (l .runTime + l .volume * l .delay)
+          → tickOf (finish j least [] placed (copyOf j t p)) ≤ b + (l .runTime + l .volume * l .delay)
       on-box p g =
           let c = b + (l .runTime + l .volume * l .delay) in
-          let x = finish j least [] placed (record { task = t; processor = p; run = runTime j t p }) in
+          let x = finish j least [] placed (copyOf j t p) in
           let ready-soon = weaker {c = c} (after (0 + l .runTime) (ready j p placed)) (omega arith) (after-within b (0 + l .runTime) (ready j p placed) (ready-within j b p placed h)) in
           let a = finish-within l j jf least least-within [] b c 0 (map (λ e. e .from) (incoming j t)) placed t p
           (λ d i. let (u, v) = h d i in (u, λ _. v))

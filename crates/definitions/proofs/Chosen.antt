@@ -1,55 +1,26 @@
 -- The boxes that the planner chooses for a task: as many as are asked for, ascending, each once.
-use mathlib.Core.Path.{_≡_, refl, ap, _∙_}
+use mathlib.Core.Path.{_≡_, refl, _∙_}
 use mathlib.Core.Logic.{_⊎_, inl, inr, ⊎-elim}
 use mathlib.Core.List.{List, [], _∷_, map}
-use mathlib.Core.Bool.{Bool, true, false, not, _&&_, _||_}
+use mathlib.Core.Bool.{Bool, true, false, _&&_, _||_}
 use Prim.Native.Nat.{ℕ, zero, suc, _<_, _≤_}
 use native.Mathlib.Omega.{arith}
 use lib.Dec.{eqb, ltb}
-use lib.ListN.{length}
-use borrow.Author.Tests.{eqb-true, eqb-false, eq-eqb, not-true, ltb-true, ltb-false, lt-ltb, le-ltb}
-use Rattle.definitions.specs.Lists.{if_then_else_, In, nth, keep, has, distinct, countFrom, below}
+use lib.ListN.{length, length-map}
+use borrow.Author.Tests.{eqb-true, eqb-false, eq-eqb, ltb-true, ltb-false, lt-ltb, le-ltb}
+use Rattle.definitions.specs.Lists.{if_then_else_, In, nth, keep, distinct, countFrom, below}
 use Rattle.definitions.specs.Job.{Job}
 use Rattle.definitions.specs.Plan.{descends}
 use Rattle.definitions.specs.Planner.{goesBefore, chosen}
-use Rattle.definitions.proofs.Lists.{both, both-true, either, either-right, in-map, map-in, in-keep, keep-in, not-has, has-not, fits, full, length-count, in-count, in-below, below-in, distinct-count}
+use Rattle.definitions.proofs.Lists.{both, both-true, either, either-right, in-map, map-in, in-keep, keep-in, head-apart, fits, distinct-keep, distinct-map, full, length-count, in-count, in-below, below-in, distinct-count}
 
 -- Lists -------------------------------------------------------------------------------------------------------
-
-pub length-map : {A B : Type 0} (f : A → B) (xs : List A) → length (map f xs) ≡ length xs
-length-map f [] = refl
-length-map f (x ∷ xs) = ap suc (length-map f xs)
-
-pub distinct-keep : (f : ℕ → Bool) (xs : List ℕ) → distinct xs ≡ true → distinct (keep f xs) ≡ true
-unfolding distinct keep
-distinct-keep f [] d = refl
-distinct-keep f (x ∷ xs) d =
-    let (n, d′) = both (not (has x xs)) (distinct xs) d in
-    by (f x) (not-has x xs (not-true (has x xs) n)) (distinct-keep f xs d′)
-  where
-    by : (b : Bool) → (In x xs → ⊥) → distinct (keep f xs) ≡ true → distinct (if b then x ∷ keep f xs else keep f xs) ≡ true
-    by true n d = let e : has x (keep f xs) ≡ false = has-not x (keep f xs) (λ i. n (in-keep f x xs i .0)) in rw e d
-    by false n d = d
 
 -- What is kept is less than a list with the same members and one more, which is not kept.
 fewer : (f : ℕ → Bool) (x : ℕ) (xs ys : List ℕ) → distinct xs ≡ true → (f x ≡ true → ⊥) → In x ys
     → ((y : ℕ) → In y xs → f y ≡ true → In y ys) → length (keep f xs) < length ys
-unfolding distinct
 fewer f x xs ys d n i h =
-    let fresh : has x (keep f xs) ≡ false = has-not x (keep f xs) (λ k. n (in-keep f x xs k .1)) in
-    fits (x ∷ keep f xs) ys (rw fresh (distinct-keep f xs d)) (λ y. ⊎-elim (λ e. rw (← e) i) (λ k. let r = in-keep f y xs k in h y (r .0) (r .1)))
-
--- Images that differ where the members do are distinct.
-pub distinct-map : (f : ℕ → ℕ) (xs : List ℕ) → ((x y : ℕ) → In x xs → In y xs → f x ≡ f y → x ≡ y) → distinct xs ≡ true
-    → distinct (map f xs) ≡ true
-unfolding distinct
-distinct-map f [] h d = refl
-distinct-map f (x ∷ xs) h d =
-    let (n, d′) = both (not (has x xs)) (distinct xs) d in
-    let apart : In x xs → ⊥ = not-has x xs (not-true (has x xs) n) in
-    let fresh : has (f x) (map f xs) ≡ false =
-    has-not (f x) (map f xs) (λ i. let r = in-map f (f x) xs i in let e : r .0 ≡ x = h (r .0) x (inr (r .1)) (inl refl) (r .2) in apart (rw e at (r .1))) in
-    rw fresh (distinct-map f xs (λ y z i k. h y z (inr i) (inr k)) d′)
+    fits (x ∷ keep f xs) ys (head-apart x (keep f xs) (λ k. n (in-keep f x xs k .1)) (distinct-keep f xs d)) (λ y. ⊎-elim (λ e. rw (← e) i) (λ k. let r = in-keep f y xs k in h y (r .0) (r .1)))
 
 -- A number before others that are no less, which do not descend.
 ascends-cons : (p : ℕ) (ps : List ℕ) → ((q : ℕ) → In q ps → p ≤ q) → descends ps ≡ false → descends (p ∷ ps) ≡ false
@@ -159,7 +130,7 @@ module _ (j : Job) (finishes : List ℕ) where
       (full m (map rank boxes)
       (distinct-map rank boxes (λ p q i k. rank-apart p q (in-below m p i) (in-below m q k)) (distinct-count 0 m))
       (λ x i. let s = in-map rank x boxes i in let b = rank-below (s .0) (in-below m (s .0) (s .1)) in rw (s .2) at b)
-      (length-map rank boxes ∙ length-count 0 m)
+      (length-map boxes rank ∙ length-count 0 m)
       r h)
 
   pub chosen-count : (k : ℕ) → k ≤ j .processors → length (chosen j k finishes) ≡ k
@@ -180,7 +151,7 @@ module _ (j : Job) (finishes : List ℕ) where
       let s = ranks x (omega arith) in
       let t : rank (s .0) < k = omega (arith, s .2) in
       rw (s .2) at (map-in rank (s .0) kept (keep-in few (s .0) boxes (s .1) (lt-ltb (rank (s .0)) k t)))) in
-      omega (arith, length-map rank kept, length-count 0 k)
+      omega (arith, length-map kept rank, length-count 0 k)
 
   pub chosen-below : (k p : ℕ) → In p (chosen j k finishes) → p < j .processors
   unfolding chosen

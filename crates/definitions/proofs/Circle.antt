@@ -10,8 +10,8 @@ use lib.ListN.{length}
 use borrow.Author.Tests.{eqb-true, eq-eqb, not-true, not-false}
 use Rattle.definitions.specs.Lists.{In, any, has, empty, distinct, below}
 use Rattle.definitions.specs.Job.{Edge, Job, incoming, preceded, remaining, circular, Path, one, more, Circle}
-use Rattle.definitions.proofs.Lists.{both, both-true, any-in, in-any, none-in, in-keep, keep-in, has-in, in-has, not-has, fits, length-count, in-below, below-in}
-use Rattle.definitions.proofs.Facts.{FreeTask}
+use Rattle.definitions.proofs.Lists.{both, both-true, some-in, in-some, any-in, in-any, none-in, in-keep, keep-in, has-in, in-has, not-has, fits, length-count, in-below, below-in}
+use Rattle.definitions.proofs.Tasks.{in-incoming}
 
 -- Chains ------------------------------------------------------------------------------------------------------
 
@@ -121,18 +121,11 @@ module _ (es : List Edge) where
 module _ (j : Job) where
   circular-in : circular j ≡ true → (t : ℕ) × In t (remaining (j .tasks) (j .edges) (below (j .tasks)))
   unfolding circular
-  circular-in h = by (remaining (j .tasks) (j .edges) (below (j .tasks))) (not-true (empty (remaining (j .tasks) (j .edges) (below (j .tasks)))) h)
-    where
-      by : (ts : List ℕ) → empty ts ≡ false → (t : ℕ) × In t ts
-      by [] h = absurd (true≢false h)
-      by (t ∷ ts) h = (t, inl refl)
+  circular-in h = some-in (remaining (j .tasks) (j .edges) (below (j .tasks))) (not-true (empty (remaining (j .tasks) (j .edges) (below (j .tasks)))) h)
 
   in-circular : (t : ℕ) → In t (remaining (j .tasks) (j .edges) (below (j .tasks))) → circular j ≡ true
   unfolding circular
-  in-circular t i = by (remaining (j .tasks) (j .edges) (below (j .tasks))) i
-    where
-      by : (ts : List ℕ) → In t ts → not (empty ts) ≡ true
-      by (t ∷ ts) i = refl
+  in-circular t i = ap not (in-some t (remaining (j .tasks) (j .edges) (below (j .tasks))) i)
 
   -- Where the test is true there is a circle.
   pub circle-found : circular j ≡ true → Circle j
@@ -166,15 +159,15 @@ module _ (j : Job) where
   held us t = any (λ e. has (e .from) us) (incoming j t)
 
   -- Without a circle, of any tasks of the job there is one that none of them precedes.
-  pub free-task : circular j ≡ false → FreeTask j
-  unfolding incoming
+  pub free-task : circular j ≡ false → (us : List ℕ) → ((u : ℕ) → In u us → u < j .tasks) → (u : ℕ) → In u us
+      → (t : ℕ) × In t us × ((e : Edge) → In e (incoming j t) → In (e .from) us → ⊥)
   free-task h us b u i = by (any (λ t. not (held us t)) us) refl
     where
       before : any (λ t. not (held us t)) us ≡ false → (u : ℕ) → In u us → (e : Edge) × In e (j .edges) × (e .to ≡ u) × In (e .from) us
       before f u i =
           let (e, m, g) = any-in (λ e. has (e .from) us) (incoming j u) (not-false (held us u) (none-in (λ t. not (held us t)) u us f i)) in
-          let (k, q) = in-keep (λ e. eqb (e .to) u) e (j .edges) m in
-          (e, k, eqb-true (e .to) u q, has-in (e .from) us g)
+          let (k, q) = in-incoming j u e m in
+          (e, k, q, has-in (e .from) us g)
 
       by : (f : Bool) → any (λ t. not (held us t)) us ≡ f → (t : ℕ) × In t us × ((e : Edge) → In e (incoming j t) → In (e .from) us → ⊥)
       by true f =

@@ -1,8 +1,8 @@
 -- The claims of specs/Claims.antt are true.
-use mathlib.Core.Path.{_≡_, refl, ap, ap₂, _∙_, sym}
+use mathlib.Core.Path.{_≡_, refl, _∙_}
 use mathlib.Core.Logic.{_⊎_, inl, inr, ⊎-elim}
-use mathlib.Core.List.{List, [], _∷_, _++_, map, reverse}
-use mathlib.Core.Bool.{Bool, true, false, false≢true}
+use mathlib.Core.List.{List, [], _∷_, map}
+use mathlib.Core.Bool.{Bool, true, false}
 use Prim.Native.Nat.{ℕ, zero, suc, _+_, _*_, _^_, _<_, _≤_}
 use native.Mathlib.Omega.{arith}
 use native.Mathlib.Nat.{suc-mul}
@@ -11,25 +11,22 @@ use lib.ListN.{length, take, length-take}
 use borrow.Author.Tests.{eqb-true}
 use Rattle.definitions.specs.Lists.{if_then_else_, In}
 use Rattle.definitions.specs.Limits.{Limits, document01}
-use Rattle.definitions.specs.Text.{widthFrom, width, Result, good}
+use Rattle.definitions.specs.Text.{widthFrom, width, good}
 use Rattle.definitions.specs.Job.{Job, readJob}
 use Rattle.definitions.specs.Plan.{Replica, Line, Plan, readPlan}
-use Rattle.definitions.specs.Stops.{Stop, readStops, stopsText}
-use Rattle.definitions.specs.Times.{Time, tick, same, least, largest, Outcome, times, walk, copies, earlies, lates, bestEnd, worstEnd}
+use Rattle.definitions.specs.Times.{tick, same, least, Outcome, times, earlies, lates}
 use Rattle.definitions.specs.Refusals.{doubledTasks, replicasOf, sameTimes, ticksAgree, planRefusal}
 use Rattle.definitions.specs.Planner.{Waiting, waitingFrom, bottomLevels, ranked, trial, planFor}
-use Rattle.definitions.specs.Tools.{Verdict, accepted, doubled, rejected, verdictOf, verdict, planned}
-use Rattle.definitions.specs.Claims.{haltingOf, Within, AllWithin, placedAfter, planTicks, replayTicks, lineLength, planLength, Roomy, Read, Kept, Quiet, Doubled, OwnAccepted, TicksFit, LevelsFit, Claim}
-use Rattle.definitions.proofs.Lists.{both, append-left, append-right, in-map, map-in}
-use Rattle.definitions.proofs.Facts.{JobFacts, Ordered, Apart, PlanFacts}
+use Rattle.definitions.specs.Tools.{accepted, doubled, rejected, verdictOf, verdict, planned}
+use Rattle.definitions.specs.Claims.{haltingOf, AllWithin, placedAfter, planTicks, replayTicks, lineLength, planLength, Roomy, Kept, Quiet, Doubled, OwnAccepted, TicksFit, LevelsFit, Claim}
+use Rattle.definitions.proofs.Lists.{both, append-left, append-right, in-map, map-in, in-reverse, in-take}
+use Rattle.definitions.proofs.Facts.{JobFacts, Ordered, Apart, Ticks, PlanFacts}
 use Rattle.definitions.proofs.Reading.{job-facts, plan-facts}
-use Rattle.definitions.proofs.Guarantee.{AcceptedFacts, accepted-facts, same-time, kept, quiet}
+use Rattle.definitions.proofs.Guarantee.{accepted-facts, same-times, kept, quiet}
 use Rattle.definitions.proofs.Doubled.{doubled-undone}
-use Rattle.definitions.proofs.Circle.{free-task}
 use Rattle.definitions.proofs.Placing.{placed-count, placed-ordered, placed-accepted}
 use Rattle.definitions.proofs.Bounds.{least-within, PlacedWithin, apart-within, plan-bound, earlies-within, lates-within, best-within, worst-within, replay-within, trial-most, ranked-most}
 use Rattle.definitions.proofs.RoundTrip.{plan-back, plan-length, stops-back, stops-fit}
-use Rattle.definitions.proofs.Finishing.{in-reverse}
 
 -- The checker's answer ----------------------------------------------------------------------------------------
 
@@ -67,7 +64,7 @@ kept-promise l job plan stops j p ss r h =
     kept l j p ss (plan-facts l j plan p (r .plan-read)) (none-due l job plan j p (r .job-read) (r .plan-read) h)
 
 pub quiet-promise : (l : Limits) → Quiet l
-quiet-promise l job plan stops j p r h = quiet l j p (none-due l job plan j p (r .job-read) (r .plan-read) h)
+quiet-promise l job plan stops j p r h = quiet j p (none-due l job plan j p (r .job-read) (r .plan-read) h)
 
 pub doubled-promise : (l : Limits) → Roomy l → Doubled l
 doubled-promise l roomy job plan j p ts job-read plan-read h t i =
@@ -89,15 +86,6 @@ ticks-fit l job plan j p job-read plan-read =
 
 -- The planner's own plans -------------------------------------------------------------------------------------
 
-same-times : (xs ys : List Time) → sameTimes xs ys ≡ true → xs ≡ ys
-unfolding sameTimes
-same-times [] [] h = refl
-same-times [] (y ∷ ys) h = absurd (false≢true h)
-same-times (x ∷ xs) [] h = absurd (false≢true h)
-same-times (x ∷ xs) (y ∷ ys) h =
-    let (p, q) = both (same x y) (sameTimes xs ys) h in
-    ap₂ _∷_ (same-time x y p) (same-times xs ys q)
-
 in-replicas : (n : Line) (r : Replica) (ns : List Line) → In n ns → In r (n .replicas) → In r (replicasOf ns)
 unfolding replicasOf
 in-replicas n r (m ∷ ns) (inl e) k = append-left r (m .replicas) (replicasOf ns) (rw e k)
@@ -114,18 +102,18 @@ written-within b written ds ns e h n i r k =
     let (d, m, q) = in-map (λ d. d .time) (tick (written r)) ds here in
     rw q at (h d m)
 
-module _ (l : Limits) (roomy : Roomy l) (j : Job) (facts : JobFacts l j) where
+module _ (l : Limits) (j : Job) (facts : JobFacts l j) where
   abbrev own : Plan
   own = planFor j (j .losses)
 
   own-due : planRefusal j own ≡ 0
-  own-due = placed-accepted l j facts (free-task j (facts .no-circle))
+  own-due = placed-accepted l j facts
 
   own-ordered : Ordered j [] (own .lines)
-  own-ordered = placed-ordered l j facts (free-task j (facts .no-circle))
+  own-ordered = placed-ordered l j facts
 
   own-count : length (own .lines) ≡ j .tasks
-  own-count = placed-count l j facts (free-task j (facts .no-circle))
+  own-count = placed-count l j facts
 
   own-apart : Apart (own .lines)
   own-apart = accepted-facts j own own-due .apart
@@ -136,7 +124,7 @@ module _ (l : Limits) (roomy : Roomy l) (j : Job) (facts : JobFacts l j) where
   own-worst : own .worst ≤ planTicks l
   own-worst = rw (accepted-facts j own own-due .worst-end) at (worst-within l j facts (own .lines) own-ordered own-count own-apart)
 
-  own-ticks : (n : Line) → In n (own .lines) → (r : Replica) → In r (n .replicas) → (r .early ≤ planTicks l) × (r .late ≤ planTicks l)
+  own-ticks : (n : Line) → In n (own .lines) → Ticks (planTicks l) n
   unfolding ticksAgree
   own-ticks n i r k =
       let (e, f) = both _ _ (accepted-facts j own own-due .ticks) in (
@@ -145,56 +133,52 @@ module _ (l : Limits) (roomy : Roomy l) (j : Job) (facts : JobFacts l j) where
       )
 
   -- So they are in range, and the plan can be read.
-  own-facts : PlanFacts l j own
-  own-facts =
-      record {
-        best-most = omega (arith, own-best);
-        worst-most = omega (arith, own-worst);
-        count = own-count;
-        ordered = own-ordered;
-        early-most = λ n i r k. omega (arith, own-ticks n i r k .0);
-        late-most = λ n i r k. omega (arith, own-ticks n i r k .1);
-      }
+  module _ (roomy : Roomy l) where
+    own-facts : PlanFacts l j own
+    own-facts =
+        record {
+          best-most = omega (arith, own-best);
+          worst-most = omega (arith, own-worst);
+          count = own-count;
+          ordered = own-ordered;
+          ticks-most = λ n i r k. omega (arith, own-ticks n i r k);
+        }
 
-  own-read : readPlan l j (planned l j) ≡ good own
-  unfolding planned
-  own-read = plan-back l roomy j own facts own-facts (omega (arith, plan-length l j facts own own-facts own-best own-worst own-ticks))
+    own-read : readPlan l j (planned l j) ≡ good own
+    unfolding planned
+    own-read = plan-back l roomy j own facts own-facts (omega (arith, plan-length l j facts own own-facts own-best own-worst own-ticks))
 
 pub own-accepted : (l : Limits) → Roomy l → OwnAccepted l
 own-accepted l roomy job j h =
     let facts = job-facts l job j h in
-    verdict-read l job (planned l j) j (planFor j (j .losses)) h (own-read l roomy j facts) ∙ rw (own-due l roomy j facts)
+    verdict-read l job (planned l j) j (planFor j (j .losses)) h (own-read l j facts roomy) ∙ rw (own-due l j facts)
 
 -- The planner's numbers ---------------------------------------------------------------------------------------
-
-in-take : {A : Type 0} (k : ℕ) (x : A) (xs : List A) → In x (take k xs) → In x xs
-in-take (suc k) x (y ∷ xs) (inl e) = inl e
-in-take (suc k) x (y ∷ xs) (inr i) = inr (in-take k x xs i)
 
 ordered-take : (j : Job) (k : ℕ) (seen : List ℕ) (ns : List Line) → Ordered j seen ns → Ordered j seen (take k ns)
 ordered-take j zero seen ns o = tt
 ordered-take j (suc k) seen [] o = tt
 ordered-take j (suc k) seen (n ∷ ns) (o, os) = (o, ordered-take j k (n .task ∷ seen) ns os)
 
-module _ (l : Limits) (roomy : Roomy l) (j : Job) (facts : JobFacts l j) (k : ℕ) where
-  -- How many lines there are after k.
+module _ (l : Limits) (j : Job) (facts : JobFacts l j) (k : ℕ) where
+  -- What is placed after k lines, and how many there are.
   abbrev count : ℕ
   count = length (take k (planFor j (j .losses) .lines))
 
   count-most : (count ≤ k) × (count ≤ j .tasks)
-  count-most = let e = length-take k (planFor j (j .losses) .lines) in omega (arith, own-count l roomy j facts)
+  count-most = let e = length-take k (planFor j (j .losses) .lines) in omega (arith, own-count l j facts)
 
   after-within : PlacedWithin j (count * (l .runTime + l .volume * l .delay)) (placedAfter j k)
   unfolding earlies
   after-within d i =
       let ns = planFor j (j .losses) .lines in
       ⊎-elim
-      (apart-within l j facts least least-within (take k ns) (ordered-take j k [] ns (own-ordered l roomy j facts)) (λ n m. own-apart l roomy j facts n (in-take k n ns m)) d)
+      (apart-within l j facts least least-within (take k ns) (ordered-take j k [] ns (own-ordered l j facts)) (λ n m. own-apart l j facts n (in-take k n ns m)) d)
       absurd
       (in-reverse d (earlies j (take k ns)) [] i)
 
-  ranked-fits : (w : Waiting) → In w (waitingFrom 0 (bottomLevels j)) → ranked j (placedAfter j k) w .1 < 2 ^ 64
-  ranked-fits w i = omega (arith, roomy .level-room, ranked-most l j facts (count * (l .runTime + l .volume * l .delay)) (placedAfter j k) w (plan-bound l j facts count (count-most .1)) after-within i)
+  ranked-fits : Roomy l → (w : Waiting) → In w (waitingFrom 0 (bottomLevels j)) → ranked j (placedAfter j k) w .1 < 2 ^ 64
+  ranked-fits roomy w i = omega (arith, roomy .level-room, ranked-most l j facts (count * (l .runTime + l .volume * l .delay)) (placedAfter j k) w (plan-bound l j facts count (count-most .1)) after-within i)
 
   trial-fits : k < j .tasks → (t : ℕ) → t < j .tasks → (x : ℕ) → In x (trial j (placedAfter j k) t) → x ≤ planTicks l
   trial-fits h t ht x i =
@@ -204,7 +188,7 @@ module _ (l : Limits) (roomy : Roomy l) (j : Job) (facts : JobFacts l j) (k : �
 
 pub levels-fit : (l : Limits) → Roomy l → LevelsFit l
 levels-fit l roomy job j h k =
-    let facts = job-facts l job j h in (ranked-fits l roomy j facts k, trial-fits l roomy j facts k)
+    let facts = job-facts l job j h in (ranked-fits l j facts k roomy, trial-fits l j facts k)
 
 -- With the limits of document 01 ------------------------------------------------------------------------------
 

@@ -5,7 +5,7 @@ use mathlib.Core.List.{List, [], _∷_, _++_, append-assoc}
 use mathlib.Core.Bool.{Bool, true, false}
 use Prim.Native.Nat.{ℕ, zero, suc, _+_, _-_, _*_, _/_, _%_, _^_, _<_, _≤_}
 use native.Mathlib.Omega.{arith}
-use native.Mathlib.Nat.{pow-suc, one-le-pow, div-div-eq-div-mul, mul-assoc, pow-succ', mod-eq-of-lt, div-lt-iff-lt-mul, div-add-mod', pow-le-pow-right}
+use native.Mathlib.Nat.{pow-suc, one-le-pow, div-div-eq-div-mul, mul-assoc, pow-succ', mod-eq-of-lt, div-lt-iff-lt-mul, div-add-mod'}
 use lib.Arith.{mod-mul}
 use lib.Dec.{ltb, eqb}
 use lib.ListN.{length, length-append}
@@ -160,19 +160,6 @@ module _ (l : Limits) where
       by true h = omega arith
       by false h = omega arith
 
-  width-from-below : (k e d n : ℕ) → e ≤ d → n < 10 ^ d → widthFrom k e n ≤ d
-  unfolding widthFrom
-  width-from-below zero e d n h g = h
-  width-from-below (suc k) e d n h g = by (ltb n (10 ^ e)) refl (λ w. width-from-below k (e + 1) d n w g)
-    where
-      wider : (b : Bool) → ltb e d ≡ b → 10 ^ e ≤ n → e + 1 ≤ d
-      wider true t w = omega (arith, ltb-true e d t)
-      wider false t w = absurd (omega (arith, pow-le-pow-right {n = 10} (omega arith) (ltb-false e d t)))
-
-      by : (b : Bool) → ltb n (10 ^ e) ≡ b → (e + 1 ≤ d → widthFrom k (e + 1) n ≤ d) → (if b then e else widthFrom k (e + 1) n) ≤ d
-      by true t r = h
-      by false t r = r (wider (ltb e d) refl (ltb-false n (10 ^ e) t))
-
   width-from-monotone : (k d n m : ℕ) → n ≤ m → widthFrom k d n ≤ widthFrom k d m
   unfolding widthFrom
   width-from-monotone zero d n m h = omega arith
@@ -184,10 +171,6 @@ module _ (l : Limits) where
       by true false p q r = omega (arith, width-from-least k (d + 1) m)
       by false true p q r = absurd (omega (arith, ltb-false n (10 ^ d) p, ltb-true m (10 ^ d) q))
       by false false p q r = r
-
-  pub width-most : (d n : ℕ) → 1 ≤ d → n < 10 ^ d → width l n ≤ d
-  unfolding width
-  width-most d n = width-from-below (l .powers - 1) 1 d n
 
   pub width-powers : (n : ℕ) → 1 ≤ l .powers → width l n ≤ l .powers
   unfolding width

@@ -7,8 +7,8 @@ use Prim.Native.Nat.{ℕ, suc, _+_, _<_, _≤_}
 use native.Mathlib.Omega.{arith}
 use lib.Dec.{ltb, eqb}
 use lib.ListN.{length, length-map}
-use borrow.Author.Tests.{lt-leb, eqb-true, eqb-false, eq-eqb, ne-eqb, ltb-false, not-true}
-use Rattle.definitions.specs.Lists.{if_then_else_, In, keep, has, empty, distinct}
+use borrow.Author.Tests.{lt-leb, eqb-false, eq-eqb, ne-eqb, ltb-false, not-true}
+use Rattle.definitions.specs.Lists.{if_then_else_, In, keep, has, distinct}
 use Rattle.definitions.specs.Limits.{Limits}
 use Rattle.definitions.specs.Job.{Job, runTime}
 use Rattle.definitions.specs.Plan.{Line, Plan, processorsOf, descends}
@@ -17,31 +17,19 @@ use Rattle.definitions.specs.Times.{Time, tick, never, later, after, lea
 use Rattle.definitions.specs.Refusals.{doubledTasks}
 use Rattle.definitions.specs.Replay.{replay, firstFinish, roundEnd}
 use Rattle.definitions.specs.Claims.{boxesOf, once, halted, haltingOf}
-use Rattle.definitions.proofs.Lists.{neither, in-append, in-map, map-in, in-keep, keep-in, has-in, not-has}
+use Rattle.definitions.proofs.Lists.{neither, in-append, in-map, map-in, in-keep, has-in, not-has}
 use Rattle.definitions.proofs.Facts.{JobFacts, LineFacts, Ordered, PlanFacts, Ascending}
+use Rattle.definitions.proofs.Tasks.{in-task, copyOf}
 
 -- The tasks that are doubled ----------------------------------------------------------------------------------
 
--- The task of a line with two copies on one box is one of them.
-pub line-doubled : (n : Line) (ns : List Line) → In n ns → distinct (processorsOf n) ≡ false → In (n .task) (doubledTasks ns)
-unfolding doubledTasks
-line-doubled n ns i d =
-    map-in (λ n. n .task) n (keep (λ n. not (distinct (processorsOf n))) ns) (keep-in (λ n. not (distinct (processorsOf n))) n ns i (rw d))
-
--- Each of them has such a line.
+-- Each of them has a line with two copies on one box.
 pub doubled-line : (t : ℕ) (ns : List Line) → In t (doubledTasks ns) → (n : Line) × In n ns × (distinct (processorsOf n) ≡ false) × (n .task ≡ t)
 unfolding doubledTasks
 doubled-line t ns h =
     let (n, i, e) = in-map (λ n. n .task) t (keep (λ n. not (distinct (processorsOf n))) ns) h in
     let (k, d) = in-keep (λ n. not (distinct (processorsOf n))) n ns i in
     (n, k, not-true (distinct (processorsOf n)) d, e)
-
-some-member : (ts : List ℕ) → empty ts ≡ false → (t : ℕ) × In t ts
-some-member [] h = absurd (true≢false h)
-some-member (t ∷ ts) h = (t, inl refl)
-
-pub doubled-some : (ns : List Line) → empty (doubledTasks ns) ≡ false → (t : ℕ) × In t (doubledTasks ns)
-doubled-some ns h = some-member (doubledTasks ns) h
 
 -- Boxes, each taken once --------------------------------------------------------------------------------------
 
@@ -64,11 +52,11 @@ length-once (p ∷ ps) = by (has p ps) (length-once ps)
     by true h = omega arith
     by false h = omega arith
 
--- They are fewer if one stands twice.
-pub fewer : (ps : List ℕ) → distinct ps ≡ false → length (once ps) < length ps
+-- They are once-fewer if one stands twice.
+pub once-fewer : (ps : List ℕ) → distinct ps ≡ false → length (once ps) < length ps
 unfolding once distinct
-fewer [] h = absurd (true≢false h)
-fewer (p ∷ ps) h = by (has p ps) h (fewer ps)
+once-fewer [] h = absurd (true≢false h)
+once-fewer (p ∷ ps) h = by (has p ps) h (once-fewer ps)
   where
     by : (b : Bool) → (not b && distinct ps) ≡ false → (distinct ps ≡ false → length (once ps) < length ps) → length (if b then once ps else p ∷ once ps) < suc (length ps)
     by true h f = omega (arith, length-once ps)
@@ -107,9 +95,9 @@ length-halted : (ps : List ℕ) → length (halted ps) ≡ length ps
 length-halted ps = length-map ps (λ p. record { processor = p; tick = 0 })
 
 -- Each of them stops at tick 0.
-pub stops-at-zero : (j : Job) (x : ℕ) (ps : List ℕ) → In x ps → stopTime (halted ps) x ≡ tick 0
+pub stops-at-zero : (x : ℕ) (ps : List ℕ) → In x ps → stopTime (halted ps) x ≡ tick 0
 unfolding stopTime
-stops-at-zero j x (p ∷ ps) i = by (eqb p x) refl i (stops-at-zero j x ps)
+stops-at-zero x (p ∷ ps) i = by (eqb p x) refl i (stops-at-zero x ps)
   where
     by : (b : Bool) → eqb p x ≡ b → (p ≡ x) ⊎ In x ps → (In x ps → stopTime (halted ps) x ≡ tick 0) → (if b then tick 0 else stopTime (halted ps) x) ≡ tick 0
     by true e i f = refl
@@ -147,7 +135,7 @@ pub record CopyOf (j : Job) (n : Line) (c : Copy) : Type 0 where
 
 line-copy : (j : Job) (n : Line) (c : Copy) → In c (copiesOf j (n .task) (processorsOf n)) → CopyOf j n c
 line-copy j n c i =
-    let (p, k, e) = in-map (λ p. record { task = n .task; processor = p; run = runTime j (n .task) p }) c (processorsOf n) i in
+    let (p, k, e) = in-map (copyOf j (n .task)) c (processorsOf n) i in
     rw (← e) (record { same-task = refl; on-box = k; run-time = refl })
 
 -- A copy of lines is a copy of one of them.
@@ -167,16 +155,16 @@ walk-in j choose stops placed (c ∷ cs) d (inr i) =
     let (c′, k, earlier, e) = walk-in j choose stops (outcome c (finish j choose stops placed c) ∷ placed) cs d i in
     (c′, inr k, earlier, e)
 
-past-zero : (j : Job) (n : ℕ) (x : Time) → 1 ≤ n → unlessStopped (tick 0) (after n x) ≡ never
-past-zero j n never h = refl
-past-zero j n (tick x) h = rw (lt-leb (x + n) 0 (omega arith))
+past-zero : (n : ℕ) (x : Time) → 1 ≤ n → unlessStopped (tick 0) (after n x) ≡ never
+past-zero n never h = refl
+past-zero n (tick x) h = rw (lt-leb (x + n) 0 (omega arith))
 
 -- On a box that stops at tick 0 nothing that takes time is finished.
 pub finish-never :
     (j : Job) (choose : List Time → Time) (stops : List Stop) (placed : List Outcome) (c : Copy)
     → stopTime stops (c .processor) ≡ tick 0 → 1 ≤ c .run → finish j choose stops placed c ≡ never
 unfolding finish
-finish-never j choose stops placed c s h = rw s (past-zero j (c .run) (start j choose placed (c .task) (c .processor)) h)
+finish-never j choose stops placed c s h = rw s (past-zero (c .run) (start j choose placed (c .task) (c .processor)) h)
 
 least-never : (xs : List Time) → ((x : Time) → In x xs → x ≡ never) → least xs ≡ never
 unfolding least
@@ -194,12 +182,12 @@ largest-never (x ∷ xs) (inr i) = by x (largest-never xs i)
 
 -- A task of which no copy finishes is undone; so is the round if it is an exit task.
 pub undone : (t : ℕ) (ds : List Outcome) → ((d : Outcome) → In d ds → d .task ≡ t → d .time ≡ never) → firstFinish t ds ≡ never
-unfolding firstFinish ofTask
+unfolding firstFinish
 undone t ds h =
-    least-never (times (keep (λ d. eqb (d .task) t) ds)) λ x i.
-    let (d, k, e) = in-map (λ (d : Outcome). d .time) x (keep (λ d. eqb (d .task) t) ds) i in
-    let (m, q) = in-keep (λ (d : Outcome). eqb (d .task) t) d ds k in
-    sym e ∙ h d m (eqb-true (d .task) t q)
+    least-never (times (ofTask t ds)) λ x i.
+    let (d, k, e) = in-map (λ (d : Outcome). d .time) x (ofTask t ds) i in
+    let (m, q) = in-task t d ds k in
+    sym e ∙ h d m q
 
 pub round-undone : (j : Job) (t : ℕ) (ds : List Outcome) → In t (exits j) → firstFinish t ds ≡ never → roundEnd j ds ≡ never
 unfolding roundEnd end firstFinish
@@ -215,7 +203,7 @@ module _ (l : Limits) (j : Job) (ns : List Line) (t : ℕ) (f : JobFacts l j) (o
       let (before, h, g′) = line-facts j [] ns o n i in
       let on-box : In (c .processor) (boxesOf t ns) = rw (line-boxes j [] ns o n i t e) (g .on-box) in
       finish-never j least (haltingOf t ns) placed c
-      (stops-at-zero j (c .processor) (once (boxesOf t ns)) (in-once (c .processor) (boxesOf t ns) on-box))
+      (stops-at-zero (c .processor) (once (boxesOf t ns)) (in-once (c .processor) (boxesOf t ns) on-box))
       (rw (g .run-time) (f .run-least (n .task) (c .processor) (h .task-below) (h .processors-below (c .processor) (g .on-box))))
 
   pub halted-undone : firstFinish t (replay j (haltingOf t ns) ns) ≡ never
@@ -240,7 +228,7 @@ doubled-undone l j p t f g i =
     let boxes = line-boxes j [] (p .lines) (g .ordered) n k t e in
     let never-done = halted-undone l j (p .lines) t f (g .ordered) in (
       rw boxes (once-ascends l j 0 (processorsOf n) (h .ascends) (λ q i. omega arith) (h .processors-below)),
-      rw boxes (omega (arith, length-halted (once (processorsOf n)), fewer (processorsOf n) d, length-map (n .replicas) (λ r. r .processor), h .width)),
+      rw boxes (omega (arith, length-halted (once (processorsOf n)), once-fewer (processorsOf n) d, length-map (n .replicas) (λ r. r .processor), h .width)),
       never-done,
       λ x. round-undone j t (replay j (haltingOf t (p .lines)) (p .lines)) x never-done,
     )

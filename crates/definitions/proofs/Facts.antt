@@ -1,7 +1,8 @@
 -- What is known of a job and of a plan that were read.
 use mathlib.Core.Path.{_≡_}
 use mathlib.Core.List.{List, [], _∷_}
-use mathlib.Core.Bool.{Bool, true, false}
+use mathlib.Core.Bool.{true, false}
+use mathlib.Core.Option.{Option, none, some}
 use Prim.Native.Nat.{ℕ, _+_, _<_, _≤_}
 use lib.ListN.{length}
 use Rattle.definitions.specs.Lists.{In, distinct}
@@ -28,6 +29,10 @@ pub record JobFacts (l : Limits) (j : Job) : Type 0 where
   pub volume-most : (e : Edge) → In e (j .edges) → e .volume ≤ l .volume
   pub no-circle : circular j ≡ false
 
+-- Every predecessor of task t is among these tasks.
+abbrev pub Fed : Job → ℕ → List ℕ → Type 0
+Fed j t us = (e : Edge) → In e (incoming j t) → In (e .from) us
+
 -- A line of a plan for j, after lines with the tasks in `seen`.
 pub record LineFacts (j : Job) (seen : List ℕ) (n : Line) : Type 0 where
   pub task-below : n .task < j .tasks
@@ -35,7 +40,7 @@ pub record LineFacts (j : Job) (seen : List ℕ) (n : Line) : Type 0 where
   pub processors-below : (p : ℕ) → In p (processorsOf n) → p < j .processors
   pub ascends : descends (processorsOf n) ≡ false
   pub new : In (n .task) seen → ⊥
-  pub fed : (e : Edge) → In e (incoming j (n .task)) → In (e .from) seen
+  pub fed : Fed j (n .task) seen
 
 -- Lines in order, after lines with the tasks in `seen`, the newest first.
 abbrev pub Ordered : Job → List ℕ → List Line → Type 0
@@ -46,22 +51,24 @@ Ordered j seen (n ∷ ns) = LineFacts j seen n × Ordered j (n .task ∷ seen) n
 abbrev pub Apart : List Line → Type 0
 Apart ns = (n : Line) → In n ns → distinct (processorsOf n) ≡ true
 
+-- The ticks of a line are at most b.
+abbrev pub Ticks : ℕ → Line → Type 0
+Ticks b n = (r : Replica) → In r (n .replicas) → (r .early ≤ b) × (r .late ≤ b)
+
 -- A plan that was read for j.
 pub record PlanFacts (l : Limits) (j : Job) (p : Plan) : Type 0 where
   pub best-most : p .best ≤ l .tick
   pub worst-most : p .worst ≤ l .tick
   pub count : length (p .lines) ≡ j .tasks
   pub ordered : Ordered j [] (p .lines)
-  pub early-most : (n : Line) → In n (p .lines) → (r : Replica) → In r (n .replicas) → r .early ≤ l .tick
-  pub late-most : (n : Line) → In n (p .lines) → (r : Replica) → In r (n .replicas) → r .late ≤ l .tick
+  pub ticks-most : (n : Line) → In n (p .lines) → Ticks (l .tick) n
 
 -- Stops on processors that ascend from low on.
 abbrev pub Ascending : Limits → Job → ℕ → List Stop → Type 0
 Ascending l j low [] = Unit {0}
 Ascending l j low (s ∷ ss) = (low ≤ s .processor) × (s .processor < j .processors) × (s .tick ≤ l .tick) × Ascending l j (1 + s .processor) ss
 
--- Of any tasks of the job there is one that none of them precedes.
-abbrev pub FreeTask : Job → Type 0
-FreeTask j =
-    (us : List ℕ) → ((u : ℕ) → In u us → u < j .tasks) → (u : ℕ) → In u us
-    → (t : ℕ) × In t us × ((e : Edge) → In e (incoming j t) → In (e .from) us → ⊥)
+-- The processors after the last stop's; all, if there is none.
+abbrev pub afterLast : Option Stop → ℕ
+afterLast none = 0
+afterLast (some s) = 1 + s .processor

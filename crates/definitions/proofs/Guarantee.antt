@@ -1,7 +1,7 @@
 -- An accepted plan keeps its promise under every stop list of at most ε lines.
-use mathlib.Core.Path.{_≡_, refl, ap, sym, _∙_}
+use mathlib.Core.Path.{_≡_, refl, ap, ap₂, sym, _∙_}
 use mathlib.Core.Logic.{_⊎_, inl, inr, ⊎-elim}
-use mathlib.Core.List.{List, [], _∷_, _++_, map, reverseAux}
+use mathlib.Core.List.{List, [], _∷_, _++_, map}
 use mathlib.Core.Bool.{Bool, true, false, not, _||_, true≢false}
 use Prim.Native.Nat.{ℕ, _+_, _<_, _≤_}
 use native.Mathlib.Omega.{arith}
@@ -10,14 +10,15 @@ use lib.ListN.{length, length-map}
 use borrow.Author.Tests.{eqb-true, eq-eqb, not-false}
 use Rattle.definitions.specs.Lists.{if_then_else_, In, keep, any, has, distinct, below, empty}
 use Rattle.definitions.specs.Limits.{Limits}
-use Rattle.definitions.specs.Job.{Edge, Job, runTime, incoming, outgoing}
+use Rattle.definitions.specs.Job.{Edge, Job, incoming, outgoing}
 use Rattle.definitions.specs.Plan.{Replica, Line, Plan, processorsOf}
 use Rattle.definitions.specs.Stops.{Stop}
 use Rattle.definitions.specs.Times.{Time, tick, never, later, sooner, after, same, least, largest, Copy, Outcome, outcome, ofTask, times, ready, message, feeding, arrival, dataReady, start, stopTime, unlessStopped, finish, walk, copiesOf, copies, earlies, lates, exits, end, bestEnd, worstEnd}
-use Rattle.definitions.specs.Refusals.{doubledTasks, ticksAgree, endsAgree, planRefusal}
+use Rattle.definitions.specs.Refusals.{doubledTasks, sameTimes, ticksAgree, endsAgree, planRefusal}
 use Rattle.definitions.specs.Replay.{replay, firstFinish, roundEnd}
-use Rattle.definitions.proofs.Lists.{both, passed, append-left, append-right, in-map, map-in, in-any, in-keep, keep-in, has-not, in-below, spare, full}
+use Rattle.definitions.proofs.Lists.{both, both-true, passed, in-some, append-left, append-right, map-in, in-any, in-keep, keep-in, has-not, in-below, spare, full}
 use Rattle.definitions.proofs.Facts.{Ordered, Apart, PlanFacts}
+use Rattle.definitions.proofs.Tasks.{copyOf, lineTasks}
 
 -- Between early and late --------------------------------------------------------------------------------------
 
@@ -57,10 +58,10 @@ abbrev pub isNever : Time → Bool
 isNever never = true
 isNever (tick x) = false
 
-stopped-b : (j : Job) (s : Time) {e l f : Time} → Between (isNever s) e l f → Between (isNever s) e l (unlessStopped s f)
-stopped-b j never b = b
-stopped-b j (tick s) undone = undone
-stopped-b j (tick s) (within {e = e} {l = l} {f = f} a) = by (leb f s)
+stopped-b : (s : Time) {e l f : Time} → Between (isNever s) e l f → Between (isNever s) e l (unlessStopped s f)
+stopped-b never b = b
+stopped-b (tick s) undone = undone
+stopped-b (tick s) (within {e = e} {l = l} {f = f} a) = by (leb f s)
   where
     by : (t : Bool) → Between false (tick e) (tick l) (if t then tick f else never)
     by true = within a
@@ -147,21 +148,21 @@ module _ (j : Job) (stops : List Stop) where
       sure-b (free p) h (least-b (λ q. after (message j e q p)) (λ q s x y z. after-b (message j e q p)) r)
 
   -- Every predecessor of t is safe.
-  abbrev pub Fed : ℕ → List Copy → Type 0
-  Fed t cs = (e : Edge) → In e (incoming j t) → Safe (e .from) cs
+  abbrev FedSafely : ℕ → List Copy → Type 0
+  FedSafely t cs = (e : Edge) → In e (incoming j t) → Safe (e .from) cs
 
-  finish-b : (c : Copy) {cs : List Copy} {es ls fs : List Outcome} → Beside cs es ls fs → Fed (c .task) cs
+  finish-b : (c : Copy) {cs : List Copy} {es ls fs : List Outcome} → Beside cs es ls fs → FedSafely (c .task) cs
       → Between (free (c .processor)) (finish j least [] es c) (finish j largest [] ls c) (finish j least stops fs c)
   unfolding finish start dataReady stopTime
   finish-b c {es = es} {ls = ls} {fs = fs} b h =
       let p = c .processor in
-      stopped-b j (stopTime stops p) (after-b (c .run) (later-b (ready-b p b)
+      stopped-b (stopTime stops p) (after-b (c .run) (later-b (ready-b p b)
       (largest-b (free p) (arrival j least es p) (arrival j largest ls p) (arrival j least fs p) (incoming j (c .task)) (λ e i. arrival-b p e b (h e i)))))
 
   -- Each of the copies is fed by those before it, after those that are placed.
   abbrev pub Supplied : List Copy → List Copy → Type 0
   Supplied placed [] = Unit {0}
-  Supplied placed (c ∷ cs) = Fed (c .task) placed × Supplied (c ∷ placed) cs
+  Supplied placed (c ∷ cs) = FedSafely (c .task) placed × Supplied (c ∷ placed) cs
 
   pub walk-b : (cs : List Copy) {placed : List Copy} {es ls fs : List Outcome} → Supplied placed cs → Beside placed es ls fs
       → Beside cs (walk j least [] es cs) (walk j largest [] ls cs) (walk j least stops fs cs)
@@ -191,15 +192,15 @@ module _ (j : Job) (stops : List Stop) where
   safe-more t cs ds h (c, i, e, f) = (c, h c i, e, f)
 
   safe-line : (t p : ℕ) (ps : List ℕ) → In p ps → free p ≡ true → Safe t (copiesOf j t ps)
-  safe-line t p ps i f = (record { task = t; processor = p; run = runTime j t p }, map-in _ p ps i, refl, f)
+  safe-line t p ps i f = (copyOf j t p, map-in (copyOf j t) p ps i, refl, f)
 
   -- The copies of one line; then those of the lines after it, with the line's copies among what is placed.
-  supply-line : (t : ℕ) (ps : List ℕ) (placed rest : List Copy) → Fed t placed
+  supply-line : (t : ℕ) (ps : List ℕ) (placed rest : List Copy) → FedSafely t placed
       → ((qs : List Copy) → ((c : Copy) → In c placed → In c qs) → ((c : Copy) → In c (copiesOf j t ps) → In c qs) → Supplied qs rest)
       → Supplied placed (copiesOf j t ps ++ rest)
   supply-line t [] placed rest h k = k placed (λ c i. i) (λ c i. absurd i)
   supply-line t (p ∷ ps) placed rest h k =
-      let c : Copy = record { task = t; processor = p; run = runTime j t p } in (
+      let c = copyOf j t p in (
         h,
         supply-line t ps (c ∷ placed) rest (λ e i. safe-more (e .from) placed (c ∷ placed) (λ x. inr) (h e i))
             (λ qs old new. k qs (λ x i. old x (inr i)) (λ x. ⊎-elim (λ q. old x (inl q)) (new x))),
@@ -218,7 +219,7 @@ module _ (j : Job) (stops : List Stop) where
       (λ e. safe-more u (copiesOf j u (processorsOf n)) qs (rw e at new) (safe-line u p (processorsOf n) i f))
       (λ i. safe-more u placed qs old (k u i))))
 
-  safe-lines : (ns : List Line) → Spared ns → (t : ℕ) → In t (map (λ n. n .task) ns) → Safe t (copies j ns)
+  safe-lines : (ns : List Line) → Spared ns → (t : ℕ) → In t (lineTasks ns) → Safe t (copies j ns)
   unfolding copies
   safe-lines (n ∷ ns) s t (inl e) =
       let (p, i, f) = s n (inl refl) in
@@ -242,7 +243,7 @@ not-stopped j p (s ∷ stops) h = by (eqb (s .processor) p) h (not-stopped j p s
 
 -- Lines in order, as many as there are tasks, have every task.
 pub every-task : (j : Job) (ns : List Line) (seen : List ℕ) → Ordered j seen ns → distinct seen ≡ true → ((u : ℕ) → In u seen → u < j .tasks)
-    → length seen + length ns ≡ j .tasks → (t : ℕ) → t < j .tasks → In t seen ⊎ In t (map (λ n. n .task) ns)
+    → length seen + length ns ≡ j .tasks → (t : ℕ) → t < j .tasks → In t seen ⊎ In t (lineTasks ns)
 unfolding distinct
 every-task j [] seen o d b l t h = inl (full (j .tasks) seen d b (omega arith) t h)
 every-task j (n ∷ ns) seen (o, os) d b l t h =
@@ -255,18 +256,34 @@ every-task j (n ∷ ns) seen (o, os) d b l t h =
 none-kept : {A B : Type 0} (f : A → B) (g : A → Bool) (xs : List A) → empty (map f (keep g xs)) ≡ true → (x : A) → In x xs → g x ≡ false
 none-kept f g xs h x i = by (g x) refl
   where
-    member : {C : Type 0} (c : C) (cs : List C) → In c cs → empty cs ≡ true → ⊥
-    member c (d ∷ ds) i e = true≢false (sym e)
-
     by : (b : Bool) → g x ≡ b → g x ≡ false
-    by true e = absurd (member (f x) (map f (keep g xs)) (map-in f x (keep g xs) (keep-in g x xs i e)) h)
+    by true e = absurd (true≢false (sym h ∙ in-some (f x) (map f (keep g xs)) (map-in f x (keep g xs) (keep-in g x xs i e))))
     by false e = e
 
-pub same-time : (x y : Time) → same x y ≡ true → x ≡ y
+-- The tests for the same time and the same times.
+same-time : (x y : Time) → same x y ≡ true → x ≡ y
 same-time (tick x) (tick y) h = ap tick (eqb-true x y h)
 same-time (tick x) never h = absurd (true≢false (sym h))
 same-time never (tick y) h = absurd (true≢false (sym h))
 same-time never never h = refl
+
+pub same-times : (xs ys : List Time) → sameTimes xs ys ≡ true → xs ≡ ys
+unfolding sameTimes
+same-times [] [] h = refl
+same-times [] (y ∷ ys) h = absurd (true≢false (sym h))
+same-times (x ∷ xs) [] h = absurd (true≢false (sym h))
+same-times (x ∷ xs) (y ∷ ys) h =
+    let (p, q) = both (same x y) (sameTimes xs ys) h in
+    ap₂ _∷_ (same-time x y p) (same-times xs ys q)
+
+pub time-same : (x : Time) → same x x ≡ true
+time-same (tick x) = eq-eqb x x refl
+time-same never = refl
+
+pub times-same : (xs : List Time) → sameTimes xs xs ≡ true
+unfolding sameTimes
+times-same [] = refl
+times-same (x ∷ xs) = both-true (time-same x) (times-same xs)
 
 -- A plan with no number due: no line has a processor twice, its ticks are the equations', and so are M* and M.
 pub record AcceptedFacts (j : Job) (p : Plan) : Type 0 where
@@ -329,9 +346,9 @@ kept l j p stops g h few =
     (λ t i. let r = comes-b (first-b j stops t b (s t i)) in (r .2, r .5), value-b (rw (a .best-end, a .worst-end) at (end-b j stops b s)))
 
 -- With no stop it ends at M*.
-pub quiet : (l : Limits) (j : Job) (p : Plan) → planRefusal j p ≡ 0 → roundEnd j (replay j [] (p .lines)) ≡ tick (p .best)
+pub quiet : (j : Job) (p : Plan) → planRefusal j p ≡ 0 → roundEnd j (replay j [] (p .lines)) ≡ tick (p .best)
 unfolding roundEnd replay bestEnd earlies
-quiet l j p h = accepted-facts j p h .best-end
+quiet j p h = accepted-facts j p h .best-end
 
 -- Without stops -----------------------------------------------------------------------------------------------
 
@@ -339,72 +356,13 @@ quiet l j p h = accepted-facts j p h .best-end
 abbrev pub Come : List Outcome → Type 0
 Come ds = (d : Outcome) → In d ds → (x : ℕ) × (d .time ≡ tick x)
 
--- A copy that is placed.
-abbrev copyOf : Outcome → Copy
-copyOf d = record { task = d .task; processor = d .processor; run = 0 }
-
-at-tick : (t : Time) (x : ℕ) → t ≡ tick x → Between true t t t
-at-tick t x h = rw h (done (omega arith))
-
-come-b : (j : Job) (ds : List Outcome) → Come ds → Beside j [] (map copyOf ds) ds ds ds
+come-b : {j : Job} {cs : List Copy} {es ls fs : List Outcome} → Beside j [] cs es ls fs → Come es × Come ls
 unfolding stopTime
-come-b j [] h = none
-come-b j (d ∷ ds) h =
-    let (x, e) = h d (inl refl) in
-    next {c = copyOf d} {e = d .time} {l = d .time} {f = d .time} (at-tick (d .time) x e) (come-b j ds (λ d i. h d (inr i)))
-
-early-come : {j : Job} {cs : List Copy} {es ls fs : List Outcome} → Beside j [] cs es ls fs → Come es
-unfolding stopTime
-early-come none d i = absurd i
-early-come (next b r) d (inl q) = let r = comes-b b in (r .0, ap (λ d. d .time) (sym q) ∙ r .3)
-early-come (next b r) d (inr i) = early-come r d i
-
-late-come : {j : Job} {cs : List Copy} {es ls fs : List Outcome} → Beside j [] cs es ls fs → Come ls
-unfolding stopTime
-late-come none d i = absurd i
-late-come (next b r) d (inl q) = let r = comes-b b in (r .1, ap (λ d. d .time) (sym q) ∙ r .4)
-late-come (next b r) d (inr i) = late-come r d i
-
--- Every predecessor of t is placed.
-abbrev pub Preceded : Job → ℕ → List Outcome → Type 0
-Preceded j t placed = (e : Edge) → In e (incoming j t) → In (e .from) (map (λ d. d .task) placed)
-
-placed-fed : (j : Job) (t : ℕ) (placed : List Outcome) → Preceded j t placed → Fed j [] t (map copyOf placed)
-unfolding stopTime
-placed-fed j t placed h e i =
-    let (d, k, q) = in-map (λ d. d .task) (e .from) placed (h e i) in
-    (copyOf d, map-in copyOf d placed k, q, refl)
-
--- A copy finishes at a tick, early and late.
-pub finish-come : (j : Job) (placed : List Outcome) (c : Copy) → Come placed → Preceded j (c .task) placed
-    → ((x : ℕ) × (finish j least [] placed c ≡ tick x)) × ((x : ℕ) × (finish j largest [] placed c ≡ tick x))
-unfolding stopTime
-finish-come j placed c h k =
-    let r = comes-b (finish-b j [] c (come-b j placed h) (placed-fed j (c .task) placed k)) in
-    ((r .0, r .3), (r .1, r .4))
-
-supply-all : (j : Job) (stops : List Stop) (placed cs : List Copy) → ((c : Copy) → In c cs → Fed j stops (c .task) placed) → Supplied j stops placed cs
-supply-all j stops placed [] h = tt
-supply-all j stops placed (c ∷ cs) h =
-    (h c (inl refl), supply-all j stops (c ∷ placed) cs (λ d i e k. safe-more j stops (e .from) placed (c ∷ placed) (λ x. inr) (h d (inr i) e k)))
-
--- Copies whose predecessors are all placed finish at ticks, early and late.
-pub walk-come : (j : Job) (placed : List Outcome) (cs : List Copy) → Come placed → ((c : Copy) → In c cs → Preceded j (c .task) placed)
-    → Come (walk j least [] placed cs) × Come (walk j largest [] placed cs)
-walk-come j placed cs h k =
-    let b = walk-b j [] cs (supply-all j [] (map copyOf placed) cs (λ c i. placed-fed j (c .task) placed (k c i))) (come-b j placed h) in
-    (early-come b, late-come b)
-
--- The copies of one task.
-pub line-come : (j : Job) (placed : List Outcome) (t : ℕ) (ps : List ℕ) → Come placed → Preceded j t placed
-    → Come (walk j least [] placed (copiesOf j t ps)) × Come (walk j largest [] placed (copiesOf j t ps))
-line-come j placed t ps h k =
-    walk-come j placed (copiesOf j t ps) h
-    (λ c i. let (p, q, e) = in-map (λ p. record { task = t; processor = p; run = runTime j t p }) c ps i in rw (← e) k)
-
-pub reverse-come : (ds placed : List Outcome) → Come ds → Come placed → Come (reverseAux ds placed)
-reverse-come [] placed h k = k
-reverse-come (d ∷ ds) placed h k = reverse-come ds (d ∷ placed) (λ e i. h e (inr i)) (λ e. ⊎-elim (λ q. h e (inl q)) (k e))
+come-b none = (λ d i. absurd i, λ d i. absurd i)
+come-b (next b r) =
+    let c = comes-b b in
+    let (es, ls) = come-b r in
+    (λ d. ⊎-elim (λ q. (c .0, ap (λ d. d .time) (sym q) ∙ c .3)) (es d), λ d. ⊎-elim (λ q. (c .1, ap (λ d. d .time) (sym q) ∙ c .4)) (ls d))
 
 -- A line has a copy, so it has a processor that does not stop.
 no-stops : (j : Job) (ns : List Line) (seen : List ℕ) → Ordered j seen ns → Spared j [] ns
@@ -416,18 +374,12 @@ no-stops j (m ∷ ns) seen (o, os) n (inl e) = rw (← e) (by (m .replicas) (o .
     by (r ∷ rs) h = (r .processor, inl refl, refl)
 no-stops j (m ∷ ns) seen (o, os) n (inr i) = no-stops j ns (m .task ∷ seen) os n i
 
--- Lines in order: every copy finishes at a tick, early and late.
-pub all-come : (j : Job) (ns : List Line) → Ordered j [] ns → Come (earlies j ns) × Come (lates j ns)
-unfolding earlies lates
-all-come j ns o =
-    let b = walk-b j [] (copies j ns) (supply j [] ns [] [] o (no-stops j ns [] o) (λ u i. absurd i)) none in
-    (early-come b, late-come b)
-
--- Lines in order, one for each task: M* and M are ticks, and M* is not more than M.
-pub ends-come : (j : Job) (ns : List Line) → Ordered j [] ns → length ns ≡ j .tasks
-    → (x : ℕ) × (y : ℕ) × (bestEnd j ns ≡ tick x) × (worstEnd j ns ≡ tick y) × (x ≤ y)
+-- Lines in order, one for each task: every copy finishes at a tick, early and late, and M* and M are ticks.
+pub all-come : (j : Job) (ns : List Line) → Ordered j [] ns → length ns ≡ j .tasks
+    → Come (earlies j ns) × Come (lates j ns) × ((x : ℕ) × (bestEnd j ns ≡ tick x)) × ((x : ℕ) × (worstEnd j ns ≡ tick x))
 unfolding bestEnd worstEnd
-ends-come j ns o c =
+all-come j ns o c =
     let (b, s) = lines-b j [] ns o c (no-stops j ns [] o) in
-    let r = comes-b (end-b j [] b s) in
-    (r .0, r .1, r .3, r .4, omega (arith, r .6, r .7))
+    let (es, ls) = come-b b in
+    let c = comes-b (end-b j [] b s) in
+    (es, ls, (c .0, c .3), (c .1, c .4))

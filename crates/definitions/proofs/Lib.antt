@@ -1,5 +1,6 @@
 pub mod Lists
 pub mod Facts
+pub mod Tasks
 pub mod Doubled
 pub mod Circle
 pub mod BottomLevels
@@ -8,7 +9,6 @@ pub mod Guarantee
 pub mod Decimal
 pub mod RoundTrip
 pub mod Chosen
-pub mod Finishing
 pub mod Placing
 pub mod Bounds
 pub mod Claims

@@ -1,7 +1,7 @@
 -- What is known of a plan, a job and a stop list that were read.
 use mathlib.Core.Path.{_≡_, refl, ap, _∙_}
-use mathlib.Core.Logic.{inl, inr, ⊎-elim}
-use mathlib.Core.List.{List, [], _∷_, _++_, map, append-assoc, append-nil, map-append, getLast?}
+use mathlib.Core.Logic.{inl, inr}
+use mathlib.Core.List.{List, [], _∷_, _++_, map, append-assoc, append-nil, getLast?}
 use mathlib.Core.Option.{Option, none, some}
 use mathlib.Core.Bool.{Bool, true, false, not, _||_}
 use Prim.Native.Nat.{ℕ, zero, suc, _+_, _*_, _<_, _≤_}
@@ -16,8 +16,9 @@ use Rattle.definitions.specs.Text.{Reading, found, refused, Reader, next
 use Rattle.definitions.specs.Job.{Edge, Job, runTime, delay, incoming, circular, outside, JobHead, jobHead, jobHeadRule, runRule, delayRule, edgeLine, edgeRule, jobLines, readJob}
 use Rattle.definitions.specs.Plan.{Replica, Line, Plan, processorsOf, triples, lineOf, descends, PlanHead, planHead, planHeadRule, strays, planLine, planLineRule, planLines, readPlan}
 use Rattle.definitions.specs.Stops.{Stop, notAfter, stopLine, stopRule, readStops}
-use Rattle.definitions.proofs.Lists.{neither, passed, in-append, append-left, append-right, none-in, all-in, has-in, not-has, in-map}
-use Rattle.definitions.proofs.Facts.{JobFacts, LineFacts, Ordered, PlanFacts, Ascending}
+use Rattle.definitions.proofs.Lists.{neither, inside, passed, last-of, none-in, all-in, has-in, not-has, in-map, nth-in}
+use Rattle.definitions.proofs.Facts.{JobFacts, LineFacts, Ordered, Ticks, PlanFacts, Ascending, afterLast}
+use Rattle.definitions.proofs.Tasks.{lineTasks, SameTasks, tasks-more}
 
 -- One thing after another ---------------------------------------------------------------------------------------
 
@@ -147,9 +148,6 @@ module _ (l : Limits) where
       let (vs, s′, e, g) = next-found (line l opening k s) (λ vs. return (f vs)) a r h in
       (vs, line-found opening k s vs s′ e, cc)
 
-pub inside : (low high n : ℕ) → outside low high n ≡ false → (low ≤ n) × (n ≤ high)
-inside low high n h = let (a, b) = neither (ltb n low) (ltb high n) h in (ltb-false n low a, ltb-false high n b)
-
 -- A plan --------------------------------------------------------------------------------------------------------
 
 abbrev planOf : PlanHead → List Line → Plan
@@ -163,21 +161,6 @@ triples-width (suc n) [] h = absurd (omega arith)
 triples-width (suc n) (p ∷ []) h = absurd (omega arith)
 triples-width (suc n) (p ∷ e ∷ []) h = absurd (omega arith)
 triples-width (suc n) (p ∷ e ∷ x ∷ vs) h = ap suc (triples-width n vs (omega arith))
-
-abbrev tasksOf : List Line → List ℕ
-tasksOf ns = map (λ n. n .task) ns
-
--- The tasks of the lines in `seen` are those in ts.
-abbrev SameTasks : List Line → List ℕ → Type 0
-SameTasks seen ts = ((t : ℕ) → In t (tasksOf seen) → In t ts) × ((t : ℕ) → In t ts → In t (tasksOf seen))
-
-tasks-more : (seen : List Line) (ts : List ℕ) (n : Line) → SameTasks seen ts → SameTasks (seen ++ n ∷ []) (n .task ∷ ts)
-tasks-more seen ts n (to, back) =
-    let e : tasksOf (seen ++ n ∷ []) ≡ tasksOf seen ++ n .task ∷ [] = map-append (λ n. n .task) seen (n ∷ []) in
-    rw e (
-      λ t i. ⊎-elim (λ k. inr (to t k)) (⊎-elim inl (λ k. absurd k)) (in-append t (tasksOf seen) (n .task ∷ []) i),
-      λ t. ⊎-elim (λ k. append-right t (tasksOf seen) (n .task ∷ []) (inl k)) (λ i. append-left t (tasksOf seen) (n .task ∷ []) (back t i)),
-    )
 
 module _ (l : Limits) (j : Job) where
   -- The task, and a replica, of a line that does not stray.
@@ -197,14 +180,14 @@ module _ (l : Limits) (j : Job) where
 
   -- A line by the rule: it does not stray, its processors do not descend, its task is new and its predecessors' lines stand before it.
   plan-line-parts : (seen : List Line) (n : Line) → planLineRule l j seen n ≡ 0
-      → (strays l j n ≡ false) × (descends (processorsOf n) ≡ false) × (has (n .task) (tasksOf seen) ≡ false)
-      × (all (λ e. has (e .from) (tasksOf seen)) (incoming j (n .task)) ≡ true)
+      → (strays l j n ≡ false) × (descends (processorsOf n) ≡ false) × (has (n .task) (lineTasks seen) ≡ false)
+      × (all (λ e. has (e .from) (lineTasks seen)) (incoming j (n .task)) ≡ true)
   unfolding planLineRule
   plan-line-parts seen n h =
       let (a, h1) = passed _ _ _ h in
       let (b, h2) = passed _ _ _ h1 in
       let (c, h3) = passed _ _ _ h2 in
-      let (d, e) = neither (has (n .task) (tasksOf seen)) _ c in
+      let (d, e) = neither (has (n .task) (lineTasks seen)) _ c in
       (a, b, d, not-false _ e)
 
   line-width : (n : Line) → Formed (planLine l j) n → length (n .replicas) ≡ j .losses + 1
@@ -222,7 +205,7 @@ module _ (l : Limits) (j : Job) where
         width = line-width n f;
         processors-below = λ p i. let (r, k, e) = in-map (λ r. r .processor) p (n .replicas) i in rw (← e) (kept-replica n a r k .0);
         ascends = b;
-        new = λ i. not-has (n .task) (tasksOf seen) c (back (n .task) i);
+        new = λ i. not-has (n .task) (lineTasks seen) c (back (n .task) i);
         fed = λ e i. to (e .from) (has-in (e .from) _ (all-in _ e (incoming j (n .task)) d i));
       }
 
@@ -238,8 +221,7 @@ module _ (l : Limits) (j : Job) where
       let (d, e) = neither (outside 1 (l .tasks) (h .tasks) || outside 1 (l .processors) (h .processors) || outside 0 (l .losses) (h .losses)) (outside 0 (l .tick) (h .best)) b in
       (inside 0 (l .tick) (h .best) e .1, inside 0 (l .tick) (h .worst) c .1)
 
-  lines-within : (ns : List Line) → Ruled (planLine l j) (planLineRule l j) [] ns → (n : Line) → In n ns → (r : Replica) → In r (n .replicas)
-      → (r .early ≤ l .tick) × (r .late ≤ l .tick)
+  lines-within : (ns : List Line) → Ruled (planLine l j) (planLineRule l j) [] ns → (n : Line) → In n ns → Ticks (l .tick) n
   lines-within ns w n i r k =
       let (seen, _, z) = ruled-in (planLine l j) (planLineRule l j) [] ns w n i in
       let q = kept-replica n (plan-line-parts seen n z .0) r k in
@@ -252,8 +234,7 @@ module _ (l : Limits) (j : Job) where
         worst-most = plan-head-parts h z .1;
         count = m;
         ordered = lines-ordered [] [] (λ t i. i, λ t i. i) ns w;
-        early-most = λ n i r k. lines-within ns w n i r k .0;
-        late-most = λ n i r k. lines-within ns w n i r k .1;
+        ticks-most = lines-within ns w;
       }
 
 pub plan-facts : (l : Limits) (j : Job) (s : List ℕ) (p : Plan) → readPlan l j s ≡ good p → PlanFacts l j p
@@ -277,11 +258,6 @@ jobOf h runs delays es =
       delays = map (drop 1) delays;
       edges = es;
     }
-
-nth-in : (vs : List ℕ) (i : ℕ) → i < length vs → In (nth vs i) vs
-nth-in [] i h = absurd (omega arith)
-nth-in (v ∷ vs) zero h = inl refl
-nth-in (v ∷ vs) (suc i) h = inr (nth-in vs i (omega arith))
 
 -- Number p of row i of a table that lines were read into.
 abbrev cell : List (List ℕ) → ℕ → ℕ → ℕ
@@ -406,34 +382,24 @@ job-facts l s j g =
 
 -- A stop list ---------------------------------------------------------------------------------------------------
 
--- The processors after the last stop's; all, if there is none.
-abbrev lowest : Option Stop → ℕ
-lowest none = 0
-lowest (some s) = 1 + s .processor
-
-after-last : (q : Option Stop) (s : Stop) → notAfter q s ≡ false → lowest q ≤ s .processor
+after-last : (q : Option Stop) (s : Stop) → notAfter q s ≡ false → afterLast q ≤ s .processor
 after-last none s h = omega arith
 after-last (some q) s h = omega (arith, leb-false (s .processor) (q .processor) h)
 
-last-of : (seen : List Stop) (s : Stop) → getLast? (seen ++ s ∷ []) ≡ some s
-last-of [] s = refl
-last-of (q ∷ []) s = refl
-last-of (q ∷ r ∷ seen) s = last-of (r ∷ seen) s
-
 module _ (l : Limits) (j : Job) where
   stop-parts : (seen : List Stop) (s : Stop) → stopRule l j seen s ≡ 0
-      → (lowest (getLast? seen) ≤ s .processor) × (s .processor < j .processors) × (s .tick ≤ l .tick)
+      → (afterLast (getLast? seen) ≤ s .processor) × (s .processor < j .processors) × (s .tick ≤ l .tick)
   unfolding stopRule
   stop-parts seen s z =
       let (a, z1) = passed _ _ _ z in
       let (b, c) = neither (not (ltb (s .processor) (j .processors))) (outside 0 (l .tick) (s .tick)) a in
       (after-last (getLast? seen) s (passed _ _ _ z1 .0), ltb-true _ _ (not-false _ b), inside 0 (l .tick) (s .tick) c .1)
 
-  stops-ascend : (seen ss : List Stop) → Ruled (stopLine l) (stopRule l j) seen ss → Ascending l j (lowest (getLast? seen)) ss
+  stops-ascend : (seen ss : List Stop) → Ruled (stopLine l) (stopRule l j) seen ss → Ascending l j (afterLast (getLast? seen)) ss
   stops-ascend seen [] w = tt
   stops-ascend seen (s ∷ ss) (_, z, w) =
       let (a, b, c) = stop-parts seen s z in
-      let more : Ascending l j (lowest (getLast? (seen ++ s ∷ []))) ss = stops-ascend (seen ++ s ∷ []) ss w in
+      let more : Ascending l j (afterLast (getLast? (seen ++ s ∷ []))) ss = stops-ascend (seen ++ s ∷ []) ss w in
       (a, b, c, rw (last-of seen s) at more)
 
 pub stop-facts : (l : Limits) (j : Job) (s : List ℕ) (ss : List Stop) → readStops l j s ≡ good ss → Ascending l j 0 ss

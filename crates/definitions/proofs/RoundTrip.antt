@@ -1,8 +1,8 @@
 -- What is printed as a plan or a stop list is read back, and how long it is.
 use mathlib.Core.Path.{_≡_, refl, ap}
 use mathlib.Core.Logic.{inl, inr, ⊎-elim}
-use mathlib.Core.List.{List, [], _∷_, _++_, append-assoc, append-nil, map, map-append, getLast?}
-use mathlib.Core.Bool.{Bool, false, not, _||_}
+use mathlib.Core.List.{List, [], _∷_, _++_, append-assoc, append-nil, getLast?}
+use mathlib.Core.Bool.{false, not, _||_}
 use mathlib.Core.Option.{Option, none, some}
 use Prim.Native.Nat.{ℕ, zero, suc, _+_, _*_, _^_, _<_, _≤_}
 use native.Mathlib.Omega.{arith}
@@ -10,76 +10,44 @@ use native.Mathlib.Nat.{mul-le-mul-right}
 use lib.Dec.{ltb}
 use lib.ListN.{length, length-append}
 use borrow.Author.Tests.{lt-ltb, le-ltb, lt-leb, eq-eqb}
-use Rattle.definitions.specs.Lists.{bytes, In, any, has}
+use Rattle.definitions.specs.Lists.{bytes, In, has}
 use Rattle.definitions.specs.Limits.{Limits}
 use Rattle.definitions.specs.Text.{found, Reader, firstOf, numbersText, lineText, lines, linesToEnd, good, whole}
 use Rattle.definitions.specs.Job.{Job, incoming, outside}
 use Rattle.definitions.specs.Plan.{Replica, Line, Plan, triples, planHeadOf, planHead, planHeadRule, strays, planLine, planLineRule, planLines, readPlan, replicaNumbers, planLinesText, planText}
 use Rattle.definitions.specs.Stops.{Stop, notAfter, stopLine, stopRule, readStops, stopsText}
 use Rattle.definitions.specs.Claims.{planTicks, fieldLength, lineLength, planLength, Roomy}
-use Rattle.definitions.proofs.Lists.{append-left, append-right, in-append, map-in, in-has, has-not, in-all}
-use Rattle.definitions.proofs.Facts.{JobFacts, LineFacts, Ordered, PlanFacts, Ascending}
+use Rattle.definitions.proofs.Lists.{neither-false, not-outside, last-of, none-any, map-in, in-has, has-not, in-all}
+use Rattle.definitions.proofs.Facts.{JobFacts, LineFacts, Ordered, Ticks, PlanFacts, Ascending, afterLast}
+use Rattle.definitions.proofs.Tasks.{lineTasks, SameTasks, tasks-more}
 use Rattle.definitions.proofs.Decimal.{line-back, width-powers, width-monotone, length-none, length-numbers, length-line}
-
--- Tests that are false ----------------------------------------------------------------------------------------
-
-neither-false : {a b : Bool} → a ≡ false → b ≡ false → (a || b) ≡ false
-neither-false {a} {b} p q = rw (p, q)
-
-none-any : {A : Type 0} (f : A → Bool) (xs : List A) → ((x : A) → In x xs → f x ≡ false) → any f xs ≡ false
-unfolding any
-none-any f [] h = refl
-none-any f (x ∷ xs) h = neither-false (h x (inl refl)) (none-any f xs (λ y i. h y (inr i)))
-
-inside : (low high n : ℕ) → low ≤ n → n ≤ high → outside low high n ≡ false
-inside low high n h g = neither-false (le-ltb n low h) (le-ltb high n g)
 
 below-true : (n m : ℕ) → n < m → not (ltb n m) ≡ false
 below-true n m h = ap not (lt-ltb n m h)
 
 -- A line of a plan --------------------------------------------------------------------------------------------
 
-module _ (l : Limits) where
-  triples-back : (rs : List Replica) → triples (replicaNumbers rs) ≡ rs
-  unfolding triples replicaNumbers
-  triples-back [] = refl
-  triples-back (r ∷ rs) = ap (λ (qs : List Replica). r ∷ qs) (triples-back rs)
+triples-back : (rs : List Replica) → triples (replicaNumbers rs) ≡ rs
+unfolding triples replicaNumbers
+triples-back [] = refl
+triples-back (r ∷ rs) = ap (λ (qs : List Replica). r ∷ qs) (triples-back rs)
 
-  length-triples : (rs : List Replica) → length (replicaNumbers rs) ≡ 3 * length rs
-  unfolding replicaNumbers
-  length-triples [] = refl
-  length-triples (r ∷ rs) = omega (arith, length-triples rs)
+length-triples : (rs : List Replica) → length (replicaNumbers rs) ≡ 3 * length rs
+unfolding replicaNumbers
+length-triples [] = refl
+length-triples (r ∷ rs) = omega (arith, length-triples rs)
 
-  in-triples : (most : ℕ) (rs : List Replica) → ((r : Replica) → In r rs → (r .processor < most) × (r .early < most) × (r .late < most)) → (v : ℕ) → In v (replicaNumbers rs) → v < most
-  unfolding replicaNumbers
-  in-triples most (r ∷ rs) h v (inl e) = rw e at (h r (inl refl) .0)
-  in-triples most (r ∷ rs) h v (inr (inl e)) = rw e at (h r (inl refl) .1)
-  in-triples most (r ∷ rs) h v (inr (inr (inl e))) = rw e at (h r (inl refl) .2)
-  in-triples most (r ∷ rs) h v (inr (inr (inr i))) = in-triples most rs (λ q k. h q (inr k)) v i
-
--- The ticks of a line's replicas are at most `most`.
-abbrev pub Ticks : ℕ → Line → Type 0
-Ticks most n = (r : Replica) → In r (n .replicas) → (r .early ≤ most) × (r .late ≤ most)
+in-triples : (most : ℕ) (rs : List Replica) → ((r : Replica) → In r rs → (r .processor < most) × (r .early < most) × (r .late < most)) → (v : ℕ) → In v (replicaNumbers rs) → v < most
+unfolding replicaNumbers
+in-triples most (r ∷ rs) h v (inl e) = rw e at (h r (inl refl) .0)
+in-triples most (r ∷ rs) h v (inr (inl e)) = rw e at (h r (inl refl) .1)
+in-triples most (r ∷ rs) h v (inr (inr (inl e))) = rw e at (h r (inl refl) .2)
+in-triples most (r ∷ rs) h v (inr (inr (inr i))) = in-triples most rs (λ q k. h q (inr k)) v i
 
 -- What is known of a replica of such a line.
 in-range : (j : Job) (most : ℕ) (seen : List ℕ) (n : Line) → LineFacts j seen n → Ticks most n → (r : Replica) → In r (n .replicas)
     → (r .processor < j .processors) × (r .early ≤ most) × (r .late ≤ most)
 in-range j most seen n f ticks r i = (f .processors-below (r .processor) (map-in (λ r. r .processor) r (n .replicas) i), ticks r i .0, ticks r i .1)
-
-abbrev tasksOf : List Line → List ℕ
-tasksOf ns = map (λ n. n .task) ns
-
--- Two lists have the same members.
-abbrev Same : List ℕ → List ℕ → Type 0
-Same xs ys = ((x : ℕ) → In x xs → In x ys) × ((x : ℕ) → In x ys → In x xs)
-
--- One more line: its task stands last among the tasks in order, and first among those with the newest first.
-same-more : (seen : List ℕ) (before : List Line) (n : Line) → Same seen (tasksOf before) → Same (n .task ∷ seen) (tasksOf (before ++ n ∷ []))
-same-more seen before n (to, from) =
-    rw (map-append (λ n. n .task) before (n ∷ [])) (
-      (λ t. ⊎-elim (λ e. append-right t (tasksOf before) (n .task ∷ []) (inl e)) (λ i. append-left t (tasksOf before) (n .task ∷ []) (to t i))),
-      (λ t i. ⊎-elim (λ k. inr (from t k)) (⊎-elim inl absurd) (in-append t (tasksOf before) (n .task ∷ []) i)),
-    )
 
 -- The numbers of a plan's first line.
 abbrev headNumbers : Job → Plan → List ℕ
@@ -89,16 +57,16 @@ module _ (l : Limits) (roomy : Roomy l) (j : Job) (facts : JobFacts l j) where
   line-numbers : (seen : List ℕ) (n : Line) → LineFacts j seen n → Ticks (l .tick) n → (v : ℕ) → In v (n .task ∷ replicaNumbers (n .replicas)) → v < 10 ^ l .powers
   line-numbers seen n f ticks v (inl e) = omega (arith, f .task-below)
   line-numbers seen n f ticks v (inr i) =
-      in-triples l (10 ^ l .powers) (n .replicas) (λ r k. let q = in-range j (l .tick) seen n f ticks r k in omega arith) v i
+      in-triples (10 ^ l .powers) (n .replicas) (λ r k. let q = in-range j (l .tick) seen n f ticks r k in omega arith) v i
 
   plan-line-back : (seen : List ℕ) (n : Line) (s : List ℕ) → LineFacts j seen n → Ticks (l .tick) n
       → planLine l j (lineText l (bytes "T,") (n .task ∷ replicaNumbers (n .replicas)) ++ s) ≡ found n s
   unfolding planLine
   plan-line-back seen n s f ticks =
       let vs : List ℕ = n .task ∷ replicaNumbers (n .replicas) in
-      let k : 1 + 3 * (1 + j .losses) ≡ length vs = omega (arith, length-triples l (n .replicas), f .width) in
+      let k : 1 + 3 * (1 + j .losses) ≡ length vs = omega (arith, length-triples (n .replicas), f .width) in
       let r = line-back l (roomy .some-digit) (roomy .digits-read) (bytes "T,") vs s (line-numbers seen n f ticks) in
-      rw (k, r, triples-back l (n .replicas))
+      rw (k, r, triples-back (n .replicas))
 
   no-stray : (seen : List ℕ) (n : Line) → LineFacts j seen n → Ticks (l .tick) n → strays l j n ≡ false
   unfolding strays
@@ -108,23 +76,23 @@ module _ (l : Limits) (roomy : Roomy l) (j : Job) (facts : JobFacts l j) where
           → (not (ltb (r .processor) (j .processors)) || outside 0 (l .tick) (r .early) || outside 0 (l .tick) (r .late)) ≡ false
       inRange r i =
           let (p, e, x) = in-range j (l .tick) seen n f ticks r i in
-          neither-false (neither-false (below-true (r .processor) (j .processors) p) (inside 0 (l .tick) (r .early) (omega arith) e)) (inside 0 (l .tick) (r .late) (omega arith) x)
+          neither-false (neither-false (below-true (r .processor) (j .processors) p) (not-outside 0 (l .tick) (r .early) (omega arith) e)) (not-outside 0 (l .tick) (r .late) (omega arith) x)
 
   plan-line-rule : (seen : List ℕ) (before : List Line) (n : Line) → LineFacts j seen n → Ticks (l .tick) n
-      → Same seen (tasksOf before) → planLineRule l j before n ≡ 0
+      → SameTasks before seen → planLineRule l j before n ≡ 0
   unfolding planLineRule firstOf
-  plan-line-rule seen before n f ticks (to, from) =
-      let new : has (n .task) (tasksOf before) ≡ false = has-not (n .task) (tasksOf before) (λ i. f .new (from (n .task) i)) in
-      let fed = in-all (λ e. has (e .from) (tasksOf before)) (incoming j (n .task)) (λ e i. in-has (e .from) (tasksOf before) (to (e .from) (f .fed e i))) in
+  plan-line-rule seen before n f ticks (to, back) =
+      let new : has (n .task) (lineTasks before) ≡ false = has-not (n .task) (lineTasks before) (λ i. f .new (to (n .task) i)) in
+      let fed = in-all (λ e. has (e .from) (lineTasks before)) (incoming j (n .task)) (λ e i. in-has (e .from) (lineTasks before) (back (e .from) (f .fed e i))) in
       rw (no-stray seen n f ticks, f .ascends, new, fed)
 
-  plan-lines-back : (seen : List ℕ) (before ns : List Line) → Ordered j seen ns → ((n : Line) → In n ns → Ticks (l .tick) n) → Same seen (tasksOf before)
+  plan-lines-back : (seen : List ℕ) (before ns : List Line) → Ordered j seen ns → ((n : Line) → In n ns → Ticks (l .tick) n) → SameTasks before seen
       → lines (planLine l j) (planLineRule l j) (length ns) before (planLinesText l ns) ≡ found (before ++ ns) []
   unfolding lines planLinesText
   plan-lines-back seen before [] o ticks same = rw (append-nil before)
   plan-lines-back seen before (n ∷ ns) (f, fs) ticks same =
       let e : before ++ n ∷ [] ++ ns ≡ before ++ n ∷ ns = append-assoc before (n ∷ []) ns in
-      let r = plan-lines-back (n .task ∷ seen) (before ++ n ∷ []) ns fs (λ m i. ticks m (inr i)) (same-more seen before n same) in
+      let r = plan-lines-back (n .task ∷ seen) (before ++ n ∷ []) ns fs (λ m i. ticks m (inr i)) (tasks-more before seen n same) in
       rw (plan-line-back seen n (planLinesText l ns) f (ticks n (inl refl)), plan-line-rule seen before n f (ticks n (inl refl)) same, r, e)
 
   -- A plan ---------------------------------------------------------------------------------------------------
@@ -144,11 +112,11 @@ module _ (l : Limits) (roomy : Roomy l) (j : Job) (facts : JobFacts l j) where
   unfolding planHeadRule firstOf
   plan-head-rule p f =
       rw (
-        inside 1 (l .tasks) (j .tasks) (facts .some-task) (facts .tasks-most),
-        inside 1 (l .processors) (j .processors) (facts .some-processor) (facts .processors-most),
-        inside 0 (l .losses) (j .losses) (omega arith) (facts .losses-most),
-        inside 0 (l .tick) (p .best) (omega arith) (f .best-most),
-        inside 0 (l .tick) (p .worst) (omega arith) (f .worst-most),
+        not-outside 1 (l .tasks) (j .tasks) (facts .some-task) (facts .tasks-most),
+        not-outside 1 (l .processors) (j .processors) (facts .some-processor) (facts .processors-most),
+        not-outside 0 (l .losses) (j .losses) (omega arith) (facts .losses-most),
+        not-outside 0 (l .tick) (p .best) (omega arith) (f .best-most),
+        not-outside 0 (l .tick) (p .worst) (omega arith) (f .worst-most),
         eq-eqb (j .tasks) (j .tasks) refl,
         eq-eqb (j .processors) (j .processors) refl,
         eq-eqb (j .losses) (j .losses) refl,
@@ -157,33 +125,23 @@ module _ (l : Limits) (roomy : Roomy l) (j : Job) (facts : JobFacts l j) where
   plan-read : (p : Plan) → PlanFacts l j p → planLines l j (planText l j p) ≡ found p []
   unfolding planLines planText
   plan-read p f =
-      let r = plan-lines-back [] [] (p .lines) (f .ordered) (λ n i r k. (f .early-most n i r k, f .late-most n i r k)) ((λ t i. i), (λ t i. i)) in
+      let r = plan-lines-back [] [] (p .lines) (f .ordered) (f .ticks-most) ((λ t i. i), (λ t i. i)) in
       rw (plan-head-back p (planLinesText l (p .lines)) f, plan-head-rule p f, rw (f .count) at r)
 
-fits : {A : Type 0} (l : Limits) (r : Reader A) (s : List ℕ) (a : A) → length s ≤ l .textLength → r s ≡ found a [] → whole l r s ≡ good a
-fits l r s a h e = rw (le-ltb (l .textLength) (length s) h, e)
+whole-fits : {A : Type 0} (l : Limits) (r : Reader A) (s : List ℕ) (a : A) → length s ≤ l .textLength → r s ≡ found a [] → whole l r s ≡ good a
+whole-fits l r s a h e = rw (le-ltb (l .textLength) (length s) h, e)
 
 -- A printed plan is read back.
 pub plan-back : (l : Limits) → Roomy l → (j : Job) (p : Plan) → JobFacts l j → PlanFacts l j p → length (planText l j p) ≤ l .textLength
     → readPlan l j (planText l j p) ≡ good p
 unfolding readPlan
-plan-back l roomy j p facts f h = fits l (planLines l j) (planText l j p) p h (plan-read l roomy j facts p f)
+plan-back l roomy j p facts f h = whole-fits l (planLines l j) (planText l j p) p h (plan-read l roomy j facts p f)
 
 -- Stops -------------------------------------------------------------------------------------------------------
 
--- The last of the stops before, if there is one, is on a processor below low.
-abbrev Past : ℕ → Option Stop → Type 0
-Past low none = Unit {0}
-Past low (some q) = q .processor < low
-
-past-more : (low : ℕ) (q : Option Stop) (s : Stop) → Past low q → low ≤ s .processor → notAfter q s ≡ false
-past-more low none s h g = refl
-past-more low (some q) s h g = lt-leb (s .processor) (q .processor) (omega arith)
-
-last-more : (ss : List Stop) (s : Stop) → getLast? (ss ++ s ∷ []) ≡ some s
-last-more [] s = refl
-last-more (q ∷ []) s = refl
-last-more (q ∷ r ∷ ss) s = last-more (r ∷ ss) s
+last-before : (q : Option Stop) (s : Stop) → afterLast q ≤ s .processor → notAfter q s ≡ false
+last-before none s h = refl
+last-before (some q) s h = lt-leb (s .processor) (q .processor) (omega arith)
 
 module _ (l : Limits) (roomy : Roomy l) (j : Job) (facts : JobFacts l j) where
   stop-line-back : (s : Stop) (t : List ℕ) → s .processor < j .processors → s .tick ≤ l .tick
@@ -194,32 +152,31 @@ module _ (l : Limits) (roomy : Roomy l) (j : Job) (facts : JobFacts l j) where
       let most : (v : ℕ) → In v vs → v < 10 ^ l .powers = λ v. ⊎-elim (λ e. omega arith) (⊎-elim (λ e. omega arith) absurd) in
       rw (line-back l (roomy .some-digit) (roomy .digits-read) (bytes "S,") vs t most)
 
-  stop-rule : (low : ℕ) (before : List Stop) (s : Stop) → Past low (getLast? before) → low ≤ s .processor → s .processor < j .processors → s .tick ≤ l .tick
+  stop-rule : (before : List Stop) (s : Stop) → afterLast (getLast? before) ≤ s .processor → s .processor < j .processors → s .tick ≤ l .tick
       → stopRule l j before s ≡ 0
   unfolding stopRule firstOf
-  stop-rule low before s past h g t =
-      rw (below-true (s .processor) (j .processors) g, inside 0 (l .tick) (s .tick) (omega arith) t, past-more low (getLast? before) s past h)
+  stop-rule before s h g t =
+      rw (below-true (s .processor) (j .processors) g, not-outside 0 (l .tick) (s .tick) (omega arith) t, last-before (getLast? before) s h)
 
-  stop-lines-back : (k low : ℕ) (before ss : List Stop) → Ascending l j low ss → Past low (getLast? before) → length (stopsText l ss) ≤ k
+  stop-lines-back : (k : ℕ) (before ss : List Stop) → Ascending l j (afterLast (getLast? before)) ss → length (stopsText l ss) ≤ k
       → linesToEnd (stopLine l) (stopRule l j) k before (stopsText l ss) ≡ found (before ++ ss) []
   unfolding linesToEnd stopsText lineText
-  stop-lines-back zero low before [] a past h = rw (append-nil before)
-  stop-lines-back (suc k) low before [] a past h = rw (append-nil before)
-  stop-lines-back zero low before (s ∷ ss) a past h = absurd (omega arith)
-  stop-lines-back (suc k) low before (s ∷ ss) (a, b, c, d) past h =
+  stop-lines-back zero before [] a h = rw (append-nil before)
+  stop-lines-back (suc k) before [] a h = rw (append-nil before)
+  stop-lines-back zero before (s ∷ ss) a h = absurd (omega arith)
+  stop-lines-back (suc k) before (s ∷ ss) (a, b, c, d) h =
       let e : before ++ s ∷ [] ++ ss ≡ before ++ s ∷ ss = append-assoc before (s ∷ []) ss in
-      let p : Past (1 + s .processor) (getLast? (before ++ s ∷ [])) = rw (last-more before s) (omega arith) in
       let n = length-append (lineText l (bytes "S,") (s .processor ∷ s .tick ∷ [])) (stopsText l ss) in
-      let r = stop-lines-back k (1 + s .processor) (before ++ s ∷ []) ss d p (omega arith) in
-      rw (stop-line-back s (stopsText l ss) b c, stop-rule low before s past a b c, r, e)
+      let r = stop-lines-back k (before ++ s ∷ []) ss (rw (last-of before s) d) (omega arith) in
+      rw (stop-line-back s (stopsText l ss) b c, stop-rule before s a b c, r, e)
 
 -- A printed stop list is read back.
 pub stops-back : (l : Limits) → Roomy l → (j : Job) (ss : List Stop) → JobFacts l j → Ascending l j 0 ss → length (stopsText l ss) ≤ l .textLength
     → readStops l j (stopsText l ss) ≡ good ss
 unfolding readStops
 stops-back l roomy j ss facts a h =
-    fits l (linesToEnd (stopLine l) (stopRule l j) (length (stopsText l ss)) []) (stopsText l ss) ss h
-    (stop-lines-back l roomy j facts (length (stopsText l ss)) 0 [] ss a tt (omega arith))
+    whole-fits l (linesToEnd (stopLine l) (stopRule l j) (length (stopsText l ss)) []) (stopsText l ss) ss h
+    (stop-lines-back l roomy j facts (length (stopsText l ss)) [] ss a (omega arith))
 
 -- Lengths -----------------------------------------------------------------------------------------------------
 

@@ -1,13 +1,12 @@
 -- "The words of demand 3", and what is claimed of the definitions. proofs/ proves each claim.
 use mathlib.Core.Path.{_≡_}
 use mathlib.Core.List.{List, [], _∷_, map, reverse}
-use mathlib.Core.Bool.{Bool, true, false}
-use Prim.Native.Nat.{ℕ, zero, suc, _+_, _*_, _^_, _≤_, _<_}
+use Prim.Native.Nat.{ℕ, _+_, _*_, _^_, _≤_, _<_}
 use lib.Dec.{eqb}
 use lib.ListN.{length, take}
 use Rattle.definitions.specs.Lists.{if_then_else_, In, has}
 use Rattle.definitions.specs.Limits.{Limits, document01}
-use Rattle.definitions.specs.Text.{width, Result, good}
+use Rattle.definitions.specs.Text.{width, good}
 use Rattle.definitions.specs.Job.{Job, readJob}
 use Rattle.definitions.specs.Plan.{Line, Plan, processorsOf, readPlan}
 use Rattle.definitions.specs.Stops.{Stop, readStops, stopsText}
@@ -46,22 +45,23 @@ abbrev pub placedAfter : Job → ℕ → List Outcome
 placedAfter j k = reverse (earlies j (take k (planFor j (j .losses) .lines)))
 
 module _ (l : Limits) where
-  -- "255 × 2,044,225": a run and a message for each task; and "255 × 9,044,225": ε + 1 runs and a message.
+  -- The two bounds on ticks: "255 × 2,044,225", a run and a message for each task; and "255 × 9,044,225", where "one line
+  -- can add 8 runs to a box".
   abbrev pub planTicks : ℕ
   planTicks = l .tasks * (l .runTime + l .volume * l .delay)
 
   abbrev pub replayTicks : ℕ
   replayTicks = l .tasks * ((l .losses + 1) * l .runTime + l .volume * l .delay)
 
-  -- The most bytes of a printed number up to n and of the mark after it.
+  -- The most bytes of a number up to n, printed, and of the mark after it.
   abbrev pub fieldLength : ℕ → ℕ
   fieldLength n = width l n + 1
 
-  -- The most bytes of a T line: its task and ε + 1 triples.
+  -- The most bytes of a T line whose ticks do not pass planTicks: its task and ε + 1 triples.
   unfoldable pub lineLength : ℕ
   lineLength = 2 + fieldLength (l .tasks) + (l .losses + 1) * (fieldLength (l .processors) + fieldLength planTicks + fieldLength planTicks)
 
-  -- The most bytes of a plan: its head and a T line for each task.
+  -- The most bytes of such a plan: its head and a T line for each task.
   unfoldable pub planLength : ℕ
   planLength =
       5 + fieldLength (l .tasks) + fieldLength (l .processors) + fieldLength (l .losses) + fieldLength planTicks + fieldLength planTicks
