@@ -3,24 +3,27 @@ use mathlib.Core.Path.{_≡_, refl, ap, _∙_, sym}
 use mathlib.Core.Logic.{_⊎_, inl, inr, ⊎-elim}
 use mathlib.Core.List.{List, [], _∷_, _++_, map}
 use mathlib.Core.Bool.{Bool, true, false, not}
-use Prim.Native.Nat.{ℕ, zero, suc, _+_, _*_, _-_, _<_, _≤_, max}
+use Prim.Native.Nat.{ℕ, zero, suc, _+_, _*_, _-_, _<_, _≤_}
 use native.Mathlib.Omega.{arith}
 use native.Mathlib.Nat.{suc-mul, one-mul, zero-mul, mul-le-mul, mul-le-mul-left, mul-le-mul-right, mul-assoc, mul-add, mul-left-comm, one-le-mul}
-use lib.Dec.{eqb, leb}
+use lib.Dec.{eqb}
 use lib.ListN.{length, length-map}
 use borrow.Author.Tests.{eqb-true, eq-eqb}
 use Rattle.definitions.specs.Lists.{if_then_else_, nth, below, In, keep, distinct, sameNumbers, sum, greatest}
 use Rattle.definitions.specs.Limits.{Limits}
 use Rattle.definitions.specs.Job.{Edge, Job, runTime, delay, incoming, outgoing}
-use Rattle.definitions.specs.Plan.{Line, processorsOf}
+use Rattle.definitions.specs.Plan.{Replica, Line, Plan, processorsOf}
 use Rattle.definitions.specs.Stops.{Stop}
 use Rattle.definitions.specs.Times.{Time, tick, never, later, sooner, after, least, largest, Copy, Outcome, outcome, ofTask, times, ready, message, arrival, dataReady, start, stopTime, unlessStopped, finish, walk, copiesOf, copies, earlies, lates, exits, end, bestEnd, worstEnd}
+use Rattle.definitions.specs.Refusals.{replicasOf, sameTimes, ticksAgree, planRefusal}
 use Rattle.definitions.specs.Planner.{tickOf, Waiting, waitingFrom, scale, scaledRun, totalDelay, scaledMessage, raised, settled, bottomLevels, largestDelay, topLevel, ranked, trial}
 use Rattle.definitions.specs.Replay.{replay}
 use Rattle.definitions.specs.Claims.{Within, AllWithin, planTicks, replayTicks}
-use Rattle.definitions.proofs.Lists.{in-map, map-in, in-keep, keep-length, fits, distinct-keep, length-count, in-below, NumbersMost, nth-most, sum-most, greatest-most}
-use Rattle.definitions.proofs.Facts.{JobFacts, Fed, Ordered, Apart}
+use Rattle.definitions.proofs.Lists.{both, append-left, append-right, in-map, map-in, in-keep, keep-length, fits, distinct-keep, length-count, in-below, NumbersMost, nth-most, sum-most, greatest-most}
+use Rattle.definitions.proofs.Facts.{JobFacts, Fed, Ordered, Apart, Ticks}
 use Rattle.definitions.proofs.Tasks.{in-incoming, in-outgoing, in-task, copyOf}
+use Rattle.definitions.proofs.Stopping.{stopped}
+use Rattle.definitions.proofs.Guarantee.{accepted-facts, same-times}
 
 -- Times -------------------------------------------------------------------------------------------------------
 
@@ -66,19 +69,15 @@ chosen-within : {A : Type 0} (b : ℕ) (choose : List Time → Time) → Bounded
     → ((x : A) → In x xs → Within b (f x)) → Within b (choose (map f xs))
 chosen-within b choose k f xs h = k b (map f xs) (λ y i. let (x, m, e) = in-map f y xs i in rw (← e) (h x m))
 
--- A copy after which n ticks are left: it starts at the later of r and d, and runs u ticks.
+-- A copy after which n ticks are left: it starts at the later of r and d, and runs u ticks, if it is not stopped.
+run-within : (b n u v : ℕ) (r d : Time) → u ≤ v → Within b (after (n + v) r) → Within b (after (n + v) d) → Within b (after n (after u (later r d)))
+run-within b n u v (tick r) (tick d) h a c = omega arith
+run-within b n u v (tick r) never h a c = tt
+run-within b n u v never d h a c = tt
+
 copy-within : (b n u v : ℕ) (s r d : Time) → u ≤ v → Within b (after (n + v) r) → Within b (after (n + v) d)
     → Within b (after n (unlessStopped s (after u (later r d))))
-copy-within b n u v never (tick r) (tick d) h a c = omega arith
-copy-within b n u v (tick s) (tick r) (tick d) h a c = by (leb (max r d + u) s)
-  where
-    by : (t : Bool) → Within b (after n (if t then tick (max r d + u) else never))
-    by true = omega arith
-    by false = tt
-copy-within b n u v never (tick r) never h a c = tt
-copy-within b n u v never never d h a c = tt
-copy-within b n u v (tick s) (tick r) never h a c = tt
-copy-within b n u v (tick s) never d h a c = tt
+copy-within b n u v s r d h a c = ⊎-elim (λ q. rw q (run-within b n u v r d h a c)) (λ q. rw q tt) (stopped s (after u (later r d)))
 
 -- How often ---------------------------------------------------------------------------------------------------
 
@@ -255,8 +254,24 @@ end-within j b choose k ds h =
     chosen-within b largest largest-within (λ t. choose (times (ofTask t ds))) (exits j)
     (λ t i. chosen-within b choose k (λ d. d .time) (ofTask t ds) (λ d i. h d (in-task t d ds i .0)))
 
+in-replicas : (n : Line) (r : Replica) (ns : List Line) → In n ns → In r (n .replicas) → In r (replicasOf ns)
+unfolding replicasOf
+in-replicas n r (m ∷ ns) (inl e) k = append-left r (m .replicas) (replicasOf ns) (rw e k)
+in-replicas n r (m ∷ ns) (inr i) k = append-right r (m .replicas) (replicasOf ns) (in-replicas n r ns i k)
+
+-- Ticks that are written as the equations give them pass no bound of the equations'.
+written-within : (b : ℕ) (written : Replica → ℕ) (ds : List Outcome) (ns : List Line)
+    → sameTimes (times ds) (map (λ r. tick (written r)) (replicasOf ns)) ≡ true → AllWithin b ds
+    → (n : Line) → In n ns → (r : Replica) → In r (n .replicas) → written r ≤ b
+written-within b written ds ns e h n i r k =
+    let all = replicasOf ns in
+    let here : In (tick (written r)) (times ds) =
+    rw (same-times (times ds) (map (λ r. tick (written r)) all) e) (map-in (λ r. tick (written r)) r all (in-replicas n r ns i k)) in
+    let (d, m, q) = in-map (λ d. d .time) (tick (written r)) ds here in
+    rw q at (h d m)
+
 module _ (l : Limits) (j : Job) (jf : JobFacts l j) where
-  -- No tick passes the first bound where no line has a processor twice: n lines take n runs and n messages at most.
+  -- Lines that have no processor twice: n of them take n runs and n messages at most; so the first bound is not passed.
   pub apart-within : (choose : List Time → Time) → Bounded choose → (ns : List Line) → Ordered j [] ns → Apart ns
       → PlacedWithin j (length ns * (l .runTime + l .volume * l .delay)) (walk j choose [] [] (copies j ns))
   apart-within choose k ns o h = rw (one-mul (l .runTime)) at (lines-within l j jf choose k [] 1 ns o (repeats-apart ns h))
@@ -264,25 +279,35 @@ module _ (l : Limits) (j : Job) (jf : JobFacts l j) where
   pub plan-bound : (n : ℕ) → n ≤ j .tasks → n * (l .runTime + l .volume * l .delay) ≤ planTicks l
   plan-bound n h = mul-le-mul-right (l .runTime + l .volume * l .delay) (omega (arith, jf .tasks-most))
 
-  module _ (ns : List Line) (o : Ordered j [] ns) (c : length ns ≡ j .tasks) (h : Apart ns) where
-    plan-within : (choose : List Time → Time) → Bounded choose → AllWithin (planTicks l) (walk j choose [] [] (copies j ns))
-    plan-within choose k d i = weaker (d .time) (plan-bound (length ns) (omega arith)) (apart-within choose k ns o h d i .1)
+  -- No tick of an accepted plan passes it.
+  module _ (p : Plan) (o : Ordered j [] (p .lines)) (c : length (p .lines) ≡ j .tasks) (h : planRefusal j p ≡ 0) where
+    plan-within : (choose : List Time → Time) → Bounded choose → AllWithin (planTicks l) (walk j choose [] [] (copies j (p .lines)))
+    plan-within choose k d i =
+        weaker (d .time) (plan-bound (length (p .lines)) (omega arith)) (apart-within choose k (p .lines) o (accepted-facts j p h .apart) d i .1)
 
-    pub earlies-within : AllWithin (planTicks l) (earlies j ns)
+    pub earlies-within : AllWithin (planTicks l) (earlies j (p .lines))
     unfolding earlies
     earlies-within = plan-within least least-within
 
-    pub lates-within : AllWithin (planTicks l) (lates j ns)
+    pub lates-within : AllWithin (planTicks l) (lates j (p .lines))
     unfolding lates
     lates-within = plan-within largest largest-within
 
-    pub best-within : Within (planTicks l) (bestEnd j ns)
+    pub best-within : p .best ≤ planTicks l
     unfolding bestEnd
-    best-within = end-within j (planTicks l) least least-within (earlies j ns) earlies-within
+    best-within = rw (accepted-facts j p h .best-end) at (end-within j (planTicks l) least least-within (earlies j (p .lines)) earlies-within)
 
-    pub worst-within : Within (planTicks l) (worstEnd j ns)
+    pub worst-within : p .worst ≤ planTicks l
     unfolding worstEnd
-    worst-within = end-within j (planTicks l) largest largest-within (lates j ns) lates-within
+    worst-within = rw (accepted-facts j p h .worst-end) at (end-within j (planTicks l) largest largest-within (lates j (p .lines)) lates-within)
+
+    pub ticks-within : (n : Line) → In n (p .lines) → Ticks (planTicks l) n
+    unfolding ticksAgree
+    ticks-within n i r k =
+        let (e, f) = both _ _ (accepted-facts j p h .ticks) in (
+          written-within (planTicks l) (λ r. r .early) (earlies j (p .lines)) (p .lines) e earlies-within n i r k,
+          written-within (planTicks l) (λ r. r .late) (lates j (p .lines)) (p .lines) f lates-within n i r k,
+        )
 
   -- No tick of a replay passes the second.
   pub replay-within : (stops : List Stop) (ns : List Line) → Ordered j [] ns → length ns ≡ j .tasks → AllWithin (replayTicks l) (replay j stops ns)

@@ -2,7 +2,7 @@
 use mathlib.Core.Path.{_≡_, refl, _∙_}
 use mathlib.Core.Logic.{_⊎_, inl, inr, ⊎-elim}
 use mathlib.Core.List.{List, [], _∷_, map}
-use mathlib.Core.Bool.{Bool, true, false, _&&_, _||_}
+use mathlib.Core.Bool.{Bool, true, false, _&&_}
 use Prim.Native.Nat.{ℕ, zero, suc, _<_, _≤_}
 use native.Mathlib.Omega.{arith}
 use lib.Dec.{eqb, ltb}
@@ -43,16 +43,19 @@ keep-ascends f k (suc n) = by (f k) (keep-ascends f (suc k) n)
 abbrev Goes : (a b p q : ℕ) → Type 0
 Goes a b p q = (b < a) ⊎ ((b ≡ a) × (q < p))
 
-goes : (a b p q : ℕ) → (ltb b a || eqb b a && ltb q p) ≡ true → Goes a b p q
-goes a b p q h =
+goes-before : (finishes : List ℕ) (p q : ℕ) → Goes (nth finishes p) (nth finishes q) p q → goesBefore finishes p q ≡ true
+goes-before finishes p q (inl h) = rw (lt-ltb (nth finishes q) (nth finishes p) h)
+goes-before finishes p q (inr (e, h)) =
+    either-right (ltb (nth finishes q) (nth finishes p)) (both-true (eq-eqb (nth finishes q) (nth finishes p) e) (lt-ltb q p h))
+
+before-goes : (finishes : List ℕ) (p q : ℕ) → goesBefore finishes p q ≡ true → Goes (nth finishes p) (nth finishes q) p q
+before-goes finishes p q h =
+    let a = nth finishes p in
+    let b = nth finishes q in
     ⊎-elim
     (λ s. inl (ltb-true b a s))
     (λ s. let (e, l) = both (eqb b a) (ltb q p) s in inr (eqb-true b a e, ltb-true q p l))
     (either (ltb b a) (eqb b a && ltb q p) h)
-
-goes-test : (a b p q : ℕ) → Goes a b p q → (ltb b a || eqb b a && ltb q p) ≡ true
-goes-test a b p q (inl h) = rw (lt-ltb b a h)
-goes-test a b p q (inr h) = either-right (ltb b a) (both-true (eq-eqb b a (h .0)) (lt-ltb q p (h .1)))
 
 goes-on : (a b c p q r : ℕ) → Goes a b p q → Goes b c q r → Goes a c p r
 goes-on a b c p q r (inl h) (inl g) = inl (omega arith)
@@ -88,14 +91,12 @@ module _ (j : Job) (finishes : List ℕ) where
   rank p = length (keep (goesBefore finishes p) (below (j .processors)))
 
   goes-apart : (p : ℕ) → goesBefore finishes p p ≡ true → ⊥
-  goes-apart p h = goes-itself (nth finishes p) p (goes (nth finishes p) (nth finishes p) p p h)
+  goes-apart p h = goes-itself (nth finishes p) p (before-goes finishes p p h)
 
   goes-past : (p q r : ℕ) → goesBefore finishes p q ≡ true → goesBefore finishes q r ≡ true → goesBefore finishes p r ≡ true
   goes-past p q r h g =
-      let a = nth finishes p in
-      let b = nth finishes q in
-      let c = nth finishes r in
-      goes-test a c p r (goes-on a b c p q r (goes a b p q h) (goes b c q r g))
+      goes-before finishes p r
+      (goes-on (nth finishes p) (nth finishes q) (nth finishes r) p q r (before-goes finishes p q h) (before-goes finishes q r g))
 
   rank-below : (p : ℕ) → p < j .processors → rank p < j .processors
   rank-below p h =
@@ -117,8 +118,8 @@ module _ (j : Job) (finishes : List ℕ) where
       by true t = eqb-true p q t
       by false t =
           ⊎-elim
-          (λ s. absurd (omega (arith, rank-less p q g (goes-test (nth finishes p) (nth finishes q) p q s))))
-          (λ s. absurd (omega (arith, rank-less q p h (goes-test (nth finishes q) (nth finishes p) q p s))))
+          (λ s. absurd (omega (arith, rank-less p q g (goes-before finishes p q s))))
+          (λ s. absurd (omega (arith, rank-less q p h (goes-before finishes q p s))))
           (one-goes (nth finishes p) (nth finishes q) p q (eqb-false p q t))
 
   -- Every number below m is the rank of a box.

@@ -82,7 +82,12 @@ module _ (es : List Edge) where
   remaining-suc zero ts = refl
   remaining-suc (suc n) ts = remaining-suc n (preceded es ts)
 
-  -- A task that is left is one of the tasks, and one of them precedes it.
+  -- A task that one of the tasks precedes is left, and a task that is left is one that one of them precedes.
+  in-preceded : (t : ℕ) (ts : List ℕ) → In t ts → (e : Edge) → In e es → e .to ≡ t → In (e .from) ts → In t (preceded es ts)
+  unfolding preceded
+  in-preceded t ts m e k q f =
+      keep-in (λ t. any (leads ts t) es) t ts m (in-any (leads ts t) e es k (both-true (eq-eqb (e .to) t q) (in-has (e .from) ts f)))
+
   preceded-in : (t : ℕ) (ts : List ℕ) → In t (preceded es ts) → In t ts × ((e : Edge) × In e es × (e .to ≡ t) × In (e .from) ts)
   unfolding preceded
   preceded-in t ts i =
@@ -90,11 +95,6 @@ module _ (es : List Edge) where
       let (e, k, l) = any-in (leads ts t) es h in
       let (q, g) = both (eqb (e .to) t) (has (e .from) ts) l in
       (m, (e, k, eqb-true (e .to) t q, has-in (e .from) ts g))
-
-  in-preceded : (t : ℕ) (ts : List ℕ) → In t ts → (e : Edge) → In e es → e .to ≡ t → In (e .from) ts → In t (preceded es ts)
-  unfolding preceded
-  in-preceded t ts m e k q f =
-      keep-in (λ t. any (leads ts t) es) t ts m (in-any (leads ts t) e es k (both-true (eq-eqb (e .to) t q) (in-has (e .from) ts f)))
 
   remaining-in : (n t : ℕ) (ts : List ℕ) → In t (remaining n es ts) → In t ts
   unfolding remaining

@@ -1,7 +1,7 @@
 -- The claims of specs/Claims.antt are true.
 use mathlib.Core.Path.{_≡_, refl, _∙_}
-use mathlib.Core.Logic.{_⊎_, inl, inr, ⊎-elim}
-use mathlib.Core.List.{List, [], _∷_, map}
+use mathlib.Core.Logic.{_⊎_, ⊎-elim}
+use mathlib.Core.List.{List, [], _∷_}
 use mathlib.Core.Bool.{Bool, true, false}
 use Prim.Native.Nat.{ℕ, zero, suc, _+_, _*_, _^_, _<_, _≤_}
 use native.Mathlib.Omega.{arith}
@@ -13,19 +13,20 @@ use Rattle.definitions.specs.Lists.{if_then_else_, In}
 use Rattle.definitions.specs.Limits.{Limits, document01}
 use Rattle.definitions.specs.Text.{widthFrom, width, good}
 use Rattle.definitions.specs.Job.{Job, readJob}
-use Rattle.definitions.specs.Plan.{Replica, Line, Plan, readPlan}
-use Rattle.definitions.specs.Times.{tick, same, least, Outcome, times, earlies, lates}
-use Rattle.definitions.specs.Refusals.{doubledTasks, replicasOf, sameTimes, ticksAgree, planRefusal}
+use Rattle.definitions.specs.Plan.{Line, Plan, readPlan}
+use Rattle.definitions.specs.Times.{same, least, earlies}
+use Rattle.definitions.specs.Refusals.{doubledTasks, planRefusal}
 use Rattle.definitions.specs.Planner.{Waiting, waitingFrom, bottomLevels, ranked, trial, planFor}
 use Rattle.definitions.specs.Tools.{accepted, doubled, rejected, verdictOf, verdict, planned}
-use Rattle.definitions.specs.Claims.{haltingOf, AllWithin, placedAfter, planTicks, replayTicks, lineLength, planLength, Roomy, Kept, Quiet, Doubled, OwnAccepted, TicksFit, LevelsFit, Claim}
-use Rattle.definitions.proofs.Lists.{both, append-left, append-right, in-map, map-in, in-reverse, in-take}
-use Rattle.definitions.proofs.Facts.{JobFacts, Ordered, Apart, Ticks, PlanFacts}
+use Rattle.definitions.specs.Claims.{haltingOf, placedAfter, planTicks, replayTicks, lineLength, planLength, Roomy, Kept, Quiet, LateStops, Doubled, OwnAccepted, TicksFit, LevelsFit, Claim}
+use Rattle.definitions.proofs.Lists.{in-reverse, in-take}
+use Rattle.definitions.proofs.Facts.{JobFacts, Ordered, Apart, PlanFacts}
 use Rattle.definitions.proofs.Reading.{job-facts, plan-facts}
-use Rattle.definitions.proofs.Guarantee.{accepted-facts, same-times, kept, quiet}
+use Rattle.definitions.proofs.Guarantee.{accepted-facts, kept, quiet}
+use Rattle.definitions.proofs.Stopping.{late-replay}
 use Rattle.definitions.proofs.Doubled.{doubled-undone}
 use Rattle.definitions.proofs.Placing.{placed-count, placed-ordered, placed-accepted}
-use Rattle.definitions.proofs.Bounds.{least-within, PlacedWithin, apart-within, plan-bound, earlies-within, lates-within, best-within, worst-within, replay-within, trial-most, ranked-most}
+use Rattle.definitions.proofs.Bounds.{least-within, PlacedWithin, apart-within, plan-bound, earlies-within, lates-within, best-within, worst-within, ticks-within, replay-within, trial-most, ranked-most}
 use Rattle.definitions.proofs.RoundTrip.{plan-back, plan-length, stops-back, stops-fit}
 
 -- The checker's answer ----------------------------------------------------------------------------------------
@@ -66,6 +67,9 @@ kept-promise l job plan stops j p ss r h =
 pub quiet-promise : (l : Limits) → Quiet l
 quiet-promise l job plan stops j p r h = quiet j p (none-due l job plan j p (r .job-read) (r .plan-read) h)
 
+pub late-stops : (l : Limits) → LateStops l
+late-stops l job plan stops j p ss r h = late-replay j ss (p .lines) h
+
 pub doubled-promise : (l : Limits) → Roomy l → Doubled l
 doubled-promise l roomy job plan j p ts job-read plan-read h t i =
     let facts = job-facts l job j job-read in
@@ -79,28 +83,12 @@ pub ticks-fit : (l : Limits) → TicksFit l
 ticks-fit l job plan j p job-read plan-read =
     let facts = job-facts l job j job-read in
     let g = plan-facts l j plan p plan-read in
-    let apart : verdict l job plan ≡ accepted → Apart (p .lines) = λ h. accepted-facts j p (none-due l job plan j p job-read plan-read h) .apart in (
-      λ h. (earlies-within l j facts (p .lines) (g .ordered) (g .count) (apart h), lates-within l j facts (p .lines) (g .ordered) (g .count) (apart h)),
+    let due = none-due l job plan j p job-read plan-read in (
+      λ h. (earlies-within l j facts p (g .ordered) (g .count) (due h), lates-within l j facts p (g .ordered) (g .count) (due h)),
       λ ss. replay-within l j facts ss (p .lines) (g .ordered) (g .count),
     )
 
 -- The planner's own plans -------------------------------------------------------------------------------------
-
-in-replicas : (n : Line) (r : Replica) (ns : List Line) → In n ns → In r (n .replicas) → In r (replicasOf ns)
-unfolding replicasOf
-in-replicas n r (m ∷ ns) (inl e) k = append-left r (m .replicas) (replicasOf ns) (rw e k)
-in-replicas n r (m ∷ ns) (inr i) k = append-right r (m .replicas) (replicasOf ns) (in-replicas n r ns i k)
-
--- Ticks that are written as the equations give them pass no bound of the equations'.
-written-within : (b : ℕ) (written : Replica → ℕ) (ds : List Outcome) (ns : List Line)
-    → sameTimes (times ds) (map (λ r. tick (written r)) (replicasOf ns)) ≡ true → AllWithin b ds
-    → (n : Line) → In n ns → (r : Replica) → In r (n .replicas) → written r ≤ b
-written-within b written ds ns e h n i r k =
-    let all = replicasOf ns in
-    let here : In (tick (written r)) (times ds) =
-    rw (same-times (times ds) (map (λ r. tick (written r)) all) e) (map-in (λ r. tick (written r)) r all (in-replicas n r ns i k)) in
-    let (d, m, q) = in-map (λ d. d .time) (tick (written r)) ds here in
-    rw q at (h d m)
 
 module _ (l : Limits) (j : Job) (facts : JobFacts l j) where
   abbrev own : Plan
@@ -118,35 +106,28 @@ module _ (l : Limits) (j : Job) (facts : JobFacts l j) where
   own-apart : Apart (own .lines)
   own-apart = accepted-facts j own own-due .apart
 
-  own-best : own .best ≤ planTicks l
-  own-best = rw (accepted-facts j own own-due .best-end) at (best-within l j facts (own .lines) own-ordered own-count own-apart)
-
-  own-worst : own .worst ≤ planTicks l
-  own-worst = rw (accepted-facts j own own-due .worst-end) at (worst-within l j facts (own .lines) own-ordered own-count own-apart)
-
-  own-ticks : (n : Line) → In n (own .lines) → Ticks (planTicks l) n
-  unfolding ticksAgree
-  own-ticks n i r k =
-      let (e, f) = both _ _ (accepted-facts j own own-due .ticks) in (
-        written-within (planTicks l) (λ r. r .early) (earlies j (own .lines)) (own .lines) e (earlies-within l j facts (own .lines) own-ordered own-count own-apart) n i r k,
-        written-within (planTicks l) (λ r. r .late) (lates j (own .lines)) (own .lines) f (lates-within l j facts (own .lines) own-ordered own-count own-apart) n i r k,
-      )
-
   -- So they are in range, and the plan can be read.
   module _ (roomy : Roomy l) where
     own-facts : PlanFacts l j own
     own-facts =
         record {
-          best-most = omega (arith, own-best);
-          worst-most = omega (arith, own-worst);
+          best-most = omega (arith, best-within l j facts own own-ordered own-count own-due);
+          worst-most = omega (arith, worst-within l j facts own own-ordered own-count own-due);
           count = own-count;
           ordered = own-ordered;
-          ticks-most = λ n i r k. omega (arith, own-ticks n i r k);
+          ticks-most = λ n i r k. omega (arith, ticks-within l j facts own own-ordered own-count own-due n i r k);
         }
 
     own-read : readPlan l j (planned l j) ≡ good own
     unfolding planned
-    own-read = plan-back l roomy j own facts own-facts (omega (arith, plan-length l j facts own own-facts own-best own-worst own-ticks))
+    own-read = plan-back l roomy j own facts own-facts
+        (omega (
+          arith,
+          plan-length l j facts own own-facts
+              (best-within l j facts own own-ordered own-count own-due)
+              (worst-within l j facts own own-ordered own-count own-due)
+              (ticks-within l j facts own own-ordered own-count own-due),
+        ))
 
 pub own-accepted : (l : Limits) → Roomy l → OwnAccepted l
 own-accepted l roomy job j h =
@@ -215,6 +196,7 @@ pub claim : Claim
 claim = (
   kept-promise document01,
   quiet-promise document01,
+  late-stops document01,
   doubled-promise document01 roomy01,
   own-accepted document01 roomy01,
   ticks-fit document01,

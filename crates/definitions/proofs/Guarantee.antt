@@ -5,7 +5,7 @@ use mathlib.Core.List.{List, [], _∷_, _++_, map}
 use mathlib.Core.Bool.{Bool, true, false, not, _||_, true≢false}
 use Prim.Native.Nat.{ℕ, _+_, _<_, _≤_}
 use native.Mathlib.Omega.{arith}
-use lib.Dec.{leb, eqb}
+use lib.Dec.{eqb}
 use lib.ListN.{length, length-map}
 use borrow.Author.Tests.{eqb-true, eq-eqb, not-false}
 use Rattle.definitions.specs.Lists.{if_then_else_, In, keep, any, has, distinct, below, empty}
@@ -19,6 +19,7 @@ use Rattle.definitions.specs.Replay.{replay, firstFinish, roundEnd}
 use Rattle.definitions.proofs.Lists.{both, both-true, passed, in-some, append-left, append-right, map-in, in-any, in-keep, keep-in, has-not, in-below, spare, full}
 use Rattle.definitions.proofs.Facts.{Ordered, Apart, PlanFacts}
 use Rattle.definitions.proofs.Tasks.{copyOf, lineTasks}
+use Rattle.definitions.proofs.Stopping.{stopped}
 
 -- Between early and late --------------------------------------------------------------------------------------
 
@@ -61,11 +62,7 @@ isNever (tick x) = false
 stopped-b : (s : Time) {e l f : Time} → Between (isNever s) e l f → Between (isNever s) e l (unlessStopped s f)
 stopped-b never b = b
 stopped-b (tick s) undone = undone
-stopped-b (tick s) (within {e = e} {l = l} {f = f} a) = by (leb f s)
-  where
-    by : (t : Bool) → Between false (tick e) (tick l) (if t then tick f else never)
-    by true = within a
-    by false = undone
+stopped-b (tick s) (within {f = f} a) = ⊎-elim (λ q. rw q (within a)) (λ q. rw q undone) (stopped (tick s) (tick f))
 
 -- The largest over any list.
 largest-b : {A : Type 0} (s : Bool) (x y z : A → Time) (g : List A) → ((a : A) → In a g → Between s (x a) (y a) (z a))

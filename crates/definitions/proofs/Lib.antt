@@ -2,6 +2,7 @@ pub mod Lists
 pub mod Facts
 pub mod Tasks
 pub mod Doubled
+pub mod Stopping
 pub mod Circle
 pub mod BottomLevels
 pub mod Reading

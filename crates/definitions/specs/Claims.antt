@@ -40,6 +40,10 @@ Within b never = Unit {0}
 abbrev pub AllWithin : ℕ → List Outcome → Type 0
 AllWithin b ds = (d : Outcome) → In d ds → Within b (d .time)
 
+-- No stop comes before an outcome on its processor.
+abbrev pub Outlast : List Stop → List Outcome → Type 0
+Outlast ss ds = (s : Stop) → In s ss → (d : Outcome) → In d ds → s .processor ≡ d .processor → Within (s .tick) (d .time)
+
 -- What the planner has placed after k lines of its plan, the newest first.
 abbrev pub placedAfter : Job → ℕ → List Outcome
 placedAfter j k = reverse (earlies j (take k (planFor j (j .losses) .lines)))
@@ -103,6 +107,12 @@ module _ (l : Limits) where
       (job plan stops : List ℕ) (j : Job) (p : Plan) → Read job plan stops j p [] → verdict l job plan ≡ accepted
       → roundEnd j (replay j [] (p .lines)) ≡ tick (p .best)
 
+  -- A stop at or after the last finish on its box changes nothing.
+  abbrev pub LateStops : Type 0
+  LateStops =
+      (job plan stops : List ℕ) (j : Job) (p : Plan) (ss : List Stop) → Read job plan stops j p ss
+      → Outlast ss (replay j [] (p .lines)) → replay j ss (p .lines) ≡ replay j [] (p .lines)
+
   -- Where 12 is due, for each task with two copies on one box: its boxes stopped at tick 0 are a well formed stop list
   -- of at most ε lines, and under it the task is undone, and so is the round if it is an exit task.
   abbrev pub Doubled : Type 0
@@ -138,6 +148,7 @@ abbrev pub Claim : Type 0
 Claim =
     Kept document01
     × Quiet document01
+    × LateStops document01
     × Doubled document01
     × OwnAccepted document01
     × TicksFit document01
