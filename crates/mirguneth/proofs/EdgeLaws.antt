@@ -1,0 +1,147 @@
+-- Edges in cells, the table of pairs, and the rule of an edge.
+use mathlib.Core.Path.{_≡_, refl, sym, ap, _∙_}
+use mathlib.Core.List.{List, [], _∷_, _++_, map, map-append, append-nil}
+use mathlib.Core.Bool.{Bool, true, false, _&&_, or-false, false≢true}
+use Prim.Native.Nat.{ℕ, _+_, _*_, _-_, _/_, _%_, _<_, _≤_}
+use native.Mathlib.Omega.{arith}
+use native.Mathlib.Nat.{add-zero, div-div-eq-div-mul}
+use lib.Dec.{eqb}
+use lib.ListN.{length, getD, take, drop, set, length-set, length-drop, drop-of-length-le, replicate, length-replicate, getD-replicate}
+use lib.Seq.{getD-set-same, getD-set-other, getD-take, getD-drop, drop-at, length-take-le}
+use borrow.Author.Tests.{eqb-true, eq-eqb, ne-eqb, lt-ltb, le-ltb}
+use borrow.Rule.Slice.PartMut.{postOf, putMid, take-put}
+use Rattle.definitions.specs.Lists.{if_then_else_, bytes, nth, any}
+use Rattle.definitions.specs.Limits.{document01}
+use Rattle.definitions.specs.Text.{found, refused, firstOf, line}
+use Rattle.definitions.specs.Job.{Edge, edgeOf, edgeLine, edgeRule, edgeOrder}
+use Rattle.definitions.proofs.Lists.{both, both-true, either-right}
+use Rattle.mirguneth.specs.Memory.{edgeCell, edgeIn, Pairs}
+use Rattle.mirguneth.proofs.LineLaws.{take-more}
+use Rattle.mirguneth.proofs.MarkLaws.{any-last}
+
+-- An edge in a cell, and back.
+pub edge-of-cell : (e : Edge) → e .from < 256 → e .to < 256 → edgeIn (edgeCell e) ≡ e
+edge-of-cell e f t =
+    let q : edgeCell e / 256 ≡ e .to + 256 * e .volume = omega arith in
+    let a : edgeCell e % 256 ≡ e .from = omega arith in
+    let b : edgeCell e / 256 % 256 ≡ e .to = rw q (omega arith) in
+    let c : edgeCell e / 65536 ≡ e .volume = omega arith in
+    rw (a, b, c)
+
+pub cell-of-edge : (c : ℕ) → edgeCell (edgeIn c) ≡ c
+cell-of-edge c = omega (arith, div-div-eq-div-mul c 256 256)
+
+-- The test whether an edge goes from a to b.
+abbrev joins : ℕ → ℕ → Edge → Bool
+joins a b d = eqb (d .from) a && eqb (d .to) b
+
+-- No edge.
+pub pairs-none : Pairs [] (replicate 65536 0)
+unfolding any
+pairs-none = record {
+  size = length-replicate {A = ℕ} 65536 0;
+  holds = λ a b f t. getD-replicate {A = ℕ} 65536 (a * 256 + b) 0 0 (omega arith);
+}
+
+-- One edge more.
+pub pairs-more : (es : List Edge) (table : List ℕ) (e : Edge) → Pairs es table → e .from < 256 → e .to < 256
+    → Pairs (es ++ e ∷ []) (set table (e .from * 256 + e .to) 1)
+pairs-more es table e p f t = record {
+  size = length-set table (e .from * 256 + e .to) 1 ∙ p .size;
+  holds = λ a b g h. by a b g h (joins a b e) refl;
+}
+  where
+    by : (a b : ℕ) → a < 256 → b < 256 → (t : Bool) → joins a b e ≡ t
+        → nth (set table (e .from * 256 + e .to) 1) (a * 256 + b) ≡ (if any (joins a b) (es ++ e ∷ []) then 1 else 0)
+    by a b g h true q =
+        let (x, y) = both (eqb (e .from) a) (eqb (e .to) b) q in
+        let u : a * 256 + b ≡ e .from * 256 + e .to = omega (arith, eqb-true (e .from) a x, eqb-true (e .to) b y) in
+        let l : e .from * 256 + e .to < length table = rw (p .size) (omega arith) in
+        rw (u, getD-set-same table (e .from * 256 + e .to) 1 0 l, any-last (joins a b) es e, either-right (any (joins a b) es) q)
+    by a b g h false q =
+        let n : a * 256 + b ≡ e .from * 256 + e .to → ⊥ = λ u.
+        let z : joins a b e ≡ true = both-true (eq-eqb (e .from) a (omega arith)) (eq-eqb (e .to) b (omega arith)) in false≢true (sym q ∙ z) in
+        rw (getD-set-other table (e .from * 256 + e .to) (a * 256 + b) 1 0 n, any-last (joins a b) es e, q, or-false (any (joins a b) es)) (p .holds a b g h)
+
+-- A place that is not 0 is marked.
+marked : (b : Bool) (n : ℕ) → n ≡ (if b then 1 else 0) → (n ≡ 0 → ⊥) → b ≡ true
+marked true n e h = refl
+marked false n e h = absurd (h e)
+
+unmarked : (b : Bool) (n : ℕ) → n ≡ (if b then 1 else 0) → n ≡ 0 → b ≡ false
+unmarked true n e h = absurd (omega arith)
+unmarked false n e h = refl
+
+module _ (v : ℕ) (seen : List Edge) (e : Edge) where
+  -- A task or the volume is outside its range.
+  pub edge-from : v ≤ e .from → 3 ≡ edgeRule document01 v seen e
+  unfolding edgeRule firstOf
+  edge-from h = rw (le-ltb _ _ h)
+
+  pub edge-to : e .from < v → v ≤ e .to → 3 ≡ edgeRule document01 v seen e
+  unfolding edgeRule firstOf
+  edge-to f h = rw (lt-ltb _ _ f, le-ltb _ _ h)
+
+  pub edge-volume : e .from < v → e .to < v → 4095 < e .volume → 3 ≡ edgeRule document01 v seen e
+  unfolding edgeRule firstOf
+  edge-volume f t h = rw (lt-ltb _ _ f, lt-ltb _ _ t, le-ltb (e .volume) 0 (omega arith), lt-ltb _ _ h)
+
+  module _ (f : e .from < v) (t : e .to < v) (h : e .volume ≤ 4095) where
+    ranges : edgeRule document01 v seen e ≡ firstOf (edgeOrder seen e)
+    unfolding edgeRule firstOf
+    ranges = rw (lt-ltb _ _ f, lt-ltb _ _ t, le-ltb (e .volume) 0 (omega arith), le-ltb _ _ h)
+
+    -- From a task to itself.
+    pub edge-self : e .from ≡ e .to → 6 ≡ edgeRule document01 v seen e
+    unfolding edgeOrder firstOf
+    edge-self q = rw (ranges, eq-eqb _ _ q)
+
+    module _ (table : List ℕ) (p : Pairs seen table) (m : v ≤ 255) (n : e .from ≡ e .to → ⊥) where
+      -- The table has the pair, or has it not.
+      pub edge-twice : (nth table (e .from * 256 + e .to) ≡ 0 → ⊥) → 6 ≡ edgeRule document01 v seen e
+      unfolding edgeOrder firstOf
+      edge-twice q =
+          let k : any (joins (e .from) (e .to)) seen ≡ true = marked _ _ (p .holds (e .from) (e .to) (omega arith) (omega arith)) q in
+          rw (ranges, ne-eqb _ _ n, k)
+
+      pub edge-new : nth table (e .from * 256 + e .to) ≡ 0 → 0 ≡ edgeRule document01 v seen e
+      unfolding edgeOrder firstOf
+      edge-new q =
+          let k : any (joins (e .from) (e .to)) seen ≡ false = unmarked _ _ (p .holds (e .from) (e .to) (omega arith) (omega arith)) q in
+          rw (ranges, ne-eqb _ _ n, k)
+
+-- The rest of a memory was lent, `&mut d[a..]`, and holds ys since.
+pub drop-lent : (a : ℕ) (d ys : List ℕ) → a ≤ length d → drop a (putMid a (length d - a) d ys) ≡ ys
+drop-lent a d ys h =
+    let p : postOf a (length d - a) d ≡ [] = drop-of-length-le (drop a d) {i = length d - a} (simp length-drop (omega arith)) in
+    drop-at (take a d) (ys ++ postOf a (length d - a) d) a (length-take-le a d h) ∙ rw (p, append-nil)
+
+-- The cells of i edges stand in front of the memory d; the numbers of one more were read, `&mut d[i..]`, and are in ys.
+module _ (d ys : List ℕ) (i : ℕ) (g : i ≤ length d) where
+  abbrev new : List ℕ
+  new = putMid i (length d - i) d ys
+
+  abbrev pub latest : Edge
+  latest = record { from = nth new i; to = nth new (i + 1); volume = nth new (i + 2) }
+
+  new-at : (x : ℕ) → x < 3 → nth new (i + x) ≡ nth (take 3 ys) x
+  new-at x h = sym (getD-drop i new x 0) ∙ rw (drop-lent i d ys g) (sym (getD-take 3 ys x 0 h))
+
+  latest-is : latest ≡ edgeOf (take 3 ys)
+  latest-is =
+      let a : nth new i ≡ nth (take 3 ys) 0 = ap (λ j. nth new j) (sym (add-zero i)) ∙ new-at 0 (omega arith) in
+      rw (a, new-at 1 (omega arith), new-at 2 (omega arith))
+
+  pub edge-read : (s r : List ℕ) → line document01 (bytes "E,") 3 s ≡ found (take 3 ys) r → edgeLine document01 s ≡ found latest r
+  unfolding edgeLine
+  edge-read s r e = rw (e, latest-is)
+
+  -- Its cell takes the place of the first of them.
+  pub edges-more : (c : ℕ) → c ≡ edgeCell latest → i < length new → latest .from < 256 → latest .to < 256
+      → map edgeIn (take (i + 1) (set new i c)) ≡ map edgeIn (take i d) ++ latest ∷ []
+  edges-more c e h f t =
+      rw (take-more new i c h, take-put i (length d - i) d ys g, map-append edgeIn (take i d) (c ∷ []), e, edge-of-cell latest f t)
+
+pub edge-bad : (n : ℕ) (s : List ℕ) → line document01 (bytes "E,") 3 s ≡ refused n → edgeLine document01 s ≡ refused n
+unfolding edgeLine
+edge-bad n s e = rw e

@@ -1,0 +1,49 @@
+use mathlib.Core.Path.{_≡_, refl, sym, ap, _∙_}
+use mathlib.Core.List.{List, [], _∷_, _++_}
+use Prim.Native.Nat.{ℕ, zero, suc, _≤_, _<_, _-_, _+_, _*_, _^_}
+use native.Mathlib.Omega.{arith}
+use borrow.Author.Needs.{needs}
+use lib.ListN.{length, getD, take, drop, set, length-set}
+use Rattle.mirguneth.proofs.EdgeLaws.{edge-from, edge-to, edge-volume, edge-self, edge-twice, edge-new}
+use Rattle.mirguneth.proofs.edges.check_edge.Statement.{statement}
+use Rattle.mirguneth.proofs.edges.check_edge.Tie as tie
+use Rattle.mirguneth.proofs.edges.check_edge.Reads as reads
+use Rattle.mirguneth.proofs.edges.check_edge.Lts as lts
+use Rattle.mirguneth.proofs.edges.pair_at.Reads as pair-at-reads
+
+returns : tie.Need-returns
+returns c = (λ seen p. edge-from _ _ _ (c .if1 .taken), λ e. omega arith)
+
+returns-2 : tie.Need-returns-2
+returns-2 c = (λ seen p. edge-to _ _ _ (c .before .if1 .left) (c .if2 .taken), λ e. omega arith)
+
+returns-3 : tie.Need-returns-3
+returns-3 c = (λ seen p. edge-volume _ _ _ (c .before .before .if1 .left) (c .before .if2 .left) (c .if3 .taken), λ e. omega arith)
+
+returns-4 : tie.Need-returns-4
+returns-4 c = (λ seen p. edge-self _ _ _ (c .before .before .before .if1 .left) (c .before .before .if2 .left) (c .before .if3 .left) (c .if4 .taken), λ e. omega arith)
+
+pair-at-requires : tie.Need-pair-at-requires
+pair-at-requires c κs = search needs
+
+shared-slice-read-if5 : tie.Need-shared-slice-read-if5
+shared-slice-read-if5 c = search needs
+
+returns-5 : tie.Need-returns-5
+returns-5 c = (λ seen p. edge-twice _ _ _ (c .before .before .before .before .before .before .if1 .left) (c .before .before .before .before .before .if2 .left) (c .before .before .before .before .if3 .left) _ p (c .before .before .before .before .before .before .before .before .pre .0) (c .before .before .before .if4 .left) (rw (c .before .before .pair-at .ensures) at (c .if5 .taken)), λ e. omega arith)
+
+returns-6 : tie.Need-returns-6
+returns-6 c = (λ seen p. edge-new _ _ _ (c .before .before .before .before .before .before .if1 .left) (c .before .before .before .before .before .if2 .left) (c .before .before .before .before .if3 .left) _ p (c .before .before .before .before .before .before .before .before .pre .0) (c .before .before .before .if4 .left) (rw (c .before .before .pair-at .ensures) at (c .if5 .left)), λ e. omega arith)
+
+pub check-edge-spec : {M : Type 1} → statement M
+check-edge-spec =
+    tie.close
+    (tie.spec
+    returns
+    returns-2
+    returns-3
+    returns-4
+    pair-at-requires
+    shared-slice-read-if5
+    returns-5
+    returns-6)

@@ -1,0 +1,20 @@
+use mathlib.Core.Path.{_≡_, refl, sym, ap, _∙_}
+use mathlib.Core.List.{List, [], _∷_, _++_}
+use Prim.Native.Nat.{ℕ, zero, suc, _≤_, _<_, _-_, _+_, _*_, _^_}
+use native.Mathlib.Omega.{arith}
+use borrow.Author.Needs.{needs}
+use lib.ListN.{length, getD, take, drop, set, length-set}
+use borrow.Author.Tests.{eq-eqb, ne-eqb}
+use Rattle.mirguneth.proofs.lines.mark_after.Statement.{statement}
+use Rattle.mirguneth.proofs.lines.mark_after.Tie as tie
+use Rattle.mirguneth.proofs.lines.mark_after.Reads as reads
+use Rattle.mirguneth.proofs.lines.mark_after.Lts as lts
+
+returns : tie.Need-returns
+returns c = rw (eq-eqb _ _ (c .if1 .taken))
+
+returns-2 : tie.Need-returns-2
+returns-2 c = rw (ne-eqb _ _ (c .if1 .left))
+
+pub mark-after-spec : {M : Type 1} → statement M
+mark-after-spec = tie.close (tie.spec returns returns-2)

@@ -1,0 +1,47 @@
+use mathlib.Core.Path.{_≡_, refl, sym, ap, _∙_}
+use mathlib.Core.List.{List, [], _∷_, _++_}
+use Prim.Native.Nat.{ℕ, zero, suc, _≤_, _<_, _-_, _+_, _*_, _^_}
+use native.Mathlib.Omega.{arith}
+use borrow.Author.Needs.{needs}
+use lib.ListN.{length, getD, take, drop, set, length-set}
+use Rattle.text.specs.Told.{told}
+use Rattle.mirguneth.proofs.LineLaws.{line-open, line-no}
+use Rattle.mirguneth.proofs.lines.read_line.Statement.{statement}
+use Rattle.mirguneth.proofs.lines.read_line.Tie as tie
+use Rattle.mirguneth.proofs.lines.read_line.Reads as reads
+use Rattle.mirguneth.proofs.lines.read_line.Lts as lts
+use Rattle.mirguneth.proofs.lines.read_numbers.Reads as read-numbers-reads
+use Rattle.text.proofs.read_fixed.Reads as read-fixed-reads
+
+read-fixed-requires : tie.Need-read-fixed-requires
+read-fixed-requires c κs = search needs
+
+enum-known-p : tie.Need-enum-known-p
+enum-known-p c = search needs
+
+read-numbers-requires : tie.Need-read-numbers-requires
+read-numbers-requires c κs = search needs
+
+enum-known-n : tie.Need-enum-known-n
+enum-known-n c = search needs
+
+same-length : tie.Need-same-length
+same-length c = search needs
+
+returns : tie.Need-returns
+returns c = c .before .before .read-numbers .ensures ∙ line-open _ _ _ _ _ (sym (c .before .before .before .before .before .before .before .read-fixed .ensures) ∙ ap (told (c .before .before .before .before .before .before .before .before .before .before .before .args .s .now) tt) (c .before .before .before .before .before .p .given .1))
+
+returns-2 : tie.Need-returns-2
+returns-2 c = line-no _ _ _ _ _ (sym (c .before .before .before .read-fixed .ensures) ∙ ap (told (c .before .before .before .before .before .before .before .args .s .now) tt) (c .before .n .given .1))
+
+pub read-line-spec : {M : Type 1} → statement M
+read-line-spec =
+    tie.close
+    (tie.spec
+    read-fixed-requires
+    enum-known-p
+    read-numbers-requires
+    enum-known-n
+    same-length
+    returns
+    returns-2)

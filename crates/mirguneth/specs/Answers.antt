@@ -1,0 +1,30 @@
+-- What the public functions' answers mean: document 01's numbers and values.
+use Prim.Native.Nat.{ℕ}
+use mathlib.Core.Path.{_≡_}
+use mathlib.Core.List.{List}
+use lib.ListN.{length, take}
+use Rattle.definitions.specs.Limits.{document01}
+use Rattle.definitions.specs.Text.{Result, good, bad, andThen}
+use Rattle.definitions.specs.Job.{Job, readJob}
+use Rattle.definitions.specs.Tools.{fitting}
+use Rattle.slices.specs.Over.{over}
+use Rattle.text.specs.declared.Step.{Step}
+use Rattle.text.specs.declared.Step.the-variants.{Next, Refused}
+use Rattle.mirguneth.specs.Memory.{jobCells}
+use Rattle.mirguneth.specs.declared.Answer.{Answer}
+use Rattle.mirguneth.specs.declared.Answer.the-variants.{Done, Refusal}
+
+-- The answer r, and what the output holds after it, e, if it held d: on a good answer its cells or bytes stand at the
+-- front and the rest is untouched; on a refusal all of it is untouched.
+abbrev pub Answered : Result (List ℕ) → List ℕ → List ℕ → Answer → Type 0
+Answered (good t) d e r = (r ≡ Done (length t)) × (e ≡ over d 0 t)
+Answered (bad n) d e r = (r ≡ Refusal n) × (e ≡ d)
+
+-- The reader of jobs: the job's cells, or the number. The job, then 8.
+unfoldable pub jobAnswer : List ℕ → ℕ → Result (List ℕ)
+jobAnswer text room = andThen (readJob document01 text) (λ j. fitting room (jobCells j))
+
+-- The job that was read stands at the front of a memory, and its number of cells is the answer; or the refusal.
+abbrev pub Loaded : Result Job → List ℕ → Step → Type 0
+Loaded (good j) mem r = (r ≡ Next (length (jobCells j))) × (take (length (jobCells j)) mem ≡ jobCells j)
+Loaded (bad n) mem r = r ≡ Refused n

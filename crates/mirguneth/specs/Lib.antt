@@ -1,0 +1,3 @@
+pub mod Memory
+pub mod Answers
+pub mod Stages

@@ -1,0 +1,61 @@
+-- The job in memory: the numbers of its lines, in the text's order, one cell each; an edge takes one cell.
+use Prim.Native.Nat.{ℕ, zero, suc, _+_, _*_, _/_, _%_, _<_}
+use mathlib.Core.List.{List, [], _∷_, _++_, map}
+use mathlib.Core.Path.{_≡_}
+use mathlib.Core.Bool.{Bool, true, false, _&&_}
+use lib.Dec.{eqb}
+use lib.ListN.{length, take, drop}
+use Rattle.definitions.specs.Lists.{if_then_else_, nth, any}
+use Rattle.definitions.specs.Limits.{document01}
+use Rattle.definitions.specs.Job.{Edge, Job, runRule, delayRule}
+use Rattle.mirguneth.specs.declared.rows.Kind.{Kind}
+use Rattle.mirguneth.specs.declared.rows.Kind.the-variants.{Runs, Delays}
+
+-- An edge in one cell: a task number is kept in one byte, from in the lowest and to in the next; then the volume.
+abbrev pub edgeCell : Edge → ℕ
+edgeCell e = e .from + 256 * e .to + 65536 * e .volume
+
+-- The edge that a cell holds.
+abbrev pub edgeIn : ℕ → Edge
+edgeIn c = record { from = c % 256; to = c / 256 % 256; volume = c / 65536 }
+
+-- Rows one after another, each with its number in front, counted from k.
+unfoldable pub numbered : ℕ → List (List ℕ) → List ℕ
+numbered k [] = []
+numbered k (r ∷ rs) = (k ∷ r) ++ numbered (suc k) rs
+
+-- All cells of a job: v, m, e, ε; the C lines; the D lines; the edges.
+unfoldable pub jobCells : Job → List ℕ
+jobCells j =
+    (j .tasks ∷ j .processors ∷ length (j .edges) ∷ j .losses ∷ [])
+    ++ numbered 0 (j .runs)
+    ++ numbered 0 (j .delays)
+    ++ map edgeCell (j .edges)
+
+-- n rows of k numbers, one after another from the front of a memory.
+unfoldable pub rows : ℕ → ℕ → List ℕ → List (List ℕ)
+rows k zero mem = []
+rows k (suc n) mem = rows k n mem ++ take k (drop (n * k) mem) ∷ []
+
+-- The rule of a kind of row.
+abbrev pub ruleOf : Kind → List (List ℕ) → List ℕ → ℕ
+ruleOf Runs = runRule document01
+ruleOf Delays = delayRule document01
+
+-- A table of 256 × 256 pairs: place 256 a + b is 1 if one of the edges goes from a to b, else 0.
+pub record Pairs (es : List Edge) (table : List ℕ) : Type 0 where
+  pub size : length table ≡ 65536
+  pub holds : (a b : ℕ) → a < 256 → b < 256
+      → nth table (a * 256 + b) ≡ (if any (λ d. eqb (d .from) a && eqb (d .to) b) es then 1 else 0)
+
+-- Marks: place t is 1 if f is true of task t, else 0.
+pub record Marks (f : ℕ → Bool) (marks : List ℕ) : Type 0 where
+  pub size : length marks ≡ 256
+  pub holds : (t : ℕ) → t < 256 → nth marks t ≡ (if f t then 1 else 0)
+
+abbrev pub isMarked : List ℕ → ℕ → Bool
+isMarked marks t = eqb (nth marks t) 1
+
+-- Task t is marked, and a marked task precedes it: a round keeps its mark.
+abbrev pub stays : List Edge → List ℕ → ℕ → Bool
+stays es marks t = isMarked marks t && any (λ e. eqb (e .to) t && isMarked marks (e .from)) es

@@ -1,0 +1,79 @@
+// E lines: each edge in one cell, and a table of the pairs that were seen.
+ghost use mathlib.Core.Path.{_≡_};
+ghost use mathlib.Core.List.{List, [], map};
+ghost use Prim.Native.Nat.{ℕ, _+_, _*_, _≤_, _<_};
+ghost use lib.ListN.{length, take, drop};
+ghost use Rattle.definitions.specs.Limits.{document01};
+ghost use Rattle.definitions.specs.Text.{lines};
+ghost use Rattle.definitions.specs.Job.{Edge, edgeLine, edgeRule};
+ghost use Rattle.text.specs.Told.{told};
+ghost use Rattle.mirguneth.specs.Memory.{edgeCell, edgeIn, Pairs};
+use crate::lines;
+use text::Step;
+
+// The place of a pair in the table.
+fn pair_at(from: u64, to: u64) -> usize
+    requires { ⌜ (from < 256) × (to < 256) ⌝ }
+    ensures { λ r. ⌜ r ≡ from * 256 + to ⌝ }
+{
+    (from * 256 + to) as usize
+}
+
+// An edge in one cell.
+fn cell_of(from: u64, to: u64, volume: u64) -> u64
+    requires { ⌜ (from < 256) × (to < 256) × (volume ≤ 4095) ⌝ }
+    ensures { λ r. ⌜ r ≡ edgeCell (record { from = from; to = to; volume = volume }) ⌝ }
+{
+    from + 256 * to + 65536 * volume
+}
+
+// The number of the refusal of an edge after those whose pairs are in the table, or 0.
+fn check_edge(v: u64, from: u64, to: u64, volume: u64, pairs: &[u8]) -> u64
+    requires { ⌜ (v ≤ 255) × (length (now pairs) ≡ 65536) ⌝ }
+    ensures { λ r. ⌜ ((seen : List Edge) → Pairs seen (now (pairs .entry)) → r ≡ edgeRule document01 v seen (record { from = from; to = to; volume = volume })) × (r ≡ 0 → (from < v) × (to < v) × (volume ≤ 4095)) ⌝ }
+{
+    if from >= v {
+        return 3;
+    }
+    if to >= v {
+        return 3;
+    }
+    if volume > 4095 {
+        return 3;
+    }
+    if from == to {
+        return 6;
+    }
+    let k = pair_at(from, to);
+    if pairs[k] != 0 {
+        return 6;
+    }
+    0
+}
+
+// n edge lines, kept from the front of `mem` on, one cell each; two cells more are used on the way.
+pub fn read_edges(s: &[u8], at: usize, v: u64, n: usize, mem: &mut [u64], pairs: &mut [u8]) -> Step
+    requires { ⌜ (v ≤ 255) × (n + 2 ≤ length (now mem)) × Pairs [] (now pairs) ⌝ }
+    ensures { λ r. ⌜ told (now (s .entry)) (map edgeIn (take n (now (mem .exit)))) r ≡ lines (edgeLine document01) (edgeRule document01 v) n [] (drop at (now (s .entry))) ⌝ }
+{
+    let mut i = 0;
+    let mut p = at;
+    while i < n {
+        match lines::read_line(s, p, b"E,", 3, &mut mem[i..]) {
+            Step::Next(next) => p = next,
+            Step::Refused(x) => return Step::Refused(x),
+        }
+        let from = mem[i];
+        let to = mem[i + 1];
+        let volume = mem[i + 2];
+        let x = check_edge(v, from, to, volume, &pairs[..]);
+        if x > 0 {
+            return Step::Refused(x);
+        }
+        let k = pair_at(from, to);
+        mem[i] = cell_of(from, to, volume);
+        pairs[k] = 1;
+        i += 1;
+    }
+    Step::Next(p)
+}

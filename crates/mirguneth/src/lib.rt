@@ -1,0 +1,34 @@
+// Plans for watering rounds: a reader of jobs.
+ghost use Rattle.mirguneth.specs.Answers.{Answered, jobAnswer};
+
+mod circle;
+mod edges;
+mod job;
+mod lines;
+mod rows;
+
+use text::Step;
+
+// How many cells or bytes were written, or the number of the refusal.
+pub enum Answer {
+    Done(usize),
+    Refusal(u64),
+}
+
+// Reads a job's text into the lent cells.
+pub fn read_job(text: &[u8], cells: &mut [u64]) -> Answer
+    ensures { λ r. do ⌜ Answered (jobAnswer (now (text .entry)) (← ⟦cells.len()⟧ .entry)) (now (cells .entry)) (now (cells .exit)) r ⌝ }
+{
+    let mut mem = [0u64; 5640];
+    let mut pairs = [0u8; 65536];
+    match job::load_job(text, &mut mem, &mut pairs) {
+        Step::Next(n) => {
+            if cells.len() < n {
+                return Answer::Refusal(8);
+            }
+            job::copy_cells(cells, &mem, n);
+            Answer::Done(n)
+        }
+        Step::Refused(x) => Answer::Refusal(x),
+    }
+}

@@ -1,0 +1,62 @@
+// Lines of numbers in a text.
+ghost use mathlib.Core.Path.{_≡_};
+ghost use mathlib.Core.List.{[], _∷_};
+ghost use Prim.Native.Nat.{_≤_};
+ghost use lib.ListN.{length, take, drop};
+ghost use Rattle.definitions.specs.Limits.{document01};
+ghost use Rattle.definitions.specs.Text.{exactly, numbers, line, mark};
+ghost use Rattle.text.specs.Told.{told};
+use text::Num;
+use text::Step;
+
+// The byte after a field that `left` more fields follow.
+pub fn mark_after(left: usize) -> u8
+    ensures { λ r. ⌜ r ≡ mark left ⌝ }
+{
+    if left == 0 { 10 } else { 44 }
+}
+
+// The place after the byte b, if it stands at `at`.
+fn read_byte(s: &[u8], at: usize, b: u8) -> Step
+    ensures { λ r. ⌜ told (now (s .entry)) tt r ≡ exactly (b ∷ []) (drop at (now (s .entry))) ⌝ }
+{
+    if s.len() <= at {
+        return Step::Refused(2);
+    }
+    if s[at] != b {
+        return Step::Refused(2);
+    }
+    Step::Next(at + 1)
+}
+
+// The k numbers that end a line, kept at the front of `vals`.
+fn read_numbers(s: &[u8], at: usize, k: usize, vals: &mut [u64]) -> Step
+    requires { ⌜ k ≤ length (now vals) ⌝ }
+    ensures { λ r. ⌜ told (now (s .entry)) (take k (now (vals .exit))) r ≡ numbers document01 k (drop at (now (s .entry))) ⌝ }
+{
+    let mut i = 0;
+    let mut p = at;
+    while i < k {
+        let Num::Value(v, next) = text::read_number(s, p) else {
+            return Step::Refused(2);
+        };
+        vals[i] = v;
+        i += 1;
+        match read_byte(s, next, mark_after(k - i)) {
+            Step::Next(after) => p = after,
+            Step::Refused(n) => return Step::Refused(n),
+        }
+    }
+    Step::Next(p)
+}
+
+// A line: its opening and k numbers, kept at the front of `vals`.
+pub fn read_line(s: &[u8], at: usize, opening: &[u8], k: usize, vals: &mut [u64]) -> Step
+    requires { ⌜ k ≤ length (now vals) ⌝ }
+    ensures { λ r. ⌜ told (now (s .entry)) (take k (now (vals .exit))) r ≡ line document01 (now (opening .entry)) k (drop at (now (s .entry))) ⌝ }
+{
+    match text::read_fixed(s, at, opening) {
+        Step::Next(p) => read_numbers(s, p, k, vals),
+        Step::Refused(n) => Step::Refused(n),
+    }
+}

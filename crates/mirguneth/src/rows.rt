@@ -1,0 +1,95 @@
+// C and D lines: rows of numbers, each with its own number in front.
+ghost use mathlib.Core.Path.{_≡_};
+ghost use mathlib.Core.List.{List, []};
+ghost use Prim.Native.Nat.{ℕ, _+_, _*_, _≤_, _<_};
+ghost use lib.ListN.{length, drop};
+ghost use Rattle.definitions.specs.Lists.{any};
+ghost use Rattle.definitions.specs.Limits.{document01};
+ghost use Rattle.definitions.specs.Text.{line, lines};
+ghost use Rattle.definitions.specs.Job.{outside};
+ghost use Rattle.text.specs.Told.{told};
+ghost use Rattle.mirguneth.specs.Memory.{rows, ruleOf};
+ghost use Rattle.mirguneth.specs.declared.rows.Kind.the-variants.{Delays};
+use crate::lines;
+use text::Step;
+
+// C lines, with run times, or D lines, with delays.
+pub enum Kind {
+    Runs,
+    Delays,
+}
+
+// Some number of a row, after its first, is outside low..high.
+fn strays(row: &[u64], low: u64, high: u64) -> bool
+    ensures { λ r. ⌜ r ≡ any (outside low high) (drop 1 (now (row .entry))) ⌝ }
+{
+    let mut i = 1;
+    while i < row.len() {
+        if row[i] < low {
+            return true;
+        }
+        if high < row[i] {
+            return true;
+        }
+        i += 1;
+    }
+    false
+}
+
+// The number of the refusal of row i, or 0.
+fn check_row(kind: Kind, i: usize, row: &[u64]) -> u64
+    requires { ⌜ (0 < length (now row)) × (kind ≡ Delays → i + 1 < length (now row)) ⌝ }
+    ensures { λ r. ⌜ ((seen : List (List ℕ)) → length seen ≡ i → r ≡ ruleOf kind seen (now (row .entry))) ⌝ }
+{
+    if row[0] != i as u64 {
+        return 2;
+    }
+    match kind {
+        Kind::Runs => {
+            if strays(row, 1, 1000000) {
+                return 3;
+            }
+            0
+        }
+        Kind::Delays => {
+            if strays(row, 0, 255) {
+                return 3;
+            }
+            if row[i + 1] != 0 {
+                return 5;
+            }
+            0
+        }
+    }
+}
+
+// n lines of k numbers, kept as rows from the front of `mem` on.
+pub fn read_rows(
+    s: &[u8],
+    at: usize,
+    opening: &[u8],
+    kind: Kind,
+    n: usize,
+    k: usize,
+    mem: &mut [u64],
+) -> Step
+    requires { ⌜ (0 < k) × (n * k ≤ length (now mem)) × (kind ≡ Delays → n < k) ⌝ }
+    ensures { λ r. ⌜ told (now (s .entry)) (rows k n (now (mem .exit))) r ≡ lines (line document01 (now (opening .entry)) k) (ruleOf kind) n [] (drop at (now (s .entry))) ⌝ }
+{
+    let mut i = 0;
+    let mut p = at;
+    while i < n {
+        let a = i * k;
+        let b = a + k;
+        match lines::read_line(s, p, opening, k, &mut mem[a..]) {
+            Step::Next(next) => p = next,
+            Step::Refused(x) => return Step::Refused(x),
+        }
+        let x = check_row(kind, i, &mem[a..b]);
+        if x > 0 {
+            return Step::Refused(x);
+        }
+        i += 1;
+    }
+    Step::Next(p)
+}
