@@ -1,5 +1,5 @@
 -- The claims of specs/Claims.antt are true.
-use mathlib.Core.Path.{_≡_, refl, _∙_}
+use mathlib.Core.Path.{_≡_, refl, ap, _∙_, sym}
 use mathlib.Core.Logic.{_⊎_, ⊎-elim}
 use mathlib.Core.List.{List, [], _∷_}
 use mathlib.Core.Bool.{Bool, true, false}
@@ -14,17 +14,20 @@ use Rattle.definitions.specs.Limits.{Limits, document01}
 use Rattle.definitions.specs.Text.{widthFrom, width, good}
 use Rattle.definitions.specs.Job.{Job, readJob}
 use Rattle.definitions.specs.Plan.{Line, Plan, readPlan}
+use Rattle.definitions.specs.Stops.{stopsText}
 use Rattle.definitions.specs.Times.{same, least, earlies}
 use Rattle.definitions.specs.Refusals.{doubledTasks, planRefusal}
 use Rattle.definitions.specs.Planner.{Waiting, waitingFrom, bottomLevels, ranked, trial, planFor}
+use Rattle.definitions.specs.Replay.{replay, roundEnd}
 use Rattle.definitions.specs.Tools.{accepted, doubled, rejected, verdictOf, verdict, planned}
-use Rattle.definitions.specs.Claims.{haltingOf, placedAfter, planTicks, replayTicks, lineLength, planLength, Roomy, Kept, Quiet, LateStops, Doubled, OwnAccepted, TicksFit, LevelsFit, Claim}
+use Rattle.definitions.specs.Claims.{haltingOf, haltedReplay, placedAfter, planTicks, replayTicks, lineLength, planLength, Roomy, Kept, Quiet, LateStops, Doubled, KeptBytes, DoubledBytes, OwnAccepted, TicksFit, LevelsFit, Bears, Breaks, Claim}
 use Rattle.definitions.proofs.Lists.{in-reverse, in-take}
 use Rattle.definitions.proofs.Facts.{JobFacts, Ordered, Apart, PlanFacts}
 use Rattle.definitions.proofs.Reading.{job-facts, plan-facts}
 use Rattle.definitions.proofs.Guarantee.{accepted-facts, kept, quiet}
 use Rattle.definitions.proofs.Stopping.{late-replay}
-use Rattle.definitions.proofs.Doubled.{doubled-undone}
+use Rattle.definitions.proofs.Doubled.{doubled-line, line-facts, doubled-undone}
+use Rattle.definitions.proofs.Bytes.{same-tick, replayed-read, answer-done, answer-undone}
 use Rattle.definitions.proofs.Placing.{placed-count, placed-ordered, placed-accepted}
 use Rattle.definitions.proofs.Bounds.{least-within, PlacedWithin, apart-within, plan-bound, earlies-within, lates-within, best-within, worst-within, ticks-within, replay-within, trial-most, ranked-most}
 use Rattle.definitions.proofs.RoundTrip.{plan-back, plan-length, stops-back, stops-fit}
@@ -58,6 +61,9 @@ module _ (l : Limits) (job plan : List ℕ) (j : Job) (p : Plan) (job-read : rea
   none-due : verdict l job plan ≡ accepted → planRefusal j p ≡ 0
   none-due h = accepted-due l (p .lines) (planRefusal j p) (rw verdict-read at h)
 
+  in-doubled : (ts : List ℕ) → verdict l job plan ≡ doubled ts → (t : ℕ) → In t ts → In t (doubledTasks (p .lines))
+  in-doubled ts h t i = rw (doubled-due l (p .lines) (planRefusal j p) ts (rw verdict-read at h)) i
+
 -- Demand 3 ----------------------------------------------------------------------------------------------------
 
 pub kept-promise : (l : Limits) → Kept l
@@ -73,9 +79,38 @@ late-stops l job plan stops j p ss r h = late-replay j ss (p .lines) h
 pub doubled-promise : (l : Limits) → Roomy l → Doubled l
 doubled-promise l roomy job plan j p ts job-read plan-read h t i =
     let facts = job-facts l job j job-read in
-    let same : doubledTasks (p .lines) ≡ ts = doubled-due l (p .lines) (planRefusal j p) ts (rw (verdict-read l job plan j p job-read plan-read) at h) in
-    let (a, b, c, d) = doubled-undone l j p t facts (plan-facts l j plan p plan-read) (rw same i) in
+    let (a, b, c, d) = doubled-undone l j p t facts (plan-facts l j plan p plan-read) (in-doubled l job plan j p job-read plan-read ts h t i) in
     (stops-back l roomy j (haltingOf t (p .lines)) facts a (stops-fit l roomy j (haltingOf t (p .lines)) facts a), b, c, d)
+
+-- Demand 3, in the bytes that are answered --------------------------------------------------------------------
+
+pub kept-bytes : (l : Limits) → KeptBytes l
+kept-bytes l job plan stops j p ss r h few =
+    let (f, (x, e, low, high)) = kept-promise l job plan stops j p ss r h few in
+    let (ds, a, b) = answer-done l j (replay j ss (p .lines)) x f e in (
+      ds,
+      x,
+      a,
+      replayed-read l job plan stops j p ss r ∙ ap good b,
+      low,
+      high,
+      λ q. same-tick x (p .best) (sym e ∙ ap (λ ss. roundEnd j (replay j ss (p .lines))) q ∙ quiet j p (none-due l job plan j p (r .job-read) (r .plan-read) h)),
+    )
+
+pub doubled-bytes : (l : Limits) → Roomy l → DoubledBytes l
+doubled-bytes l roomy job plan j p ts job-read plan-read h t i =
+    let (stops-read, few, undone, round) = doubled-promise l roomy job plan j p ts job-read plan-read h t i in
+    let g = plan-facts l j plan p plan-read in
+    let (n, k, d, e) = doubled-line t (p .lines) (in-doubled l job plan j p job-read plan-read ts h t i) in
+    let (before, m, q) = line-facts j [] (p .lines) (g .ordered) n k in
+    let (after, a, b) = answer-undone l j (haltedReplay j t (p .lines)) t (rw (← e) (m .task-below)) undone in (
+      few,
+      after,
+      replayed-read l job plan (stopsText l (haltingOf t (p .lines))) j p (haltingOf t (p .lines))
+          (record { job-read = job-read; plan-read = plan-read; stops-read = stops-read })
+          ∙ ap good a,
+      λ x. b (round x),
+    )
 
 -- Ticks -------------------------------------------------------------------------------------------------------
 
@@ -192,12 +227,20 @@ roomy01 =
 pub ticks01 : (planTicks document01 ≡ 521_277_375) × (replayTicks document01 ≡ 2_306_277_375)
 ticks01 = (refl, refl)
 
+pub bears : (job plan stops : List ℕ) → Bears job plan stops
+bears = kept-bytes document01
+
+pub breaks : (job plan : List ℕ) → Breaks job plan
+breaks = doubled-bytes document01 roomy01
+
 pub claim : Claim
 claim = (
   kept-promise document01,
   quiet-promise document01,
   late-stops document01,
   doubled-promise document01 roomy01,
+  bears,
+  breaks,
   own-accepted document01 roomy01,
   ticks-fit document01,
   levels-fit document01 roomy01,

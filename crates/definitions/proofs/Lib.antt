@@ -12,4 +12,5 @@ pub mod RoundTrip
 pub mod Chosen
 pub mod Placing
 pub mod Bounds
+pub mod Bytes
 pub mod Claims

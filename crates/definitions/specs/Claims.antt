@@ -1,19 +1,19 @@
 -- "The words of demand 3", and what is claimed of the definitions. proofs/ proves each claim.
 use mathlib.Core.Path.{_≡_}
-use mathlib.Core.List.{List, [], _∷_, map, reverse}
+use mathlib.Core.List.{List, [], _∷_, _++_, map, reverse}
 use Prim.Native.Nat.{ℕ, _+_, _*_, _^_, _≤_, _<_}
 use lib.Dec.{eqb}
 use lib.ListN.{length, take}
-use Rattle.definitions.specs.Lists.{if_then_else_, In, has}
+use Rattle.definitions.specs.Lists.{if_then_else_, bytes, below, In, has}
 use Rattle.definitions.specs.Limits.{Limits, document01}
-use Rattle.definitions.specs.Text.{width, good}
+use Rattle.definitions.specs.Text.{width, decimal, lineText, good}
 use Rattle.definitions.specs.Job.{Job, readJob}
 use Rattle.definitions.specs.Plan.{Line, Plan, processorsOf, readPlan}
 use Rattle.definitions.specs.Stops.{Stop, readStops, stopsText}
 use Rattle.definitions.specs.Times.{Time, tick, never, Outcome, earlies, lates, exits}
 use Rattle.definitions.specs.Planner.{Waiting, waitingFrom, bottomLevels, ranked, trial, planFor}
-use Rattle.definitions.specs.Replay.{replay, firstFinish, roundEnd}
-use Rattle.definitions.specs.Tools.{accepted, doubled, verdict, planned}
+use Rattle.definitions.specs.Replay.{replay, firstFinish, roundEnd, resultLines}
+use Rattle.definitions.specs.Tools.{accepted, doubled, verdict, planned, replayed}
 
 -- A task's boxes are those of its T line, each taken once.
 unfoldable pub boxesOf : ℕ → List Line → List ℕ
@@ -43,6 +43,16 @@ AllWithin b ds = (d : Outcome) → In d ds → Within b (d .time)
 -- No stop comes before an outcome on its processor.
 abbrev pub Outlast : List Stop → List Outcome → Type 0
 Outlast ss ds = (s : Stop) → In s ss → (d : Outcome) → In d ds → s .processor ≡ d .processor → Within (s .tick) (d .time)
+
+-- A task that is done: its first finish and the box of it.
+pub record Done : Type 0 where
+  pub task : ℕ
+  pub processor : ℕ
+  pub tick : ℕ
+
+-- What the plan's copies do if the boxes of task t stop at tick 0.
+abbrev pub haltedReplay : Job → ℕ → List Line → List Outcome
+haltedReplay j t ns = replay j (haltingOf t ns) ns
 
 -- What the planner has placed after k lines of its plan, the newest first.
 abbrev pub placedAfter : Job → ℕ → List Outcome
@@ -124,6 +134,43 @@ module _ (l : Limits) where
       × (firstFinish t (replay j (haltingOf t (p .lines)) (p .lines)) ≡ never)
       × (In t (exits j) → roundEnd j (replay j (haltingOf t (p .lines)) (p .lines)) ≡ never)
 
+  -- The R lines `R,task,box,tick` of tasks that are done.
+  unfoldable pub resultsText : List Done → List ℕ
+  resultsText [] = []
+  resultsText (d ∷ ds) = lineText l (bytes "R,") (d .task ∷ d .processor ∷ d .tick ∷ []) ++ resultsText ds
+
+  -- The R line `R,task,-,-` of a task that is undone.
+  abbrev pub undoneText : ℕ → List ℕ
+  undoneText t = bytes "R," ++ decimal l t ++ bytes ",-,-\n"
+
+  -- `Kept` and `Quiet` in the replay's answer: an R line with a tick for each task in order, an L line from M* to M.
+  abbrev pub KeptAnswer : List ℕ → List ℕ → List ℕ → Type 0
+  KeptAnswer job plan stops =
+      (j : Job) (p : Plan) (ss : List Stop) → Read job plan stops j p ss → verdict l job plan ≡ accepted → length ss ≤ j .losses
+      → (ds : List Done) × (x : ℕ) × (map (λ d. d .task) ds ≡ below (j .tasks))
+      × (replayed l job plan stops ≡ good (resultsText ds ++ lineText l (bytes "L,") (x ∷ [])))
+      × (p .best ≤ x)
+      × (x ≤ p .worst)
+      × (ss ≡ [] → x ≡ p .best)
+
+  -- Of every three texts.
+  abbrev pub KeptBytes : Type 0
+  KeptBytes = (job plan stops : List ℕ) → KeptAnswer job plan stops
+
+  -- `Doubled` in the replay's answer: `R,t,-,-` after the R lines of the tasks below t; for an exit task at the end `L,-`.
+  abbrev pub DoubledAnswer : List ℕ → List ℕ → Type 0
+  DoubledAnswer job plan =
+      (j : Job) (p : Plan) (ts : List ℕ) → readJob l job ≡ good j → readPlan l j plan ≡ good p
+      → verdict l job plan ≡ doubled ts → (t : ℕ) → In t ts
+      → (length (haltingOf t (p .lines)) ≤ j .losses)
+      × (after : List ℕ)
+      × (replayed l job plan (stopsText l (haltingOf t (p .lines))) ≡ good (resultLines l (below t) (haltedReplay j t (p .lines)) ++ undoneText t ++ after))
+      × (In t (exits j) → (others : List ℕ) × (after ≡ others ++ bytes "L,-\n"))
+
+  -- Of every two texts.
+  abbrev pub DoubledBytes : Type 0
+  DoubledBytes = (job plan : List ℕ) → DoubledAnswer job plan
+
   -- The planner's own plans are accepted.
   abbrev pub OwnAccepted : Type 0
   OwnAccepted = (job : List ℕ) (j : Job) → readJob l job ≡ good j → verdict l job (planned l j) ≡ accepted
@@ -143,6 +190,14 @@ module _ (l : Limits) where
       → ((w : Waiting) → In w (waitingFrom 0 (bottomLevels j)) → ranked j (placedAfter j k) w .1 < 2 ^ 64)
       × (k < j .tasks → (t : ℕ) → t < j .tasks → (x : ℕ) → In x (trial j (placedAfter j k) t) → x ≤ planTicks)
 
+-- With document 01's limits: an accepted plan bears these stops, if they are at most ε.
+abbrev pub Bears : List ℕ → List ℕ → List ℕ → Type 0
+Bears job plan stops = KeptAnswer document01 job plan stops
+
+-- With document 01's limits: for each doubled task a plan breaks under at most ε stops.
+abbrev pub Breaks : List ℕ → List ℕ → Type 0
+Breaks job plan = DoubledAnswer document01 job plan
+
 -- All of this is true with the limits of document 01, and the two bounds on ticks are those that it gives.
 abbrev pub Claim : Type 0
 Claim =
@@ -150,6 +205,8 @@ Claim =
     × Quiet document01
     × LateStops document01
     × Doubled document01
+    × KeptBytes document01
+    × DoubledBytes document01
     × OwnAccepted document01
     × TicksFit document01
     × LevelsFit document01
