@@ -5,9 +5,9 @@ use Prim.Native.Nat.{ℕ, zero, suc, _+_, _-_, _*_, _<_, _≤_}
 use native.Mathlib.Omega.{arith}
 use native.Mathlib.Nat.{zero-mul, suc-mul, add-mul, mul-le-mul}
 use borrow.Author.Tests.{eqb-true, not-false}
-use borrow.Rule.Slice.PartMut.{midOf, postOf, putMid, take-put, mid-len, same-len-mid}
+use borrow.Rule.Slice.PartMut.{midOf, putMid, take-put, mid-len, same-len-mid}
 use lib.ListN.{length, take, drop, length-append, length-map}
-use lib.Seq.{take-add, take-take, take-append-le, drop-at, length-take-le, getD-take}
+use lib.Seq.{take-add, take-take, length-take-le, getD-take}
 use Rattle.definitions.specs.Lists.{bytes, nth}
 use Rattle.definitions.specs.Limits.{document01}
 use Rattle.definitions.specs.Text.{found, line, lines}
@@ -18,7 +18,7 @@ use Rattle.mirguneth.specs.Memory.{edgeCell, edgeIn, numbered, jobCells,
 use Rattle.mirguneth.specs.Stages.{jobOf, delaysAt, edgesAt, Headed, RunsIn, DelaysIn}
 use Rattle.mirguneth.specs.declared.rows.Kind.{Kind}
 use Rattle.mirguneth.specs.declared.rows.Kind.the-variants.{Runs, Delays}
-use Rattle.mirguneth.proofs.EdgeLaws.{cell-of-edge}
+use Rattle.mirguneth.proofs.EdgeLaws.{cell-of-edge, drop-lent}
 
 -- Edges ---------------------------------------------------------------------------------------------------------
 
@@ -86,12 +86,8 @@ module _ (d x ys : List ℕ) (a : ℕ) (e : x ≡ putMid a (length d - a) d ys) 
   lent-front : take a x ≡ take a d
   lent-front = rw e (take-put a (length d - a) d ys h)
 
-  lent-rest : (n : ℕ) → n ≤ length ys → take n (drop a x) ≡ take n ys
-  lent-rest n g =
-      rw e (ap (take n) (drop-at (take a d) (ys ++ postOf a (length d - a) d) a (length-take-le a d h)) ∙ take-append-le n ys (postOf a (length d - a) d) g)
-
-  pub lent-cells : (n : ℕ) → n ≤ length ys → take (a + n) x ≡ take a d ++ take n ys
-  lent-cells n g = take-add a n x ∙ rw (lent-front, lent-rest n g)
+  lent-cells : (n : ℕ) → take (a + n) x ≡ take a d ++ take n ys
+  lent-cells n = let q : drop a x ≡ ys = rw e (drop-lent a d ys h) in take-add a n x ∙ rw (lent-front, q)
 
   pub lent-take : (n : ℕ) → n ≤ a → take n x ≡ take n d
   lent-take n g = sym (take-take n a x g) ∙ ap (take n) lent-front ∙ take-take n a d g
@@ -135,33 +131,27 @@ lent-headed d x ys a e l g h w =
 -- The memory d, with a head: its cells from a stage on were lent and came back as ys, and x is the memory then.
 module _ (d x ys : List ℕ) (w : Headed d) where
   -- The C lines were read.
-  pub runs-in : x ≡ putMid 4 (length d - 4) d ys → length ys ≡ length (midOf 4 (length d - 4) d) → (s r : List ℕ)
+  pub runs-in : x ≡ putMid 4 (length d - 4) d ys → (s r : List ℕ)
       → lines (line document01 (bytes "C,") (1 + nth d 1)) (ruleOf Runs) (nth d 0) [] s ≡ found (rows (1 + nth d 1) (nth d 0) ys) r
       → RunsIn x (map (drop 1) (rows (1 + nth d 1) (nth d 0) ys))
-  runs-in e l s r f =
-      let g = runs-most d w in
+  runs-in e s r f =
       let h : 4 ≤ length d = omega arith in
-      let m = mid-len 4 (length d) d (omega arith) in
       rw (
         lent-nth d x ys 4 e h 0 (omega arith),
         lent-nth d x ys 4 e h 1 (omega arith),
         lent-take d x ys 4 e h 4 (omega arith),
         rows-numbered Runs (bytes "C,") (nth d 1) (nth d 0) ys s r f,
       )
-      (lent-cells d x ys 4 e h (nth d 0 * (1 + nth d 1)) (omega arith))
+      (lent-cells d x ys 4 e h (nth d 0 * (1 + nth d 1)))
 
   -- The D lines were read.
-  pub delays-in : (runs : List (List ℕ)) → RunsIn d runs → x ≡ putMid (delaysAt (jobHeadOf d)) (length d - delaysAt (jobHeadOf d)) d ys
-      → length ys ≡ length (midOf (delaysAt (jobHeadOf d)) (length d - delaysAt (jobHeadOf d)) d) → (s r : List ℕ)
+  pub delays-in : (runs : List (List ℕ)) → RunsIn d runs → x ≡ putMid (delaysAt (jobHeadOf d)) (length d - delaysAt (jobHeadOf d)) d ys → (s r : List ℕ)
       → lines (line document01 (bytes "D,") (1 + nth d 1)) (ruleOf Delays) (nth d 1) [] s ≡ found (rows (1 + nth d 1) (nth d 1) ys) r
       → DelaysIn x runs (map (drop 1) (rows (1 + nth d 1) (nth d 1) ys))
-  delays-in runs q e l s r f =
+  delays-in runs q e s r f =
       let a = delaysAt (jobHeadOf d) in
-      let g = rows-most d w in
-      let t = add-mul (nth d 0) (nth d 1) (1 + nth d 1) in
-      let h : a ≤ length d = omega arith in
-      let m = mid-len a (length d) d (omega arith) in
-      let u : 4 + (nth d 0 + nth d 1) * (1 + nth d 1) ≡ a + nth d 1 * (1 + nth d 1) = omega arith in
+      let h : a ≤ length d = omega (arith, runs-most d w) in
+      let u : 4 + (nth d 0 + nth d 1) * (1 + nth d 1) ≡ a + nth d 1 * (1 + nth d 1) = omega (arith, add-mul (nth d 0) (nth d 1) (1 + nth d 1)) in
       rw (
         lent-nth d x ys a e h 0 (omega arith),
         lent-nth d x ys a e h 1 (omega arith),
@@ -170,7 +160,7 @@ module _ (d x ys : List ℕ) (w : Headed d) where
         u,
         ← q,
       )
-      (lent-cells d x ys a e h (nth d 1 * (1 + nth d 1)) (omega arith))
+      (lent-cells d x ys a e h (nth d 1 * (1 + nth d 1)))
 
   -- The E lines were read.
   module _ (e : x ≡ putMid (edgesAt (jobHeadOf d)) (length d - edgesAt (jobHeadOf d)) d ys)
@@ -180,18 +170,18 @@ module _ (d x ys : List ℕ) (w : Headed d) where
         let a = edgesAt (jobHeadOf d) in
         rw e (omega (arith, rows-most d w, same-len-mid a (length d - a) d ys l))
 
-    room : nth d 2 ≤ length ys
-    room = omega (arith, rows-most d w, mid-len (edgesAt (jobHeadOf d)) (length d) d (omega arith))
-
     pub edges-part : take (edgesAt (jobHeadOf d) + nth d 2 - edgesAt (jobHeadOf d)) (drop (edgesAt (jobHeadOf d)) x) ≡ take (nth d 2) ys
     edges-part =
         let a = edgesAt (jobHeadOf d) in
         let m : a + nth d 2 - a ≡ nth d 2 = omega arith in
-        rw m (lent-rest d x ys a e (omega (arith, rows-most d w)) (nth d 2) room)
+        rw (m, e, drop-lent a d ys (omega (arith, rows-most d w)))
 
     pub edges-in : (runs delays : List (List ℕ)) → DelaysIn d runs delays
         → take (edgesAt (jobHeadOf d) + nth d 2) x ≡ jobCells (jobOf (jobHeadOf d) runs delays (map edgeIn (take (nth d 2) ys)))
     unfolding jobCells
     edges-in runs delays q =
-        let n : length (map edgeIn (take (nth d 2) ys)) ≡ nth d 2 = length-map (take (nth d 2) ys) edgeIn ∙ length-take-le (nth d 2) ys room in
-        lent-cells d x ys (edgesAt (jobHeadOf d)) e (omega (arith, rows-most d w)) (nth d 2) room ∙ rw (q, head-cells d (omega arith), n, cells-of)
+        let a = edgesAt (jobHeadOf d) in
+        let r = rows-most d w in
+        let g : nth d 2 ≤ length ys = omega (arith, mid-len a (length d) d (omega arith)) in
+        let n : length (map edgeIn (take (nth d 2) ys)) ≡ nth d 2 = length-map (take (nth d 2) ys) edgeIn ∙ length-take-le (nth d 2) ys g in
+        lent-cells d x ys a e (omega arith) (nth d 2) ∙ rw (q, head-cells d (omega arith), n, cells-of)

@@ -6,3 +6,15 @@ pub mod AnswerLaws
 pub mod CellLaws
 pub mod StageLaws
 pub mod JobShape
+pub mod JobIn
+pub mod Held
+pub mod LinkLaws
+pub mod TimeLaws
+pub mod Placed
+pub mod EndLaws
+pub mod Upward
+pub mod RowSums
+pub mod LevelLaws
+pub mod ChoiceLaws
+pub mod WriteLaws
+pub mod Spreading

@@ -1,11 +1,19 @@
 // Plans for watering rounds: a reader of jobs.
 ghost use Rattle.mirguneth.specs.Answers.{Answered, jobAnswer};
 
+mod boxes;
 mod circle;
+mod clocks;
 mod edges;
+mod ends;
 mod job;
+mod levels;
 mod lines;
+mod links;
+mod priority;
 mod rows;
+mod times;
+mod writing;
 
 use text::Step;
 

@@ -81,10 +81,9 @@ returns c runs q =
     let x = putMid a (length d - a) d ys in
     let ds = rows (1 + nth d 1) (nth d 1) ys in
     let r = runs-most d (c .before .before .before .before .before .before .before .before .before .before .before .before .before .before .before .before .before .before .before .before .pre .0) in
-    let l = c .before .before .before .before .before .before .before .before .before .before .before .before .read-rows .kept .1 .1 .1 .1 .1 .1 .0 in
     let f = sym (c .before .before .before .before .before .before .before .before .before .before .before .before .read-rows .ensures) ∙ ap (told s ds) (c .before .before .before .before .before .before .before .before .p .given .1) in
     delays-then (jobHeadOf d) runs (drop (c .before .before .before .before .before .before .before .before .before .before .before .before .before .before .before .before .before .before .before .before .args .at) s) _ ds _ f (jobHeadOf x) (lent-head d x ys a refl (omega arith) (omega arith)) _
-    (c .before .before .before .before .load-edges .ensures runs (map (drop 1) ds) (delays-in d x ys (c .before .before .before .before .before .before .before .before .before .before .before .before .before .before .before .before .before .before .before .before .pre .0) runs q refl l _ _ f))
+    (c .before .before .before .before .load-edges .ensures runs (map (drop 1) ds) (delays-in d x ys (c .before .before .before .before .before .before .before .before .before .before .before .before .before .before .before .before .before .before .before .before .pre .0) runs q refl _ _ f))
 
 same-length-3 : tie.Need-same-length-3
 same-length-3 c = search needs

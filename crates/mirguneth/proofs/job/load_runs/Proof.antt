@@ -66,10 +66,9 @@ returns c =
     let ys = c .before .before .before .before .before .before .before .before .before .before .before .before .read-rows .last .1 .1 .1 .1 .1 .1 .0 in
     let x = putMid 4 (length d - 4) d ys in
     let rs = rows (1 + nth d 1) (nth d 0) ys in
-    let l = c .before .before .before .before .before .before .before .before .before .before .before .before .read-rows .kept .1 .1 .1 .1 .1 .1 .0 in
     let f = sym (c .before .before .before .before .before .before .before .before .before .before .before .before .read-rows .ensures) ∙ ap (told s rs) (c .before .before .before .before .before .before .before .before .p .given .1) in
     runs-then (jobHeadOf d) (drop (c .before .before .before .before .before .before .before .before .before .before .before .before .before .before .before .before .before .before .before .before .args .at) s) _ rs _ f (jobHeadOf x) (lent-head d x ys 4 refl (omega arith) (omega arith)) _
-    (c .before .before .before .before .load-delays .ensures (map (drop 1) rs) (runs-in d x ys (c .before .before .before .before .before .before .before .before .before .before .before .before .before .before .before .before .before .before .before .before .pre .0) refl l _ _ f))
+    (c .before .before .before .before .load-delays .ensures (map (drop 1) rs) (runs-in d x ys (c .before .before .before .before .before .before .before .before .before .before .before .before .before .before .before .before .before .before .before .before .pre .0) refl _ _ f))
 
 same-length-3 : tie.Need-same-length-3
 same-length-3 c = search needs

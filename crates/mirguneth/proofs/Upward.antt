@@ -1,0 +1,120 @@
+-- Lists over the numbers below n, with one number more: what a loop that goes upwards has passed.
+use mathlib.Core.Path.{_≡_, refl, ap, sym, _∙_}
+use mathlib.Core.Logic.{_⊎_, ⊎-elim}
+use mathlib.Core.List.{List, [], _∷_, _++_, map, map-append, append-nil}
+use mathlib.Core.Bool.{Bool, true, false, _&&_}
+use Prim.Native.Nat.{ℕ, zero, suc, _+_, _<_, _≤_, max}
+use native.Mathlib.Omega.{arith}
+use native.Mathlib.Numerals.{add-one}
+use lib.Dec.{eqb}
+use lib.ListN.{length, set, length-append, length-map}
+use lib.Seq.{getD-set-same, getD-set-other}
+use borrow.Author.Tests.{eqb-true, eqb-false, eq-eqb, ne-eqb}
+use Rattle.definitions.specs.Lists.{if_then_else_, nth, countFrom, below, keep, sum, greatest, sameNumbers}
+
+count-last : (k n : ℕ) → countFrom k (suc n) ≡ countFrom k n ++ (k + n) ∷ []
+unfolding countFrom
+count-last k zero = let e : k ≡ k + 0 = omega arith in ap (λ (x : ℕ). x ∷ []) e
+count-last k (suc n) = let e : suc k + n ≡ k + suc n = omega arith in ap (k ∷_) (count-last (suc k) n ∙ ap (λ (x : ℕ). countFrom (suc k) n ++ x ∷ []) e)
+
+pub below-more : (n : ℕ) → below (n + 1) ≡ below n ++ n ∷ []
+below-more n = let e : 0 + n ≡ n = omega arith in rw (add-one n) (count-last 0 n ∙ ap (λ (x : ℕ). below n ++ x ∷ []) e)
+
+pub map-more : {A : Type 0} (f : ℕ → A) (n : ℕ) → map f (below (n + 1)) ≡ map f (below n) ++ f n ∷ []
+map-more f n = rw (below-more n) (map-append f (below n) (n ∷ []))
+
+-- One member more at the end -----------------------------------------------------------------------------------
+
+pub keep-last : {A : Type 0} (f : A → Bool) (xs : List A) (y : A) → keep f (xs ++ y ∷ []) ≡ keep f xs ++ (if f y then y ∷ [] else [])
+unfolding keep
+keep-last f [] y = refl
+keep-last f (x ∷ xs) y = by (f x) (keep-last f xs y)
+  where
+    by : (b : Bool) → keep f (xs ++ y ∷ []) ≡ keep f xs ++ (if f y then y ∷ [] else [])
+        → (if b then x ∷ keep f (xs ++ y ∷ []) else keep f (xs ++ y ∷ [])) ≡ (if b then x ∷ keep f xs else keep f xs) ++ (if f y then y ∷ [] else [])
+    by true e = ap (x ∷_) e
+    by false e = e
+
+pub keep-yes : {A : Type 0} (f : A → Bool) (xs : List A) (y : A) → f y ≡ true → keep f (xs ++ y ∷ []) ≡ keep f xs ++ y ∷ []
+keep-yes f xs y e = keep-last f xs y ∙ rw e
+
+pub keep-no : {A : Type 0} (f : A → Bool) (xs : List A) (y : A) → f y ≡ false → keep f (xs ++ y ∷ []) ≡ keep f xs
+keep-no f xs y e = keep-last f xs y ∙ rw e (append-nil (keep f xs))
+
+pub sum-last : (xs : List ℕ) (y : ℕ) → sum (xs ++ y ∷ []) ≡ sum xs + y
+unfolding sum
+sum-last [] y = omega arith
+sum-last (x ∷ xs) y = omega (arith, sum-last xs y)
+
+pub greatest-last : (xs : List ℕ) (y : ℕ) → greatest (xs ++ y ∷ []) ≡ max (greatest xs) y
+unfolding greatest
+greatest-last [] y = omega arith
+greatest-last (x ∷ xs) y = omega (arith, greatest-last xs y)
+
+-- One number more below n -----------------------------------------------------------------------------------------
+
+-- How many of the numbers below n are kept.
+module _ (f : ℕ → Bool) (n : ℕ) where
+  pub count-yes : f n ≡ true → length (keep f (below (n + 1))) ≡ length (keep f (below n)) + 1
+  count-yes e = rw (below-more n, keep-yes f (below n) n e) (length-append (keep f (below n)) (n ∷ []))
+
+  pub count-no : f n ≡ false → length (keep f (below (n + 1))) ≡ length (keep f (below n))
+  count-no e = rw (below-more n, keep-no f (below n) n e)
+
+module _ (f : ℕ → ℕ) (n : ℕ) where
+  pub sum-more : sum (map f (below (n + 1))) ≡ sum (map f (below n)) + f n
+  sum-more = rw (map-more f n) (sum-last (map f (below n)) (f n))
+
+  pub greatest-more : greatest (map f (below (n + 1))) ≡ max (greatest (map f (below n))) (f n)
+  greatest-more = rw (map-more f n) (greatest-last (map f (below n)) (f n))
+
+-- A table whose first n places hold what f says, with one place more.
+pub table-more : (f : ℕ → ℕ) (mem : List ℕ) (at n x : ℕ) → ((i : ℕ) → i < n → nth mem (at + i) ≡ f i) → at + n < length mem → x ≡ f n
+    → (i : ℕ) → i < n + 1 → nth (set mem (at + n) x) (at + i) ≡ f i
+table-more f mem at n x h g e i l = by (eqb i n) refl
+  where
+    by : (b : Bool) → eqb i n ≡ b → nth (set mem (at + n) x) (at + i) ≡ f i
+    by true t = let q : i ≡ n = eqb-true i n t in rw q (getD-set-same mem (at + n) x 0 g ∙ e)
+    by false t = let q = eqb-false i n t in getD-set-other mem (at + n) (at + i) x 0 (λ s. q (omega arith)) ∙ h i (omega arith)
+
+-- A table is as it was after a store outside it.
+pub table-other : (f : ℕ → ℕ) (mem : List ℕ) (at n k x : ℕ) → ((i : ℕ) → i < n → nth mem (at + i) ≡ f i) → (k < at) ⊎ (at + n ≤ k)
+    → (i : ℕ) → i < n → nth (set mem k x) (at + i) ≡ f i
+table-other f mem at n k x h g i l = getD-set-other mem k (at + i) x 0 (λ s. ⊎-elim (λ a. omega arith) (λ a. omega arith) g) ∙ h i l
+
+-- Two lists of the same length with one member more.
+same-last : (xs ys : List ℕ) (x y : ℕ) → length xs ≡ length ys → sameNumbers (xs ++ x ∷ []) (ys ++ y ∷ []) ≡ (sameNumbers xs ys && eqb x y)
+unfolding sameNumbers
+same-last [] [] x y e = by (eqb x y)
+  where
+    by : (b : Bool) → (b && true) ≡ b
+    by true = refl
+    by false = refl
+same-last [] (b ∷ ys) x y e = absurd (omega arith)
+same-last (a ∷ xs) [] x y e = absurd (omega arith)
+same-last (a ∷ xs) (b ∷ ys) x y e = by (eqb a b) (same-last xs ys x y (omega arith))
+  where
+    by : (t : Bool) → sameNumbers (xs ++ x ∷ []) (ys ++ y ∷ []) ≡ (sameNumbers xs ys && eqb x y)
+        → (t && sameNumbers (xs ++ x ∷ []) (ys ++ y ∷ [])) ≡ (t && sameNumbers xs ys && eqb x y)
+    by true r = r
+    by false r = refl
+
+same-more : (f g : ℕ → ℕ) (n : ℕ) → sameNumbers (map f (below (n + 1))) (map g (below (n + 1))) ≡ (sameNumbers (map f (below n)) (map g (below n)) && eqb (f n) (g n))
+same-more f g n =
+    rw (map-more f n, map-more g n) (same-last (map f (below n)) (map g (below n)) (f n) (g n) (length-map (below n) f ∙ sym (length-map (below n) g)))
+
+-- Both lists go on alike, or not.
+module _ (f g : ℕ → ℕ) (n : ℕ) where
+  pub same-yes : f n ≡ g n → sameNumbers (map f (below (n + 1))) (map g (below (n + 1))) ≡ sameNumbers (map f (below n)) (map g (below n))
+  same-yes e = same-more f g n ∙ rw (eq-eqb (f n) (g n) e) (by (sameNumbers (map f (below n)) (map g (below n))))
+    where
+      by : (b : Bool) → (b && true) ≡ b
+      by true = refl
+      by false = refl
+
+  pub same-no : (f n ≡ g n → ⊥) → sameNumbers (map f (below (n + 1))) (map g (below (n + 1))) ≡ false
+  same-no e = same-more f g n ∙ rw (ne-eqb (f n) (g n) e) (by (sameNumbers (map f (below n)) (map g (below n))))
+    where
+      by : (b : Bool) → (b && false) ≡ false
+      by true = refl
+      by false = refl

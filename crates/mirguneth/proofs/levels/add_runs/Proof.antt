@@ -1,0 +1,133 @@
+-- The tasks passed have their new levels, and the answer says whether those are the old ones.
+use mathlib.Core.Path.{_≡_, refl, sym, ap, _∙_}
+use Prim.Native.Nat.{ℕ, _≤_, _-_, _+_}
+use native.Mathlib.Omega.{arith}
+use borrow.Author.Needs.{needs}
+use lib.ListN.{length, length-set}
+use mathlib.Core.List.{map}
+use mathlib.Core.Logic.{⊎-elim}
+use Rattle.definitions.specs.Lists.{nth, countFrom, below, sameNumbers}
+use Rattle.mirguneth.specs.Layout.{memorySize, levelAt}
+use Rattle.mirguneth.specs.Rounds.{levelsIn}
+use Rattle.mirguneth.proofs.Held.{sizes}
+use Rattle.mirguneth.proofs.Upward.{same-yes, same-no}
+use Rattle.mirguneth.proofs.LevelLaws.{newLevel, Adding, adding-none, adding-held, adding-most, adding-more, adding-same, adding-other, adding-clear, adding-levels}
+use Rattle.mirguneth.proofs.levels.add_runs.Statement.{statement}
+use Rattle.mirguneth.proofs.levels.add_runs.Tie as tie
+
+abbrev Inv-loop : tie.InvT-loop
+Inv-loop mem₀ v same₀ t₀ mem same t =
+    (t ≤ v) × (v ≤ 255) × (length mem ≡ memorySize) × Adding mem₀ mem t × (same ≡ sameNumbers (map (newLevel mem₀) (below t)) (map (λ u. nth mem₀ (levelAt + u)) (below t)))
+
+abbrev μ-loop : tie.MeasureT-loop
+μ-loop mem₀ v same₀ t₀ mem same t = v - t
+
+slice-read-v : tie.Need-slice-read-v Inv-loop μ-loop
+slice-read-v c = let s = sizes (c .before .before .pre .0) in omega arith
+
+loop-holds : tie.Need-loop-holds Inv-loop μ-loop
+unfolding sameNumbers countFrom
+loop-holds c = let s = sizes (c .before .before .pre .0) in (search needs, s .tasks-most, s .size, adding-none _, refl)
+
+scaled-run-requires : tie.Need-scaled-run-requires Inv-loop μ-loop
+scaled-run-requires c κs = (adding-held (c .before .before .before .before .before .pre .0) (c .before .before .loop .inv .3) (c .before .loop-test .taken), omega (arith, c .before .before .loop .inv .3 .kept .before 0 (omega arith), c .before .loop-test .taken))
+
+add-x : tie.Need-add-x Inv-loop μ-loop
+add-x c = search needs
+
+mul-x : tie.Need-mul-x Inv-loop μ-loop
+mul-x c = search needs
+
+slice-read-x : tie.Need-slice-read-x Inv-loop μ-loop
+slice-read-x c = search needs
+
+add-x-2 : tie.Need-add-x-2 Inv-loop μ-loop
+add-x-2 c = let s = c .before .scaled-run in omega (arith, adding-most (c .before .before .before .before .before .before .before .pre .0) (c .before .before .before .before .loop .inv .3) (c .before .before .before .loop-test .taken) (s .result) (s .ensures) (c .before .before .before .before .before .before .before .pre .1))
+
+add-if1 : tie.Need-add-if1 Inv-loop μ-loop
+add-if1 c = search needs
+
+mul-if1 : tie.Need-mul-if1 Inv-loop μ-loop
+mul-if1 c = search needs
+
+slice-read-if1 : tie.Need-slice-read-if1 Inv-loop μ-loop
+slice-read-if1 c = search needs
+
+add-mem : tie.Need-add-mem Inv-loop μ-loop
+add-mem c = search needs
+
+mul-mem : tie.Need-mul-mem Inv-loop μ-loop
+mul-mem c = search needs
+
+slice-write-mem : tie.Need-slice-write-mem Inv-loop μ-loop
+slice-write-mem c = search needs
+
+add-mem-2 : tie.Need-add-mem-2 Inv-loop μ-loop
+add-mem-2 c = search needs
+
+mul-mem-2 : tie.Need-mul-mem-2 Inv-loop μ-loop
+mul-mem-2 c = search needs
+
+slice-write-mem-2 : tie.Need-slice-write-mem-2 Inv-loop μ-loop
+slice-write-mem-2 c = simp length-set (omega arith)
+
+add-t : tie.Need-add-t Inv-loop μ-loop
+add-t c = search needs
+
+loop-less : tie.Need-loop-less Inv-loop μ-loop
+loop-less c = search needs
+
+loop-again : tie.Need-loop-again Inv-loop μ-loop
+loop-again c =
+    let d = c .before .before .before .before .before .before .before .before .before .args .mem .now in let l = c .before .before .before .before .before .before .loop in let h = c .before .before .before .before .before .loop-test .taken in let s = c .before .before .before .scaled-run in (
+      search needs,
+      search needs,
+      search needs,
+      adding-more (c .before .before .before .before .before .before .before .before .before .pre .0) (l .inv .3) h (s .result) (s .ensures),
+      ⊎-elim
+          (λ w. w .1 ∙ sym (same-no (newLevel d) (λ u. nth d (levelAt + u)) (l .t) (adding-other (c .before .before .before .before .before .before .before .before .before .pre .0) (l .inv .3) h (s .result) (s .ensures) (w .0 .taken))))
+          (λ w. w .1 ∙ l .inv .4 ∙ sym (same-yes (newLevel d) (λ u. nth d (levelAt + u)) (l .t) (adding-same (c .before .before .before .before .before .before .before .before .before .pre .0) (l .inv .3) h (s .result) (s .ensures) (w .0 .left))))
+          (c .if1 .came),
+    )
+
+same-length : tie.Need-same-length Inv-loop μ-loop
+same-length c = c .before .loop .inv .3 .kept .size
+
+returns : tie.Need-returns Inv-loop μ-loop
+unfolding levelsIn
+returns c =
+    let d = c .before .before .before .before .args .mem .now in let l = c .before .loop in let a = l .inv .3 in
+    let e : l .t ≡ nth d 0 = omega arith in (
+      a .kept,
+      λ t h. a .added t (omega arith),
+      adding-clear a e,
+      l .inv .4 ∙ ap (λ (k : ℕ). sameNumbers (map (newLevel d) (below k)) (map (λ u. nth d (levelAt + u)) (below k))) e ∙ rw (adding-levels a e),
+    )
+
+pub add-runs-spec : {M : Type 1} → statement M
+add-runs-spec =
+    tie.close
+    (tie.spec
+    Inv-loop
+    μ-loop
+    slice-read-v
+    loop-holds
+    scaled-run-requires
+    add-x
+    mul-x
+    slice-read-x
+    add-x-2
+    add-if1
+    mul-if1
+    slice-read-if1
+    add-mem
+    mul-mem
+    slice-write-mem
+    add-mem-2
+    mul-mem-2
+    slice-write-mem-2
+    add-t
+    loop-less
+    loop-again
+    same-length
+    returns)

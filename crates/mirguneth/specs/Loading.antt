@@ -1,0 +1,28 @@
+-- What the memory holds after a plan and a stop list were read.
+use mathlib.Core.Path.{_≡_}
+use mathlib.Core.List.{List}
+use Prim.Native.Nat.{ℕ, _+_, _<_}
+use Rattle.definitions.specs.Lists.{nth}
+use Rattle.definitions.specs.Limits.{document01}
+use Rattle.definitions.specs.Text.{Result, good, bad}
+use Rattle.definitions.specs.Plan.{Plan}
+use Rattle.definitions.specs.Stops.{Stop}
+use Rattle.definitions.specs.Times.{Time, stopTime}
+use Rattle.text.specs.declared.Step.{Step}
+use Rattle.text.specs.declared.Step.the-variants.{Next, Refused}
+use Rattle.mirguneth.specs.Layout.{bestAt, worstAt}
+use Rattle.mirguneth.specs.Schedule.{linesIn, timeIn, Small, Standing}
+
+-- The plan in a memory: M*, M and a line for each task.
+unfoldable pub planIn : List ℕ → Plan
+planIn mem = record { best = nth mem bestAt; worst = nth mem worstAt; lines = linesIn (nth mem 3 + 1) (nth mem 0) mem }
+
+-- The plan that was read stands in the memory, each line in its row; or the refusal.
+abbrev pub PlanLoaded : Result Plan → List ℕ → Step → Type 0
+PlanLoaded (good p) mem r = ((n : ℕ) × (r ≡ Next n)) × (planIn mem ≡ p) × Standing (nth mem 0) mem
+PlanLoaded (bad n) mem r = r ≡ Refused n
+
+-- The stop tick of each processor is in its cell, never for one that does not stop; or the refusal.
+abbrev pub StopsLoaded : Result (List Stop) → List ℕ → Step → Type 0
+StopsLoaded (good ss) cells r = ((n : ℕ) × (r ≡ Next n)) × ((p : ℕ) → p < 16 → (timeIn (nth cells p) ≡ stopTime ss p) × Small (document01 .tick) (nth cells p))
+StopsLoaded (bad n) cells r = r ≡ Refused n

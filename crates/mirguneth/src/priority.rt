@@ -1,0 +1,143 @@
+// Priorities: top levels of free tasks, and the choice of the critical one.
+ghost use mathlib.Core.Path.{_≡_};
+ghost use mathlib.Core.List.{map};
+ghost use mathlib.Core.Bool.{false};
+ghost use Prim.Native.Nat.{ℕ, _+_, _*_, _≤_, _<_};
+ghost use lib.ListN.{length};
+ghost use Rattle.definitions.specs.Lists.{nth, below, greatest};
+ghost use Rattle.definitions.specs.Limits.{document01};
+ghost use Rattle.definitions.specs.Times.{after, least};
+ghost use Rattle.definitions.specs.Planner.{tickOf, scale};
+ghost use Rattle.mirguneth.specs.Layout.{memorySize, farAt, rowAt};
+ghost use Rattle.mirguneth.specs.Schedule.{jobIn, timeIn, rowOutcomes, topIn, JobHeld, RowHeld, KeptOutside, FarFilled, Standing, FedIn};
+ghost use Rattle.mirguneth.specs.Planning.{isFree, freeIn, bestOf};
+use crate::times;
+
+const NEVER: u64 = 18446744073709551615;
+
+const FAR: usize = 15856;
+
+const LINE: usize = 8712;
+
+const BLOCKED: usize = 8968;
+
+const PRIORITY: usize = 9224;
+
+const IN_HEAD: usize = 5640;
+
+const IN_NEXT: usize = 5896;
+
+const ROWS: usize = 9480;
+
+// The largest of the m delays from `a` on.
+fn largest_delay(mem: &[u64], a: usize, m: usize) -> u64
+    requires { ⌜ a + m ≤ length (now mem) ⌝ }
+    ensures { λ r. ⌜ r ≡ greatest (map (λ q. nth (now (mem .entry)) (a + q)) (below m)) ⌝ }
+{
+    let mut x = 0;
+    let mut q = 0;
+    while q < m {
+        let y = mem[a + q];
+        if y > x {
+            x = y;
+        }
+        q += 1;
+    }
+    x
+}
+
+// Fills the table of largest delays.
+pub fn fill_far(mem: &mut [u64])
+    requires { ⌜ JobHeld (now mem) ⌝ }
+    ensures { λ _. ⌜ KeptOutside farAt memorySize (now (mem .entry)) (now (mem .exit)) × FarFilled (now (mem .exit)) ⌝ }
+{
+    let v = mem[0] as usize;
+    let m = mem[1] as usize;
+    let mut p = 0;
+    while p < m {
+        let x = largest_delay(&mem[..], 4 + (v + p) * (m + 1) + 1, m);
+        mem[FAR + p] = x;
+        p += 1;
+    }
+}
+
+// The first tick at which the data of a predecessor whose line is at `a` is everywhere.
+fn spread(mem: &[u64], a: usize, volume: u64) -> u64
+    requires { ⌜ JobHeld (now mem) × RowHeld a (now mem) × FarFilled (now mem) × (a + 25 ≤ length (now mem)) × (volume ≤ 4095) × ((c : ℕ) → c < nth (now mem) 3 + 1 → nth (now mem) (a + (2 + 3 * c)) ≤ document01 .tick) ⌝ }
+    ensures { λ r. ⌜ (timeIn r ≡ least (map (λ d. after (volume * nth (now (mem .entry)) (farAt + d .processor)) (d .time)) (rowOutcomes false a (nth (now (mem .entry)) 3 + 1) (now (mem .entry))))) × (r ≤ 4296011520) ⌝ }
+{
+    let w = mem[3] as usize + 1;
+    let mut x = NEVER;
+    let mut c = 0;
+    while c < w {
+        let p = mem[a + (1 + 3 * c)] as usize;
+        let y = mem[a + (2 + 3 * c)] + volume * mem[FAR + p];
+        if y < x {
+            x = y;
+        }
+        c += 1;
+    }
+    x
+}
+
+// The scaled top level of t, whose predecessors all have a line.
+pub fn top_level(mem: &[u64], t: usize) -> u64
+    requires { ⌜ ((k : ℕ) × Standing k (now mem) × ((i c : ℕ) → i < k → c < nth (now mem) 3 + 1 → nth (now mem) (rowAt i + (2 + 3 * c)) ≤ document01 .tick)) × (t < nth (now mem) 0) × FedIn t (now mem) × FarFilled (now mem) ⌝ }
+    ensures { λ r. ⌜ r ≡ tickOf (topIn t (now (mem .entry))) * scale (jobIn (now (mem .entry))) ⌝ }
+{
+    let v = mem[0];
+    let m = mem[1];
+    let g = (4 + (v + m) * (m + 1)) as usize;
+    let mut x = 0;
+    let mut k = mem[IN_HEAD + t] as usize;
+    while k > 0 {
+        let c = mem[g + (k - 1)];
+        let from = (c % 256) as usize;
+        let a = ROWS + (mem[LINE + from] as usize - 1) * 25;
+        let y = spread(mem, a, c / 65536);
+        x = times::chosen_of(true, y, x);
+        k = mem[IN_NEXT + (k - 1)] as usize;
+    }
+    if m == 1 {
+        return x;
+    }
+    x * (m * (m - 1))
+}
+
+// Task t is not placed, and all its predecessors are.
+fn is_free(mem: &[u64], t: usize) -> bool
+    requires { ⌜ JobHeld (now mem) × (t < nth (now mem) 0) ⌝ }
+    ensures { λ r. ⌜ r ≡ isFree (now (mem .entry)) t ⌝ }
+{
+    if mem[LINE + t] != 0 {
+        return false;
+    }
+    mem[BLOCKED + t] == 0
+}
+
+// The free task of greatest priority, the lowest of those; the number of tasks if none is free.
+pub fn critical(mem: &[u64]) -> usize
+    requires { ⌜ JobHeld (now mem) ⌝ }
+    ensures { λ r. ⌜ r ≡ bestOf (nth (now (mem .entry)) 0) (freeIn (now (mem .entry))) ⌝ }
+{
+    let v = mem[0] as usize;
+    let mut best = v;
+    let mut top = 0;
+    let mut t = 0;
+    while t < v {
+        if is_free(mem, t) {
+            let x = mem[PRIORITY + t];
+            if best == v {
+                best = t;
+                top = x;
+            } else {
+                if x > top {
+                    best = t;
+                    top = x;
+                }
+            }
+        }
+        t += 1;
+    }
+    best
+}
