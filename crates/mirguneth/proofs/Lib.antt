@@ -18,3 +18,16 @@ pub mod LevelLaws
 pub mod ChoiceLaws
 pub mod WriteLaws
 pub mod Spreading
+pub mod DrawLaws
+pub mod CheckLaws
+pub mod AgreeLaws
+pub mod JudgeLaws
+pub mod VerdictLaws
+pub mod StopLaws
+pub mod PlanLaws
+pub mod PlanReading
+pub mod PlanText
+pub mod RunLaws
+pub mod RoundLaws
+pub mod FirstLaws
+pub mod ResultLaws

@@ -74,7 +74,7 @@ module _ (l : Limits) (opening : List ℕ) (k : ℕ) (s : List ℕ) where
   line-no n e = rw e
 
 -- Read on if no refusal is due.
-due-no : {A : Type 0} (n : ℕ) (q : Reader A) (s : List ℕ) → 0 < n → refused n ≡ next (due n s) (λ _. q)
+pub due-no : {A : Type 0} (n : ℕ) (q : Reader A) (s : List ℕ) → 0 < n → refused n ≡ next (due n s) (λ _. q)
 due-no zero q s h = absurd (omega arith)
 due-no (suc n) q s h = refl
 

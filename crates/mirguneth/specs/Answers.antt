@@ -6,13 +6,16 @@ use lib.ListN.{length, take}
 use Rattle.definitions.specs.Limits.{document01}
 use Rattle.definitions.specs.Text.{Result, good, bad, andThen}
 use Rattle.definitions.specs.Job.{Job, readJob}
-use Rattle.definitions.specs.Tools.{fitting}
+use Rattle.definitions.specs.Lists.{In}
+use Rattle.definitions.specs.Tools.{fitting, Verdict, accepted, doubled, rejected}
 use Rattle.slices.specs.Over.{over}
 use Rattle.text.specs.declared.Step.{Step}
 use Rattle.text.specs.declared.Step.the-variants.{Next, Refused}
 use Rattle.mirguneth.specs.Memory.{jobCells}
 use Rattle.mirguneth.specs.declared.Answer.{Answer}
 use Rattle.mirguneth.specs.declared.Answer.the-variants.{Done, Refusal}
+use Rattle.mirguneth.specs.declared.Checked.{Checked}
+use Rattle.mirguneth.specs.declared.Checked.the-variants as Checked
 
 -- The answer r, and what the output holds after it, e, if it held d: on a good answer its cells or bytes stand at the
 -- front and the rest is untouched; on a refusal all of it is untouched.
@@ -28,3 +31,9 @@ jobAnswer text room = andThen (readJob document01 text) (λ j. fitting room (job
 abbrev pub Loaded : Result Job → List ℕ → Step → Type 0
 Loaded (good j) mem r = (r ≡ Next (length (jobCells j))) × (take (length (jobCells j)) mem ≡ jobCells j)
 Loaded (bad n) mem r = r ≡ Refused n
+
+-- The checker's answer r: with 12 one of the tasks of which it is true.
+abbrev pub Judged : Verdict → Checked → Type 0
+Judged accepted r = r ≡ Checked.Accepted
+Judged (doubled ts) r = (t : ℕ) × (r ≡ Checked.Doubled t) × In t ts
+Judged (rejected n) r = r ≡ Checked.Refused n

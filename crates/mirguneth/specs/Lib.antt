@@ -6,3 +6,5 @@ pub mod Schedule
 pub mod Planning
 pub mod Rounds
 pub mod Loading
+pub mod Checking
+pub mod Replaying

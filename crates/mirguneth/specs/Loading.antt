@@ -5,13 +5,17 @@ use Prim.Native.Nat.{ℕ, _+_, _<_}
 use Rattle.definitions.specs.Lists.{nth}
 use Rattle.definitions.specs.Limits.{document01}
 use Rattle.definitions.specs.Text.{Result, good, bad}
-use Rattle.definitions.specs.Plan.{Plan}
+use Rattle.definitions.specs.Plan.{Line, Plan}
 use Rattle.definitions.specs.Stops.{Stop}
 use Rattle.definitions.specs.Times.{Time, stopTime}
 use Rattle.text.specs.declared.Step.{Step}
 use Rattle.text.specs.declared.Step.the-variants.{Next, Refused}
 use Rattle.mirguneth.specs.Layout.{bestAt, worstAt}
-use Rattle.mirguneth.specs.Schedule.{linesIn, timeIn, Small, Standing}
+use Rattle.mirguneth.specs.Schedule.{rowReplicas, linesIn, timeIn, Small, Standing}
+
+-- The line at a, with the job's number of replicas.
+abbrev pub lineIn : ℕ → List ℕ → Line
+lineIn a mem = record { task = nth mem a; replicas = rowReplicas a (nth mem 3 + 1) mem }
 
 -- The plan in a memory: M*, M and a line for each task.
 unfoldable pub planIn : List ℕ → Plan

@@ -9,7 +9,7 @@ use Rattle.definitions.specs.Lists.{nth, below, keep, In}
 use Rattle.definitions.specs.Limits.{document01}
 use Rattle.definitions.specs.Job.{Edge, Job, incoming}
 use Rattle.definitions.specs.Plan.{Line}
-use Rattle.definitions.specs.Times.{Time, tick, ready}
+use Rattle.definitions.specs.Times.{Time, tick, Outcome, ready}
 use Rattle.definitions.specs.Planner.{tickOf, greatestOf, Waiting, waitingFrom, scale, place, planFor}
 use Rattle.mirguneth.specs.Layout.{levelAt, lineAt, blockedAt, priorityAt, rowAt}
 use Rattle.mirguneth.specs.Schedule.{jobIn, placedIn, linesIn, topIn, Standing, LinkedOut, FarFilled, LevelsFilled}
@@ -33,14 +33,12 @@ unfoldable pub waitingIn : List ℕ → List Waiting
 waitingIn mem =
     keep (λ w. eqb (nth mem (lineAt + w .task)) 0) (waitingFrom 0 (map (λ t. nth mem (levelAt + t)) (below (nth mem 0))))
 
--- The ready ticks of all processors after the first k lines.
-pub record ClocksHeld (k : ℕ) (clocks : Clocks) (mem : List ℕ) : Type 0 where
+-- The clocks have the ready ticks of all processors after what is placed, with its early and its late times.
+pub record ClocksHeld (clocks : Clocks) (j : Job) (es ls : List Outcome) : Type 0 where
   pub early-size : length (clocks .early) ≡ 16
   pub late-size : length (clocks .late) ≡ 16
-  pub early-ready : (p : ℕ) → p < nth mem 1 → tick (nth (clocks .early) p) ≡ ready (jobIn mem) p (placedIn false (nth mem 3 + 1) k mem)
-  pub late-ready : (p : ℕ) → p < nth mem 1 → tick (nth (clocks .late) p) ≡ ready (jobIn mem) p (placedIn true (nth mem 3 + 1) k mem)
-  pub early-most : (p : ℕ) → p < nth mem 1 → nth (clocks .early) p ≤ document01 .tick
-  pub late-most : (p : ℕ) → p < nth mem 1 → nth (clocks .late) p ≤ document01 .tick
+  pub early-ready : (p : ℕ) → p < j .processors → tick (nth (clocks .early) p) ≡ ready j p es
+  pub late-ready : (p : ℕ) → p < j .processors → tick (nth (clocks .late) p) ≡ ready j p ls
 
 -- k lines of the plan are drawn up, and what is left to place gives the rest of it.
 pub record Drawn (k : ℕ) (mem : List ℕ) : Type 0 where

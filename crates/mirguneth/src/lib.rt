@@ -2,6 +2,7 @@
 ghost use Rattle.mirguneth.specs.Answers.{Answered, jobAnswer};
 
 mod boxes;
+mod checker;
 mod circle;
 mod clocks;
 mod edges;
@@ -10,8 +11,12 @@ mod job;
 mod levels;
 mod lines;
 mod links;
+mod plans;
 mod priority;
+mod replay;
+mod results;
 mod rows;
+mod stops;
 mod times;
 mod writing;
 
@@ -21,6 +26,13 @@ use text::Step;
 pub enum Answer {
     Done(usize),
     Refusal(u64),
+}
+
+// The checker's answer: the plan is accepted; or 12 with a task that has two replicas on one processor; or another number.
+pub enum Checked {
+    Accepted,
+    Doubled(u8),
+    Refused(u64),
 }
 
 // Reads a job's text into the lent cells.

@@ -1,0 +1,467 @@
+-- Ticks that are the equations', line by line; the clocks; and the ends of a plan whose ticks are.
+use mathlib.Core.Path.{_≡_, refl, ap, _∙_, sym}
+use mathlib.Core.Logic.{inl, inr, ⊎-elim}
+use mathlib.Core.List.{List, [], _∷_, _++_, map, map-append, map-map, append-assoc, append-nil, reverse, reverseAux, reverse-append, reverse-reverse, reverse-cons}
+use mathlib.Core.Bool.{Bool, true, false}
+use Prim.Native.Nat.{ℕ, zero, suc, _+_, _*_, _<_, _≤_}
+use native.Mathlib.Omega.{arith}
+use native.Mathlib.Numerals.{add-one}
+use borrow.Author.Tests.{eqb-true, eq-eqb, ne-eqb}
+use lib.Dec.{eqb}
+use lib.ListN.{length, length-append, length-map, take, drop, set, length-set, replicate, length-replicate, getD-replicate}
+use lib.Seq.{take-at, drop-at, getD-set-same, getD-set-other}
+use Rattle.definitions.specs.Lists.{if_then_else_, nth, In, distinct}
+use Rattle.definitions.specs.Limits.{document01}
+use Rattle.definitions.specs.Job.{Edge, Job, runTime, incoming}
+use Rattle.definitions.specs.Plan.{Replica, Line, processorsOf}
+use Rattle.definitions.specs.Times.{Time, tick, never, later, after, Copy, Outcome, outcome, times, ready, stopTime, finish, walk, copiesOf, copies, earlies, lates}
+use Rattle.definitions.specs.Refusals.{doubledTasks, replicasOf, ticksAgree}
+use Rattle.definitions.proofs.Lists.{both, both-true, in-append, append-left, append-right, map-same}
+use Rattle.definitions.proofs.Tasks.{copyOf}
+use Rattle.definitions.proofs.Guarantee.{same-times, times-same}
+use Rattle.mirguneth.specs.Layout.{lineAt, rowAt}
+use Rattle.mirguneth.specs.Schedule.{jobIn, neverCell, timeIn, choiceOf, rowOutcomes, placedIn, rowReplicas, linesIn, dataIn, Small, JobHeld, Standing, FedIn}
+use Rattle.mirguneth.specs.Planning.{ClocksHeld}
+use Rattle.mirguneth.specs.Loading.{planIn}
+use Rattle.mirguneth.specs.Checking.{PlanHeld, ClocksAfter, finishIn, AgreesTo, LineAgrees}
+use Rattle.mirguneth.specs.declared.clocks.Clocks.{Clocks}
+use Rattle.mirguneth.proofs.Held.{last-or-before, equal-or-not, processors-in, sizes}
+use Rattle.mirguneth.proofs.TimeLaws.{time-tick}
+use Rattle.mirguneth.proofs.Placed.{FedBy, start-placed}
+use Rattle.mirguneth.proofs.DrawLaws.{outcomeOn, walk-apart, Comes}
+use Rattle.mirguneth.proofs.CheckLaws.{lineIn, line-among, line-facts, doubled-in}
+
+-- Cells and times ---------------------------------------------------------------------------------------------------
+
+-- A time stands in one cell only.
+pub time-cell : (x y : ℕ) → timeIn x ≡ timeIn y → x ≡ y
+time-cell x y e = by (eqb x neverCell) refl (eqb y neverCell) refl e
+  where
+    by : (a : Bool) → eqb x neverCell ≡ a → (b : Bool) → eqb y neverCell ≡ b → (if a then never else tick x) ≡ (if b then never else tick y) → x ≡ y
+    by true p true q e = eqb-true x neverCell p ∙ sym (eqb-true y neverCell q)
+    by true p false q e = absurd (let z : _≡_ {A = ℕ} 0 1 = cc in omega arith)
+    by false p true q e = absurd (let z : _≡_ {A = ℕ} 0 1 = cc in omega arith)
+    by false p false q e = cc
+
+-- The replicas of a line --------------------------------------------------------------------------------------------
+
+-- Replica c of the line at a.
+abbrev replicaAt : ℕ → ℕ → List ℕ → Replica
+replicaAt a c mem = record { processor = nth mem (a + (1 + 3 * c)); early = nth mem (a + (2 + 3 * c)); late = nth mem (a + (3 + 3 * c)) }
+
+-- Its early or late tick.
+abbrev written : Bool → Replica → ℕ
+written late r = if late then r .late else r .early
+
+abbrev cellOf : Bool → ℕ → ℕ → List ℕ → ℕ
+cellOf late a c mem = nth mem (a + ((if late then 3 else 2) + 3 * c))
+
+written-at : (late : Bool) (a c : ℕ) (mem : List ℕ) → written late (replicaAt a c mem) ≡ cellOf late a c mem
+written-at true a c mem = refl
+written-at false a c mem = refl
+
+in-replicas : (a n c : ℕ) (mem : List ℕ) → c < n → In (replicaAt a c mem) (rowReplicas a n mem)
+unfolding rowReplicas
+in-replicas a zero c mem h = absurd (omega arith)
+in-replicas a (suc n) c mem h =
+    ⊎-elim
+    (λ (e : c ≡ n). append-right (replicaAt a c mem) (rowReplicas a n mem) (replicaAt a n mem ∷ []) (rw e (inl refl)))
+    (λ (l : c < n). append-left (replicaAt a c mem) (rowReplicas a n mem) (replicaAt a n mem ∷ []) (in-replicas a n c mem l))
+    (last-or-before n c h)
+
+replicas-in : (a n : ℕ) (mem : List ℕ) (r : Replica) → In r (rowReplicas a n mem) → (c : ℕ) × (c < n) × (replicaAt a c mem ≡ r)
+unfolding rowReplicas
+replicas-in a (suc n) mem r i =
+    ⊎-elim
+    (λ k. let (c, l, e) = replicas-in a n mem r k in (c, omega arith, e))
+    (⊎-elim (λ e. (n, omega arith, e)) absurd)
+    (in-append r (rowReplicas a n mem) (replicaAt a n mem ∷ []) i)
+
+-- The outcome of a replica.
+abbrev outcomeOf : Bool → ℕ → Replica → Outcome
+outcomeOf late t r = record { task = t; processor = r .processor; time = timeIn (written late r) }
+
+outcomes-row : (late : Bool) (a c : ℕ) (mem : List ℕ) → map (outcomeOf late (nth mem a)) (rowReplicas a c mem) ≡ reverse (rowOutcomes late a c mem)
+unfolding rowOutcomes rowReplicas
+outcomes-row late a zero mem = refl
+outcomes-row late a (suc c) mem =
+    let f = outcomeOf late (nth mem a) in
+    rw (map-append f (rowReplicas a c mem) (replicaAt a c mem ∷ []), written-at late a c mem, outcomes-row late a c mem)
+    (sym (reverse-cons (record { task = nth mem a; processor = nth mem (a + (1 + 3 * c)); time = timeIn (cellOf late a c mem) }) (rowOutcomes late a c mem)))
+
+-- A line of a plan that was read ------------------------------------------------------------------------------------
+
+module _ {mem : List ℕ} (h : PlanHeld mem) (k : ℕ) (l : k < nth mem 0) where
+  -- Its predecessors have their lines before it.
+  line-fed : FedBy k (nth mem (rowAt k)) mem
+  line-fed e i =
+      let (us, f, m) = line-facts h k l in
+      let (n, g, q) = m (e .from) (f .fed e i) in
+      let o = h .standing .line-of n (omega arith) in
+      let z : nth mem (lineAt + e .from) ≡ suc n = rw q at o in
+      omega arith
+
+  -- It does not feed itself.
+  line-apart : (e : Edge) → In e (incoming (jobIn mem) (nth mem (rowAt k))) → nth mem (rowAt k) ≡ e .from → ⊥
+  line-apart e i q =
+      let o = h .standing .line-of k l in
+      let z : nth mem (lineAt + e .from) ≡ suc k = rw q at o in
+      let (_, g) = line-fed e i in
+      omega arith
+
+  -- Its ticks are in range.
+  pub ticks-most : (late : Bool) (c : ℕ) → c < nth mem 3 + 1 → cellOf late (rowAt k) c mem ≤ document01 .tick
+  unfolding planIn
+  ticks-most late c g =
+      let w = nth mem 3 + 1 in
+      let (e, x) = h .facts .ticks-most (lineIn w k mem) (line-among w k (nth mem 0) mem l) (replicaAt (rowAt k) c mem) (in-replicas (rowAt k) w c mem g) in
+      by late e x
+    where
+      by : (late : Bool) → nth mem (rowAt k + (2 + 3 * c)) ≤ document01 .tick → nth mem (rowAt k + (3 + 3 * c)) ≤ document01 .tick → cellOf late (rowAt k) c mem ≤ document01 .tick
+      by true e x = x
+      by false e x = e
+
+  tick-in : (late : Bool) (c : ℕ) → c < nth mem 3 + 1 → timeIn (cellOf late (rowAt k) c mem) ≡ tick (cellOf late (rowAt k) c mem)
+  tick-in late c g = let m = ticks-most late c g in time-tick (cellOf late (rowAt k) c mem) (λ e. omega arith)
+
+-- The clocks --------------------------------------------------------------------------------------------------------
+
+-- Every outcome comes by a tick that does not pass b.
+abbrev AllCome : ℕ → List Outcome → Type 0
+AllCome b ds = (d : Outcome) → In d ds → Comes b (d .time)
+
+ready-comes : (j : Job) (p b : ℕ) (ds : List Outcome) → AllCome b ds → Comes b (ready j p ds)
+unfolding ready
+ready-comes j p b [] h = (0, refl, omega arith)
+ready-comes j p b (d ∷ ds) h = by (eqb (d .processor) p) (ready-comes j p b ds (λ x i. h x (inr i)))
+  where
+    by : (a : Bool) → Comes b (ready j p ds) → Comes b (if a then d .time else ready j p ds)
+    by true r = h d (inl refl)
+    by false r = r
+
+row-comes : (late : Bool) (a c b : ℕ) (mem : List ℕ) → b < neverCell → ((i : ℕ) → i < c → cellOf late a i mem ≤ b) → AllCome b (rowOutcomes late a c mem)
+unfolding rowOutcomes
+row-comes late a (suc c) b mem g h d (inl e) = rw (← e) (let l = h c (omega arith) in (cellOf late a c mem, time-tick (cellOf late a c mem) (λ n. omega arith), l))
+row-comes late a (suc c) b mem g h d (inr i) = row-comes late a c b mem g (λ i l. h i (omega arith)) d i
+
+module _ {mem : List ℕ} (h : PlanHeld mem) where
+  placed-comes : (late : Bool) (k : ℕ) → k ≤ nth mem 0 → AllCome (document01 .tick) (placedIn late (nth mem 3 + 1) k mem)
+  unfolding placedIn
+  placed-comes late (suc k) l d i =
+      let w = nth mem 3 + 1 in
+      ⊎-elim (row-comes late (rowAt k) w (document01 .tick) mem (omega arith) (ticks-most h k (omega arith) late) d) (placed-comes late k (omega arith) d)
+      (in-append d (rowOutcomes late (rowAt k) w mem) (placedIn late w k mem) i)
+
+  -- A processor's ready tick is in range.
+  pub ready-most : (late : Bool) (k p x : ℕ) → k ≤ nth mem 0 → tick x ≡ ready (jobIn mem) p (placedIn late (nth mem 3 + 1) k mem) → x ≤ document01 .tick
+  ready-most late k p x l e =
+      let (y, f, m) = ready-comes (jobIn mem) p (document01 .tick) (placedIn late (nth mem 3 + 1) k mem) (placed-comes late k l) in
+      let q : tick x ≡ tick y = e ∙ f in
+      let z : x ≡ y = cc in
+      omega arith
+
+-- At first all processors are ready at 0.
+pub clocks-new : (clocks : Clocks) (mem : List ℕ) → JobHeld mem → clocks .early ≡ replicate 16 0 → clocks .late ≡ replicate 16 0
+    → ClocksAfter 0 mem clocks
+unfolding placedIn ready
+clocks-new clocks mem h e f =
+    let most : (p : ℕ) → p < jobIn mem .processors → p < 16 = λ p l. omega (arith, h .facts .processors-most) in
+    record {
+      early-size = ap length e ∙ length-replicate {A = ℕ} 16 0;
+      late-size = ap length f ∙ length-replicate {A = ℕ} 16 0;
+      early-ready = λ p l. rw e (ap tick (getD-replicate 16 p 0 0 (most p l)));
+      late-ready = λ p l. rw f (ap tick (getD-replicate 16 p 0 0 (most p l)));
+    }
+
+-- One replica more on p: its processor's clock is its finish.
+clock-next : (j : Job) (ds : List Outcome) (d : Outcome) (cs : List ℕ) (p x : ℕ) → p < length cs → d .processor ≡ p → d .time ≡ tick x
+    → (q : ℕ) → tick (nth cs q) ≡ ready j q ds → tick (nth (set cs p x) q) ≡ ready j q (d ∷ ds)
+unfolding ready
+clock-next j ds d cs p x l e f q h =
+    ⊎-elim
+    (λ (g : q ≡ p). rw (eq-eqb (d .processor) q (e ∙ sym g), f, g) (ap tick (getD-set-same cs p x 0 l)))
+    (λ (n : q ≡ p → ⊥). rw (ne-eqb (d .processor) q (λ g. n (sym g ∙ e))) (ap tick (getD-set-other cs p q x 0 n) ∙ h))
+    (equal-or-not q p)
+
+module _ {mem : List ℕ} (h : PlanHeld mem) (k : ℕ) (l : k < nth mem 0) where
+  abbrev after-row : Bool → ℕ → List Outcome
+  after-row late c = rowOutcomes late (rowAt k) c mem ++ placedIn late (nth mem 3 + 1) k mem
+
+  pub clocks-first : (clocks : Clocks) → ClocksAfter k mem clocks
+      → ClocksHeld clocks (jobIn mem) (after-row false 0) (after-row true 0)
+  unfolding rowOutcomes
+  clocks-first clocks s = s
+
+  pub clocks-next : (clocks next : Clocks) (c : ℕ) → c < nth mem 3 + 1
+      → next .early ≡ set (clocks .early) (nth mem (rowAt k + (1 + 3 * c))) (nth mem (rowAt k + (2 + 3 * c)))
+      → next .late ≡ set (clocks .late) (nth mem (rowAt k + (1 + 3 * c))) (nth mem (rowAt k + (3 + 3 * c)))
+      → ClocksHeld clocks (jobIn mem) (after-row false c) (after-row true c)
+      → ClocksHeld next (jobIn mem) (after-row false (c + 1)) (after-row true (c + 1))
+  unfolding rowOutcomes
+  clocks-next clocks next c g e f s =
+      let p = nth mem (rowAt k + (1 + 3 * c)) in
+      let x = nth mem (rowAt k + (2 + 3 * c)) in
+      let y = nth mem (rowAt k + (3 + 3 * c)) in
+      let b = h .standing .row k l .processor-of c g in
+      let m = sizes (h .standing .job) .processors-most in
+      rw (add-one c)
+      (record {
+        early-size = ap length e ∙ length-set (clocks .early) p x ∙ s .early-size;
+        late-size = ap length f ∙ length-set (clocks .late) p y ∙ s .late-size;
+        early-ready = λ q o. rw e (clock-next (jobIn mem) (after-row false c) _ (clocks .early) p x (omega (arith, s .early-size)) refl (tick-in h k l false c g) q (s .early-ready q o));
+        late-ready = λ q o. rw f (clock-next (jobIn mem) (after-row true c) _ (clocks .late) p y (omega (arith, s .late-size)) refl (tick-in h k l true c g) q (s .late-ready q o));
+      })
+
+  pub clocks-done : (clocks : Clocks) (c : ℕ) → c ≡ nth mem 3 + 1 → ClocksHeld clocks (jobIn mem) (after-row false c) (after-row true c)
+      → ClocksAfter (k + 1) mem clocks
+  unfolding placedIn
+  clocks-done clocks c e s = rw (add-one k) (rw e at s)
+
+-- The ticks of a line -----------------------------------------------------------------------------------------------
+
+module _ {mem : List ℕ} (h : PlanHeld mem) (k : ℕ) (l : k < nth mem 0) (c : ℕ) (g : c < nth mem 3 + 1) where
+  abbrev here : ℕ
+  here = nth mem (rowAt k + (1 + 3 * c))
+
+  -- The processor of replica c.
+  pub box-below : nth mem (rowAt k + (1 + 3 * c)) < nth mem 1
+  box-below = h .standing .row k l .processor-of c g
+
+  pub box-most : nth mem (rowAt k + (1 + 3 * c)) < 16
+  box-most = omega (arith, box-below, sizes (h .standing .job) .processors-most)
+
+  -- It is ready at x, what the code asks for is there, and what it computes is the finish by the equations.
+  module _ (late : Bool) (x : ℕ) (e : tick x ≡ ready (jobIn mem) here (placedIn late (nth mem 3 + 1) k mem)) where
+    finish-asked : ((n : ℕ) × Standing n mem) × (nth mem (rowAt k) < nth mem 0) × (here < nth mem 1) × FedIn (nth mem (rowAt k)) mem × Small 4294967295 x
+    finish-asked = ((nth mem 0, h .standing), h .standing .task-of k l, box-below, λ e i. line-fed h k l e i .0, inr (ready-most h late k here x (omega arith) e))
+
+    finish-found : (r : ℕ) → timeIn r ≡ after (runTime (jobIn mem) (nth mem (rowAt k)) here) (later (timeIn x) (dataIn late (nth mem (rowAt k)) here mem)) → timeIn r ≡ finishIn late k c mem
+    unfolding finishIn finish stopTime
+    finish-found r f =
+        let m = ready-most h late k here x (omega arith) e in
+        f ∙ rw (time-tick x (λ n. omega arith), e, start-placed (h .standing) k (nth mem (rowAt k)) (omega arith) (line-fed h k l) late here)
+
+  module _ (clocks : Clocks) (s : ClocksAfter k mem clocks) where
+    pub early-asked : ((n : ℕ) × Standing n mem) × (nth mem (rowAt k) < nth mem 0) × (nth mem (rowAt k + (1 + 3 * c)) < nth mem 1) × FedIn (nth mem (rowAt k)) mem
+        × Small 4294967295 (nth (clocks .early) (nth mem (rowAt k + (1 + 3 * c))))
+    early-asked = finish-asked false (nth (clocks .early) here) (s .early-ready here (rw (processors-in mem) box-below))
+
+    pub late-asked : ((n : ℕ) × Standing n mem) × (nth mem (rowAt k) < nth mem 0) × (nth mem (rowAt k + (1 + 3 * c)) < nth mem 1) × FedIn (nth mem (rowAt k)) mem
+        × Small 4294967295 (nth (clocks .late) (nth mem (rowAt k + (1 + 3 * c))))
+    late-asked = finish-asked true (nth (clocks .late) here) (s .late-ready here (rw (processors-in mem) box-below))
+
+    pub early-found : (r : ℕ) → timeIn r ≡ after (runTime (jobIn mem) (nth mem (rowAt k)) here) (later (timeIn (nth (clocks .early) here)) (dataIn false (nth mem (rowAt k)) here mem))
+        → timeIn r ≡ finishIn false k c mem
+    early-found = finish-found false (nth (clocks .early) here) (s .early-ready here (rw (processors-in mem) box-below))
+
+    pub late-found : (r : ℕ) → timeIn r ≡ after (runTime (jobIn mem) (nth mem (rowAt k)) here) (later (timeIn (nth (clocks .late) here)) (dataIn true (nth mem (rowAt k)) here mem))
+        → timeIn r ≡ finishIn true k c mem
+    late-found = finish-found true (nth (clocks .late) here) (s .late-ready here (rw (processors-in mem) box-below))
+
+pub agrees-none : (k : ℕ) (mem : List ℕ) → AgreesTo k 0 mem
+agrees-none k mem late i g = absurd (omega arith)
+
+pub agrees-next : (k c x y : ℕ) (mem : List ℕ) → timeIn x ≡ finishIn false k c mem → timeIn y ≡ finishIn true k c mem
+    → x ≡ nth mem (rowAt k + (2 + 3 * c)) → y ≡ nth mem (rowAt k + (3 + 3 * c)) → AgreesTo k c mem → AgreesTo k (c + 1) mem
+agrees-next k c x y mem e f p q a late i g =
+    ⊎-elim (λ (o : i ≡ c). rw o (by late)) (λ (o : i < c). a late i o) (last-or-before c i (omega arith))
+  where
+    by : (late : Bool) → finishIn late k c mem ≡ timeIn (cellOf late (rowAt k) c mem)
+    by true = sym f ∙ ap timeIn q
+    by false = sym e ∙ ap timeIn p
+
+-- A tick that differs from the equations'.
+pub agrees-not : (late : Bool) (k c x : ℕ) (mem : List ℕ) → c < nth mem 3 + 1 → timeIn x ≡ finishIn late k c mem → (x ≡ cellOf late (rowAt k) c mem → ⊥) → LineAgrees k mem → ⊥
+agrees-not late k c x mem g e n a = n (time-cell x (cellOf late (rowAt k) c mem) (e ∙ a late c g))
+
+-- One line more.
+pub agreed-next : (mem : List ℕ) (k : ℕ) → LineAgrees k mem → ((i : ℕ) → i < k → LineAgrees i mem) → (i : ℕ) → i < k + 1 → LineAgrees i mem
+agreed-next mem k a b i g = ⊎-elim (λ (e : i ≡ k). rw e a) (λ (l : i < k). b i l) (last-or-before k i (omega arith))
+
+-- The walk over lines -----------------------------------------------------------------------------------------------
+
+-- Two lists joined, the same in both ways, with first parts of one length.
+parts-same : {A : Type 0} (xs ys us vs : List A) → length xs ≡ length us → xs ++ ys ≡ us ++ vs → (xs ≡ us) × (ys ≡ vs)
+parts-same xs ys us vs l e = (
+  sym (take-at xs ys (length us) l) ∙ ap (take (length us)) e ∙ take-at us vs (length us) refl,
+  sym (drop-at xs ys (length us) l) ∙ ap (drop (length us)) e ∙ drop-at us vs (length us) refl,
+)
+
+map-at : {A B : Type 0} (f g : A → B) (xs : List A) → map f xs ≡ map g xs → (x : A) → In x xs → f x ≡ g x
+map-at f g (y ∷ xs) e x (inl i) = let q : f y ≡ g y = cc in rw i at q
+map-at f g (y ∷ xs) e x (inr i) = map-at f g xs (cc) x i
+
+copies-more : (j : Job) (ns : List Line) (n : Line) → copies j (ns ++ n ∷ []) ≡ copies j ns ++ copiesOf j (n .task) (processorsOf n)
+unfolding copies
+copies-more j [] n = append-nil (copiesOf j (n .task) (processorsOf n))
+copies-more j (m ∷ ns) n =
+    rw (copies-more j ns n) (sym (append-assoc (copiesOf j (m .task) (processorsOf m)) (copies j ns) (copiesOf j (n .task) (processorsOf n))))
+
+replicas-more : (ns : List Line) (n : Line) → replicasOf (ns ++ n ∷ []) ≡ replicasOf ns ++ n .replicas
+unfolding replicasOf
+replicas-more [] n = append-nil (n .replicas)
+replicas-more (m ∷ ns) n = rw (replicas-more ns n) (sym (append-assoc (m .replicas) (replicasOf ns) (n .replicas)))
+
+copies-length : (j : Job) (ns : List Line) → length (copies j ns) ≡ length (replicasOf ns)
+unfolding copies replicasOf
+copies-length j [] = refl
+copies-length j (n ∷ ns) =
+    length-append (copiesOf j (n .task) (processorsOf n)) (copies j ns)
+    ∙ rw (length-map (processorsOf n) (copyOf j (n .task)), length-map (n .replicas) (λ r. r .processor), copies-length j ns) (sym (length-append (n .replicas) (replicasOf ns)))
+
+module _ (j : Job) (choose : List Time → Time) where
+  walk-length : (placed : List Outcome) (cs : List Copy) → length (walk j choose [] placed cs) ≡ length cs
+  unfolding walk
+  walk-length placed [] = refl
+  walk-length placed (c ∷ cs) = ap suc (walk-length (outcome c (finish j choose [] placed c) ∷ placed) cs)
+
+  -- A walk over some copies and then over others.
+  walk-then : (placed : List Outcome) (bs cs : List Copy)
+      → walk j choose [] placed (bs ++ cs) ≡ walk j choose [] placed bs ++ walk j choose [] (reverseAux (walk j choose [] placed bs) placed) cs
+  unfolding walk
+  walk-then placed [] cs = refl
+  walk-then placed (b ∷ bs) cs = let o = outcome b (finish j choose [] placed b) in ap (o ∷_) (walk-then (o ∷ placed) bs cs)
+
+  abbrev walked : List Line → List Outcome
+  walked ns = walk j choose [] [] (copies j ns)
+
+  -- One line more.
+  walk-line : (ns : List Line) (n : Line) → walked (ns ++ n ∷ []) ≡ walked ns ++ walk j choose [] (reverse (walked ns)) (copiesOf j (n .task) (processorsOf n))
+  walk-line ns n = ap (walk j choose [] []) (copies-more j ns n) ∙ walk-then [] (copies j ns) (copiesOf j (n .task) (processorsOf n))
+
+  -- Where the times of lines are the written ones, so are those of the lines before the last, and those of the last.
+  written-before : (tell : Replica → Time) (ns : List Line) (n : Line) → times (walked (ns ++ n ∷ [])) ≡ map tell (replicasOf (ns ++ n ∷ []))
+      → (times (walked ns) ≡ map tell (replicasOf ns)) × (times (walk j choose [] (reverse (walked ns)) (copiesOf j (n .task) (processorsOf n))) ≡ map tell (n .replicas))
+  written-before tell ns n e =
+      let last = walk j choose [] (reverse (walked ns)) (copiesOf j (n .task) (processorsOf n)) in
+      parts-same (times (walked ns)) (times last) (map tell (replicasOf ns)) (map tell (n .replicas))
+      (length-map (walked ns) (λ d. d .time) ∙ walk-length [] (copies j ns) ∙ copies-length j ns ∙ sym (length-map (replicasOf ns) tell))
+      (sym (map-append (λ d. d .time) (walked ns) last) ∙ ap times (sym (walk-line ns n)) ∙ e ∙ ap (map tell) (replicas-more ns n) ∙ map-append tell (replicasOf ns) (n .replicas))
+
+-- The walk over the lines in memory ---------------------------------------------------------------------------------
+
+module _ {mem : List ℕ} (h : PlanHeld mem) (one : doubledTasks (planIn mem .lines) ≡ []) where
+  abbrev wide : ℕ
+  wide = nth mem 3 + 1
+
+  abbrev line : ℕ → Line
+  line k = lineIn wide k mem
+
+  -- The copies of line k, after the lines before it as they are written.
+  abbrev lineWalk : Bool → ℕ → List Outcome
+  lineWalk late k = walk (jobIn mem) (choiceOf late) [] (placedIn late wide k mem) (copiesOf (jobIn mem) (line k .task) (processorsOf (line k)))
+
+  -- The copies of the first k lines.
+  abbrev linesWalk : Bool → ℕ → List Outcome
+  linesWalk late k = walk (jobIn mem) (choiceOf late) [] [] (copies (jobIn mem) (linesIn wide k mem))
+
+  abbrev finishOn : Bool → ℕ → Replica → Time
+  finishOn late k r = finish (jobIn mem) (choiceOf late) [] (placedIn late wide k mem) (copyOf (jobIn mem) (line k .task) (r .processor))
+
+  line-distinct : (k : ℕ) → k < nth mem 0 → distinct (processorsOf (line k)) ≡ true
+  unfolding planIn
+  line-distinct k l = by (distinct (processorsOf (line k))) refl
+    where
+      by : (b : Bool) → distinct (processorsOf (line k)) ≡ b → b ≡ true
+      by true d = refl
+      by false d = let i : In (line k .task) [] = rw one at (doubled-in (line k) (linesIn wide (nth mem 0) mem) (line-among wide k (nth mem 0) mem l) (rw d refl)) in absurd i
+
+  line-walk : (late : Bool) (k : ℕ) → k < nth mem 0 → lineWalk late k ≡ map (λ r. outcomeOn (jobIn mem) (choiceOf late) (placedIn late wide k mem) (line k .task) (r .processor)) (line k .replicas)
+  line-walk late k l =
+      walk-apart (jobIn mem) (choiceOf late) (line k .task) (line-apart h k l) (processorsOf (line k)) (line-distinct k l) (placedIn late wide k mem)
+      ∙ map-map (outcomeOn (jobIn mem) (choiceOf late) (placedIn late wide k mem) (line k .task)) (λ r. r .processor) (line k .replicas)
+
+  line-agreed : (late : Bool) (k : ℕ) → k < nth mem 0 → LineAgrees k mem → lineWalk late k ≡ reverse (rowOutcomes late (rowAt k) wide mem)
+  unfolding finishIn
+  line-agreed late k l a =
+      line-walk late k l
+      ∙ map-same (λ r. outcomeOn (jobIn mem) (choiceOf late) (placedIn late wide k mem) (line k .task) (r .processor)) (outcomeOf late (line k .task)) (line k .replicas)
+      (λ r i. let (c, g, e) = replicas-in (rowAt k) wide mem r i in
+      rw (← e) (ap (outcome (copyOf (jobIn mem) (line k .task) (nth mem (rowAt k + (1 + 3 * c))))) (a late c g ∙ ap timeIn (sym (written-at late (rowAt k) c mem)))))
+      ∙ outcomes-row late (rowAt k) wide mem
+
+  -- Lines whose ticks are the equations' walk to what is written.
+  pub agreed-walk : (late : Bool) (k : ℕ) → k ≤ nth mem 0 → ((i : ℕ) → i < k → LineAgrees i mem) → linesWalk late k ≡ reverse (placedIn late wide k mem)
+  unfolding walk copies linesIn placedIn
+  agreed-walk late zero l a = refl
+  agreed-walk late (suc k) l a =
+      walk-line (jobIn mem) (choiceOf late) (linesIn wide k mem) (line k)
+      ∙ rw (agreed-walk late k (omega arith) (λ i g. a i (omega arith)), reverse-reverse (placedIn late wide k mem), line-agreed late k (omega arith) (a k (omega arith)))
+      (sym (reverse-append (rowOutcomes late (rowAt k) wide mem) (placedIn late wide k mem)))
+
+  -- The times of line k's copies, and the written ones.
+  abbrev tell : Bool → Replica → Time
+  tell late r = tick (written late r)
+
+  line-times : (late : Bool) (k : ℕ) → k < nth mem 0 → times (lineWalk late k) ≡ map (finishOn late k) (line k .replicas)
+  line-times late k l =
+      ap times (line-walk late k l)
+      ∙ map-map (λ d. d .time) (λ r. outcomeOn (jobIn mem) (choiceOf late) (placedIn late wide k mem) (line k .task) (r .processor)) (line k .replicas)
+
+  line-told : (late : Bool) (k : ℕ) → k < nth mem 0 → LineAgrees k mem → times (lineWalk late k) ≡ map (tell late) (line k .replicas)
+  unfolding finishIn
+  line-told late k l a =
+      line-times late k l
+      ∙ map-same (finishOn late k) (tell late) (line k .replicas)
+      (λ r i. let (c, g, e) = replicas-in (rowAt k) wide mem r i in
+      rw (← e) (a late c g ∙ tick-in h k l late c g ∙ ap tick (sym (written-at late (rowAt k) c mem))))
+
+  told-line : (k : ℕ) → k < nth mem 0 → ((late : Bool) → times (lineWalk late k) ≡ map (tell late) (line k .replicas)) → LineAgrees k mem
+  unfolding finishIn
+  told-line k l t late c g =
+      map-at (finishOn late k) (tell late) (line k .replicas) (sym (line-times late k l) ∙ t late) (replicaAt (rowAt k) c mem) (in-replicas (rowAt k) wide c mem g)
+      ∙ ap tick (written-at late (rowAt k) c mem) ∙ sym (tick-in h k l late c g)
+
+  -- The times of the first k lines are the written ones exactly if their ticks are the equations'.
+  abbrev Told : Bool → ℕ → Type 0
+  Told late k = times (linesWalk late k) ≡ map (tell late) (replicasOf (linesIn wide k mem))
+
+  agreed-told : (late : Bool) (k : ℕ) → k ≤ nth mem 0 → ((i : ℕ) → i < k → LineAgrees i mem) → Told late k
+  unfolding walk copies replicasOf linesIn
+  agreed-told late zero l a = refl
+  agreed-told late (suc k) l a =
+      let first : (i : ℕ) → i < k → LineAgrees i mem = λ i g. a i (omega arith) in
+      let back : reverse (linesWalk late k) ≡ placedIn late wide k mem = ap reverse (agreed-walk late k (omega arith) first) ∙ reverse-reverse (placedIn late wide k mem) in
+      let turn : linesWalk late (suc k) ≡ linesWalk late k ++ lineWalk late k = rw back at (walk-line (jobIn mem) (choiceOf late) (linesIn wide k mem) (line k)) in
+      let joined : times (linesWalk late (suc k)) ≡ times (linesWalk late k) ++ times (lineWalk late k) = ap times turn ∙ map-append (λ d. d .time) (linesWalk late k) (lineWalk late k) in
+      joined
+      ∙ rw (agreed-told late k (omega arith) first, line-told late k (omega arith) (a k (omega arith)), replicas-more (linesIn wide k mem) (line k))
+      (sym (map-append (tell late) (replicasOf (linesIn wide k mem)) (line k .replicas)))
+
+  told-agreed : (k : ℕ) → k ≤ nth mem 0 → ((late : Bool) → Told late k) → (i : ℕ) → i < k → LineAgrees i mem
+  unfolding linesIn
+  told-agreed zero l t i g = absurd (omega arith)
+  told-agreed (suc k) l t i g =
+      let ns = linesIn wide k mem in
+      let first : (i : ℕ) → i < k → LineAgrees i mem =
+      told-agreed k (omega arith) (λ late. written-before (jobIn mem) (choiceOf late) (tell late) ns (line k) (t late) .0) in
+      ⊎-elim
+      (λ (e : i ≡ k). rw e (told-line k (omega arith)
+      (λ late. rw (agreed-walk late k (omega arith) first, reverse-reverse (placedIn late wide k mem)) at (written-before (jobIn mem) (choiceOf late) (tell late) ns (line k) (t late) .1))))
+      (λ (o : i < k). first i o)
+      (last-or-before k i g)
+
+  -- All ticks are the equations', or those of some line are not.
+  pub ticks-yes : (k : ℕ) → k ≡ nth mem 0 → ((i : ℕ) → i < k → LineAgrees i mem) → true ≡ ticksAgree (jobIn mem) (planIn mem .lines)
+  unfolding ticksAgree earlies lates planIn
+  ticks-yes k e a =
+      let b : (i : ℕ) → i < nth mem 0 → LineAgrees i mem = λ i l. a i (omega arith) in
+      let rs = replicasOf (linesIn wide (nth mem 0) mem) in
+      sym (rw (agreed-told false (nth mem 0) (omega arith) b, agreed-told true (nth mem 0) (omega arith) b) (both-true (times-same (map (tell false) rs)) (times-same (map (tell true) rs))))
+
+  pub ticks-all : ticksAgree (jobIn mem) (planIn mem .lines) ≡ true → (i : ℕ) → i < nth mem 0 → LineAgrees i mem
+  unfolding ticksAgree earlies lates planIn
+  ticks-all t =
+      let (e, f) = both _ _ t in
+      told-agreed (nth mem 0) (omega arith) (by (same-times _ _ e) (same-times _ _ f))
+    where
+      by : Told false (nth mem 0) → Told true (nth mem 0) → (late : Bool) → Told late (nth mem 0)
+      by e f true = f
+      by e f false = e
+
+  pub ticks-no : (k : ℕ) → k < nth mem 0 → (LineAgrees k mem → ⊥) → false ≡ ticksAgree (jobIn mem) (planIn mem .lines)
+  ticks-no k l n = by (ticksAgree (jobIn mem) (planIn mem .lines)) refl
+    where
+      by : (b : Bool) → ticksAgree (jobIn mem) (planIn mem .lines) ≡ b → false ≡ b
+      by true t = absurd (n (ticks-all t k l))
+      by false t = refl

@@ -1,0 +1,208 @@
+-- The checker's tests on a plan that was read.
+use mathlib.Core.Path.{_≡_, refl, ap, _∙_, sym}
+use mathlib.Core.Logic.{_⊎_, inl, inr, ⊎-elim}
+use mathlib.Core.List.{List, [], _∷_, _++_, map, map-append, append-assoc}
+use mathlib.Core.Bool.{Bool, true, false, not}
+use Prim.Native.Nat.{ℕ, zero, suc, _+_, _*_, _<_, _≤_}
+use native.Mathlib.Omega.{arith}
+use native.Mathlib.Numerals.{add-one}
+use borrow.Author.Tests.{ltb-false, not-false}
+use lib.Dec.{ltb}
+use Rattle.definitions.specs.Lists.{if_then_else_, nth, In, keep, distinct}
+use Rattle.definitions.specs.Job.{Job}
+use Rattle.definitions.specs.Plan.{Line, processorsOf, descends}
+use Rattle.definitions.specs.Refusals.{doubledTasks}
+use Rattle.definitions.proofs.Lists.{neither, neither-false, append-left, append-right, in-append, apart-head, head-apart, map-in, keep-in}
+use Rattle.definitions.proofs.Facts.{Ordered, LineFacts}
+use Rattle.definitions.proofs.Tasks.{lineTasks}
+use Rattle.mirguneth.specs.Layout.{rowAt}
+use Rattle.mirguneth.specs.Schedule.{jobIn, rowReplicas, linesIn}
+use Rattle.mirguneth.specs.Loading.{planIn}
+use Rattle.mirguneth.specs.Checking.{PlanHeld, rowProcessors}
+use Rattle.mirguneth.proofs.Held.{last-or-before}
+
+-- Numbers that do not descend, and numbers that differ --------------------------------------------------------------
+
+descends-front : (xs : List ℕ) (y : ℕ) → descends (xs ++ y ∷ []) ≡ false → descends xs ≡ false
+unfolding descends
+descends-front [] y h = refl
+descends-front (x ∷ []) y h = refl
+descends-front (x ∷ z ∷ xs) y h =
+    let (a, b) = neither (ltb z x) (descends (z ∷ xs ++ y ∷ [])) h in
+    neither-false a (descends-front (z ∷ xs) y b)
+
+descends-last : (xs : List ℕ) (x y : ℕ) → descends ((xs ++ x ∷ []) ++ y ∷ []) ≡ false → x ≤ y
+unfolding descends
+descends-last [] x y h = ltb-false y x (neither (ltb y x) false h .0)
+descends-last (z ∷ []) x y h = descends-last [] x y (neither (ltb x z) (descends (x ∷ y ∷ [])) h .1)
+descends-last (z ∷ u ∷ xs) x y h = descends-last (u ∷ xs) x y (neither (ltb u z) (descends ((u ∷ xs ++ x ∷ []) ++ y ∷ [])) h .1)
+
+distinct-front : (xs : List ℕ) (y : ℕ) → distinct (xs ++ y ∷ []) ≡ true → (distinct xs ≡ true) × (In y xs → ⊥)
+unfolding distinct
+distinct-front [] y d = (refl, λ i. i)
+distinct-front (x ∷ xs) y d =
+    let (n, e) = apart-head x (xs ++ y ∷ []) d in
+    let (f, m) = distinct-front xs y e in
+    (head-apart x xs (λ i. n (append-left x xs (y ∷ []) i)) f, ⊎-elim (λ q. n (append-right x xs (y ∷ []) (inl (sym q)))) m)
+
+distinct-last : (xs : List ℕ) (y : ℕ) → distinct xs ≡ true → (In y xs → ⊥) → distinct (xs ++ y ∷ []) ≡ true
+unfolding distinct
+distinct-last [] y d n = head-apart y [] (λ i. i) refl
+distinct-last (x ∷ xs) y d n =
+    let (m, e) = apart-head x xs d in
+    head-apart x (xs ++ y ∷ []) (λ i. ⊎-elim m (⊎-elim (λ q. n (inl (sym q))) (λ i. i)) (in-append x xs (y ∷ []) i)) (distinct-last xs y e (λ i. n (inr i)))
+
+-- The processors of a line ------------------------------------------------------------------------------------------
+
+module _ (a : ℕ) (mem : List ℕ) where
+  abbrev on : ℕ → ℕ
+  on c = nth mem (a + (1 + 3 * c))
+
+  processors-more : (c : ℕ) → rowProcessors a (suc c) mem ≡ rowProcessors a c mem ++ on c ∷ []
+  unfolding rowProcessors rowReplicas
+  processors-more c = map-append (λ r. r .processor) (rowReplicas a c mem) (record { processor = on c; early = nth mem (a + (2 + 3 * c)); late = nth mem (a + (3 + 3 * c)) } ∷ [])
+
+  -- Of processors that do not descend each is at least the one before.
+  ascends : (w c : ℕ) → descends (rowProcessors a w mem) ≡ false → suc c < w → on c ≤ on (suc c)
+  ascends zero c h l = absurd (omega arith)
+  ascends (suc w) c h l =
+      let f : descends (rowProcessors a w mem ++ on w ∷ []) ≡ false = rw (processors-more w) at h in
+      ⊎-elim
+      (λ (e : suc c ≡ w). descends-last (rowProcessors a c mem) (on c) (on (suc c)) (rw (← e, processors-more c) at f))
+      (λ (g : suc c < w). ascends w c (descends-front (rowProcessors a w mem) (on w) f) g)
+      (last-or-before w (suc c) l)
+
+  -- What differs in the first c + 1 differs in the first c.
+  apart-before : (w c : ℕ) → c ≤ w → distinct (rowProcessors a w mem) ≡ true → distinct (rowProcessors a c mem) ≡ true
+  apart-before zero c l d = let e : c ≡ 0 = omega arith in rw e d
+  apart-before (suc w) c l d =
+      ⊎-elim
+      (λ (e : c ≡ suc w). rw e d)
+      (λ (g : c < suc w). apart-before w c (omega arith) (distinct-front (rowProcessors a w mem) (on w) (rw (processors-more w) at d) .0))
+      (last-or-before (suc w) c (omega arith))
+
+  -- The first c + 1 processors differ, and the last of them is the greatest.
+  pub record Rising (c : ℕ) : Type 0 where
+    pub apart : distinct (rowProcessors a (suc c) mem) ≡ true
+    pub most : (p : ℕ) → In p (rowProcessors a (suc c) mem) → p ≤ on c
+
+  pub rising-first : Rising 0
+  unfolding rowProcessors rowReplicas distinct
+  rising-first = record { apart = distinct-last [] (on 0) refl (λ i. i); most = λ p. ⊎-elim (λ e. omega arith) absurd }
+
+  -- The processor of the next replica.
+  on-next : (c : ℕ) → nth mem (a + (4 + 3 * c)) ≡ on (suc c)
+  on-next c = let e : 4 + 3 * c ≡ 1 + 3 * suc c = omega arith in rw e
+
+  module _ (w c : ℕ) (l : c + 1 < w) where
+    pub rising-next : descends (rowProcessors a w mem) ≡ false → (on c ≡ nth mem (a + (4 + 3 * c)) → ⊥) → Rising c → Rising (c + 1)
+    rising-next h n r =
+        let up = ascends w c h (omega arith) in
+        let q = on-next c in
+        let ps = rowProcessors a (suc c) mem in
+        let f : Rising (suc c) =
+        record {
+          apart = rw (processors-more (suc c)) (distinct-last ps (on (suc c)) (r .apart) (λ i. n (omega (arith, r .most (on (suc c)) i))));
+          most = λ p i. ⊎-elim (λ k. omega (arith, r .most p k)) (⊎-elim (λ e. omega arith) absurd) (in-append p ps (on (suc c) ∷ []) (rw (processors-more (suc c)) at i));
+        } in
+        rw (add-one c) f
+
+    -- Two equal neighbours.
+    pub rising-twice : on c ≡ nth mem (a + (4 + 3 * c)) → true ≡ not (distinct (rowProcessors a w mem))
+    rising-twice e = by (distinct (rowProcessors a w mem)) refl
+      where
+        by : (b : Bool) → distinct (rowProcessors a w mem) ≡ b → true ≡ not b
+        by false d = refl
+        by true d =
+            let ps = rowProcessors a c mem in
+            let (_, n) = distinct-front (rowProcessors a (suc c) mem) (on (suc c)) (rw (processors-more (suc c)) at (apart-before w (suc (suc c)) (omega arith) d)) in
+            absurd (n (rw (processors-more c) (append-right (on (suc c)) ps (on c ∷ []) (inl (e ∙ on-next c)))))
+
+  pub rising-done : (w c : ℕ) → c < w → w ≤ c + 1 → Rising c → false ≡ not (distinct (rowProcessors a w mem))
+  rising-done w c h l r = let e : w ≡ suc c = omega arith in rw (e, r .apart)
+
+-- Line by line ------------------------------------------------------------------------------------------------------
+
+-- Line k of a plan in memory.
+abbrev pub lineIn : ℕ → ℕ → List ℕ → Line
+lineIn w k mem = record { task = nth mem (rowAt k); replicas = rowReplicas (rowAt k) w mem }
+
+lines-split : (w k v : ℕ) (mem : List ℕ) → k < v → (ys : List Line) × (linesIn w v mem ≡ linesIn w k mem ++ lineIn w k mem ∷ ys)
+unfolding linesIn
+lines-split w k zero mem l = absurd (omega arith)
+lines-split w k (suc v) mem l =
+    ⊎-elim
+    (λ (e : k ≡ v). rw (← e) ([], refl))
+    (λ (g : k < v). let (ys, e) = lines-split w k v mem g in (ys ++ lineIn w v mem ∷ [], rw e (append-assoc (linesIn w k mem) (lineIn w k mem ∷ ys) (lineIn w v mem ∷ []))))
+    (last-or-before v k l)
+
+pub line-among : (w k v : ℕ) (mem : List ℕ) → k < v → In (lineIn w k mem) (linesIn w v mem)
+line-among w k v mem l =
+    let (ys, e) = lines-split w k v mem l in
+    rw e (append-right (lineIn w k mem) (linesIn w k mem) (lineIn w k mem ∷ ys) (inl refl))
+
+lines-tasks : (w k : ℕ) (mem : List ℕ) (u : ℕ) → In u (lineTasks (linesIn w k mem)) → (i : ℕ) × (i < k) × (nth mem (rowAt i) ≡ u)
+unfolding linesIn
+lines-tasks w (suc k) mem u i =
+    ⊎-elim
+    (λ m. let (n, l, e) = lines-tasks w k mem u m in (n, omega arith, e))
+    (⊎-elim (λ e. (k, omega arith, e)) absurd)
+    (in-append u (lineTasks (linesIn w k mem)) (nth mem (rowAt k) ∷ []) (rw (map-append (λ n. n .task) (linesIn w k mem) (lineIn w k mem ∷ [])) at i))
+
+-- Tasks with two copies on one processor ----------------------------------------------------------------------------
+
+doubled-more : (ns : List Line) (n : Line) → distinct (processorsOf n) ≡ true → doubledTasks (ns ++ n ∷ []) ≡ doubledTasks ns
+unfolding doubledTasks keep
+doubled-more [] n d = rw d
+doubled-more (m ∷ ns) n d = by (distinct (processorsOf m)) (doubled-more ns n d)
+  where
+    by : (b : Bool) → doubledTasks (ns ++ n ∷ []) ≡ doubledTasks ns
+        → map (λ n. n .task) (if not b then m ∷ keep (λ n. not (distinct (processorsOf n))) (ns ++ n ∷ []) else keep (λ n. not (distinct (processorsOf n))) (ns ++ n ∷ []))
+        ≡ map (λ n. n .task) (if not b then m ∷ keep (λ n. not (distinct (processorsOf n))) ns else keep (λ n. not (distinct (processorsOf n))) ns)
+    by true e = e
+    by false e = ap (m .task ∷_) e
+
+pub doubled-in : (n : Line) (ns : List Line) → In n ns → true ≡ not (distinct (processorsOf n)) → In (n .task) (doubledTasks ns)
+unfolding doubledTasks
+doubled-in n ns i d = map-in (λ n. n .task) n (keep (λ n. not (distinct (processorsOf n))) ns) (keep-in (λ n. not (distinct (processorsOf n))) n ns i (sym d))
+
+module _ (mem : List ℕ) (k : ℕ) where
+  -- The first k lines, none of which has a processor twice; and line k.
+  pub doubled-none : doubledTasks (linesIn (nth mem 3 + 1) 0 mem) ≡ []
+  unfolding doubledTasks keep linesIn
+  doubled-none = refl
+
+  pub doubled-next : false ≡ not (distinct (rowProcessors (rowAt k) (nth mem 3 + 1) mem)) → doubledTasks (linesIn (nth mem 3 + 1) k mem) ≡ [] → doubledTasks (linesIn (nth mem 3 + 1) (k + 1) mem) ≡ []
+  unfolding linesIn rowProcessors
+  doubled-next d e = rw (add-one k) (doubled-more (linesIn (nth mem 3 + 1) k mem) (lineIn (nth mem 3 + 1) k mem) (not-false (distinct (processorsOf (lineIn (nth mem 3 + 1) k mem))) (sym d)) ∙ e)
+
+  pub doubled-here : k < nth mem 0 → true ≡ not (distinct (rowProcessors (rowAt k) (nth mem 3 + 1) mem)) → In (nth mem (rowAt k)) (doubledTasks (planIn mem .lines))
+  unfolding planIn rowProcessors
+  doubled-here l d = let w = nth mem 3 + 1 in doubled-in (lineIn w k mem) (linesIn w (nth mem 0) mem) (line-among w k (nth mem 0) mem l) d
+
+  pub doubled-done : nth mem 0 ≤ k → k ≤ nth mem 0 → doubledTasks (linesIn (nth mem 3 + 1) k mem) ≡ [] → doubledTasks (planIn mem .lines) ≡ []
+  unfolding planIn
+  doubled-done l h e = let q : k ≡ nth mem 0 = omega arith in rw q at e
+
+-- A line of a plan that was read ------------------------------------------------------------------------------------
+
+-- What is known of a line, after the lines before it.
+ordered-at : (j : Job) (seen : List ℕ) (ms : List Line) (n : Line) (ns : List Line) → Ordered j seen (ms ++ n ∷ ns)
+    → (us : List ℕ) × LineFacts j us n × ((u : ℕ) → In u us → In u seen ⊎ In u (lineTasks ms))
+ordered-at j seen [] n ns (o, os) = (seen, o, λ u i. inl i)
+ordered-at j seen (m ∷ ms) n ns (o, os) =
+    let (us, f, h) = ordered-at j (m .task ∷ seen) ms n ns os in
+    (us, f, λ u i. ⊎-elim (⊎-elim (λ e. inr (inl e)) inl) (λ k. inr (inr k)) (h u i))
+
+module _ {mem : List ℕ} (h : PlanHeld mem) (k : ℕ) (l : k < nth mem 0) where
+  pub line-facts : (us : List ℕ) × LineFacts (jobIn mem) us (lineIn (nth mem 3 + 1) k mem) × ((u : ℕ) → In u us → (i : ℕ) × (i < k) × (nth mem (rowAt i) ≡ u))
+  unfolding planIn
+  line-facts =
+      let w = nth mem 3 + 1 in
+      let (ns, e) = lines-split w k (nth mem 0) mem l in
+      let (us, f, m) = ordered-at (jobIn mem) [] (linesIn w k mem) (lineIn w k mem) ns (rw e at (h .facts .ordered)) in
+      (us, f, λ u i. lines-tasks w k mem u (⊎-elim absurd (λ k. k) (m u i)))
+
+  pub line-ascends : descends (rowProcessors (rowAt k) (nth mem 3 + 1) mem) ≡ false
+  unfolding rowProcessors
+  line-ascends = let (us, f, m) = line-facts in f .ascends

@@ -1,0 +1,307 @@
+-- A plan's lines, read into rows.
+use mathlib.Core.Path.{_≡_, refl, ap, sym, _∙_}
+use mathlib.Core.Logic.{_⊎_, inl, inr, ⊎-elim}
+use mathlib.Core.List.{List, [], _∷_, _++_, append-assoc}
+use mathlib.Core.Bool.{Bool, true, false}
+use Prim.Native.Nat.{ℕ, zero, suc, _+_, _-_, _*_, _<_, _≤_}
+use native.Mathlib.Omega.{arith}
+use native.Mathlib.Nat.{add-zero, sub-zero}
+use native.Mathlib.Numerals.{add-one}
+use borrow.Author.Tests.{lt-ltb, le-ltb}
+use borrow.Rule.Slice.PartMut.{midOf, postOf, putMid, take-put, drop-put, same-len-mid, mid-len}
+use lib.ListN.{length, getD, set, take, drop, length-set, length-take, length-drop, length-append, List·getD-append}
+use lib.Seq.{drop-at, length-take-le, take-all, take-add, drop-drop, drop-cons, getD-take, getD-drop, getD-set-same, getD-set-other}
+use Rattle.definitions.specs.Lists.{bytes, nth}
+use Rattle.definitions.specs.Limits.{document01}
+use Rattle.definitions.specs.Text.{Reading, Reader, found, refused, next, line, lines, Result, good, bad, ended}
+use Rattle.definitions.specs.Job.{Job}
+use Rattle.definitions.specs.Plan.{Replica, Line, Plan, triples, lineOf, planHeadOf, planHead, planHeadRule, planLine, planLineRule, planLines, readPlan}
+use Rattle.text.specs.Told.{told}
+use Rattle.text.specs.declared.Step.{Step}
+use Rattle.text.specs.declared.Step.the-variants.{Next, Refused}
+use Rattle.mirguneth.specs.Layout.{memorySize, jobSize, inHeadAt, inNextAt, levelAt, lineAt, blockedAt, rowAt, farAt, bestAt, worstAt}
+use Rattle.mirguneth.specs.Schedule.{jobIn, rowReplicas, linesIn, LinkedIn, KeptOutside, RowHeld, JobHeld, Standing}
+use Rattle.mirguneth.specs.Loading.{lineIn, planIn, PlanLoaded}
+use Rattle.mirguneth.proofs.LineLaws.{lines-end, lines-bad, lines-no, lines-next}
+use Rattle.mirguneth.proofs.Held.{equal-or-not, last-or-before, Same, same-part, same-before, same-behind, Sizes, sizes, job-same, job-kept, held-kept, kept-all, kept-then, kept-wider, kept-set, replicas-same, lines-same, chained-same, row-held-same, standing-behind, standing-choice, tasks-in, losses-in}
+
+-- The table of lines, emptied -------------------------------------------------------------------------------------------
+
+pub cleared-more : (d : List ℕ) (t : ℕ) → lineAt + t < length d → ((u : ℕ) → u < t → nth d (lineAt + u) ≡ 0) → (u : ℕ) → u < t + 1 → nth (set d (lineAt + t) 0) (lineAt + u) ≡ 0
+cleared-more d t l h u g =
+    ⊎-elim
+    (λ (e : u ≡ t). rw e (getD-set-same d (lineAt + t) 0 0 l))
+    (λ b. getD-set-other d (lineAt + t) (lineAt + u) 0 0 (λ e. omega arith) ∙ h u b)
+    (last-or-before t u (omega arith))
+
+-- The links from each task to the edges that enter it are as they were.
+pub linked-in-same : {d e : List ℕ} → JobHeld d → Same 0 levelAt d e → LinkedIn d → LinkedIn e
+linked-in-same {d} {e} h j c =
+    let w = sizes h in
+    let a : Same 0 jobSize d e = same-part 0 jobSize j (omega arith) (omega arith) in
+    rw (job-same w a) (chained-same w a (same-part inHeadAt (inHeadAt + nth d 0) j (omega arith) (omega arith)) (same-part inNextAt (inNextAt + nth d 2) j (omega arith) (omega arith)) c)
+
+-- No line yet.
+pub standing-none : {d : List ℕ} → JobHeld d → LinkedIn d → ((t : ℕ) → t < 256 → nth d (lineAt + t) ≡ 0) → Standing 0 d
+standing-none h l z =
+    let w = sizes h in
+    record {
+      job = h;
+      linked = l;
+      count = omega arith;
+      task-of = λ i g. absurd (omega arith);
+      line-of = λ i g. absurd (omega arith);
+      placed = λ t g. inl (z t (omega arith));
+      row = λ i g. absurd (omega arith);
+    }
+
+-- The line of row k gets its place in the table.
+module _ {k : ℕ} {d : List ℕ} (s : Standing k d) (b : k < nth d 0) (t : nth d (rowAt k) < nth d 0) (z : nth d (lineAt + nth d (rowAt k)) ≡ 0)
+    (r : RowHeld (rowAt k) d) where
+  abbrev task : ℕ
+  task = nth d (rowAt k)
+
+  abbrev e : List ℕ
+  e = set d (lineAt + task) (suc k)
+
+  w : Sizes d
+  w = sizes (s .job)
+
+  other : (i : ℕ) → (i ≡ lineAt + task → ⊥) → nth e i ≡ nth d i
+  other i n = getD-set-other d (lineAt + task) i (suc k) 0 n
+
+  new : nth e (lineAt + task) ≡ suc k
+  new = getD-set-same d (lineAt + task) (suc k) 0 (omega (arith, w))
+
+  same-job : Same 0 levelAt d e
+  same-job = record { cell = λ i p q. other i (λ f. omega arith) }
+
+  row-cell : (i : ℕ) → nth e (rowAt i) ≡ nth d (rowAt i)
+  row-cell i = other (rowAt i) (λ f. omega (arith, w))
+
+  line-cell : (u : ℕ) → (u ≡ task → ⊥) → nth e (lineAt + u) ≡ nth d (lineAt + u)
+  line-cell u n = other (lineAt + u) (λ f. n (omega arith))
+
+  same-rows : (i : ℕ) → Same (rowAt i) (rowAt i + 25) d e
+  same-rows i = record { cell = λ x p q. other x (λ f. omega (arith, w)) }
+
+  tasks-same : nth e 0 ≡ nth d 0
+  tasks-same = same-job .cell 0 (omega arith) (omega arith)
+
+  of-task : (i : ℕ) → i < suc k → nth d (rowAt i) < nth d 0
+  of-task i h = ⊎-elim (λ (q : i ≡ k). rw q t) (λ l. s .task-of i l) (last-or-before k i h)
+
+  of-line : (i : ℕ) → i < suc k → nth e (lineAt + nth d (rowAt i)) ≡ suc i
+  of-line i h =
+      ⊎-elim
+      (λ (q : i ≡ k). rw q new)
+      (λ l.
+      let n : nth d (rowAt i) ≡ task → ⊥ = λ (q : nth d (rowAt i) ≡ task). let x : nth d (lineAt + task) ≡ suc i = rw q at (s .line-of i l) in omega arith in
+      line-cell (nth d (rowAt i)) n ∙ s .line-of i l)
+      (last-or-before k i h)
+
+  of-place : (u : ℕ) → u < nth d 0 → (nth e (lineAt + u) ≡ 0) ⊎ ((i : ℕ) × (i < suc k) × (nth e (lineAt + u) ≡ suc i) × (nth e (rowAt i) ≡ u))
+  of-place u h =
+      ⊎-elim
+      (λ (q : u ≡ task). inr (k, omega arith, rw q new, row-cell k ∙ sym q))
+      (λ n.
+      ⊎-elim
+      (λ x. inl (line-cell u n ∙ x))
+      (λ (x : (i : ℕ) × (i < k) × (nth d (lineAt + u) ≡ suc i) × (nth d (rowAt i) ≡ u)). inr (x .0, omega (arith, x .1), line-cell u n ∙ x .2, row-cell (x .0) ∙ x .3))
+      (s .placed u h))
+      (equal-or-not u task)
+
+  of-row : (i : ℕ) → i < suc k → RowHeld (rowAt i) d
+  of-row i h = ⊎-elim (λ (q : i ≡ k). rw q r) (λ l. s .row i l) (last-or-before k i h)
+
+  pub standing-more : Standing (suc k) (set d (lineAt + nth d (rowAt k)) (suc k))
+  standing-more =
+      let c : KeptOutside lineAt blockedAt d e = kept-set (lineAt + task) (suc k) kept-all (omega arith) (omega (arith, w)) in
+      record {
+        job = held-kept (s .job) c (omega arith);
+        linked = linked-in-same (s .job) same-job (s .linked);
+        count = rw tasks-same (omega arith);
+        task-of = λ i h. rw (row-cell i, tasks-same) (of-task i h);
+        line-of = λ i h. rw (row-cell i) (of-line i h);
+        placed = λ u h. of-place u (rw tasks-same at h);
+        row = λ i h. row-held-same (rowAt i) w (same-part 0 4 same-job (omega arith) (omega arith)) (same-rows i) (of-row i h);
+      }
+
+-- A row that was read ---------------------------------------------------------------------------------------------------
+
+-- A part was lent, `&mut d[a..b]`, and holds ys now.
+module _ (a b : ℕ) (d ys : List ℕ) (p : a ≤ b) (q : b ≤ length d) (l : length ys ≡ b - a) where
+  abbrev lent : List ℕ
+  lent = putMid a (b - a) d ys
+
+  pub lent-kept : KeptOutside a b d (putMid a (b - a) d ys)
+  lent-kept =
+      record {
+        size = same-len-mid a (b - a) d ys (l ∙ sym (mid-len a b d q));
+        before = λ i h. sym (getD-take a lent i 0 h) ∙ ap (λ (x : List ℕ). nth x i) (take-put a (b - a) d ys (omega arith)) ∙ getD-take a d i 0 h;
+        behind = λ i h.
+            let e : i ≡ b + (i - b) = omega arith in
+            rw e (sym (getD-drop b lent (i - b) 0) ∙ ap (λ (x : List ℕ). nth x (i - b)) (drop-put a b d ys p q l) ∙ getD-drop b d (i - b) 0);
+      }
+
+  pub lent-cell : (i : ℕ) → i < length ys → nth (putMid a (b - a) d ys) (a + i) ≡ nth ys i
+  lent-cell i h =
+      sym (getD-drop a lent i 0) ∙ ap (λ (x : List ℕ). nth x i) (drop-at (take a d) (ys ++ postOf a (b - a) d) a (length-take-le a d (omega arith)))
+      ∙ List·getD-append ys (postOf a (b - a) d) 0 i h
+
+-- Three numbers are a replica more.
+triples-last : (c : ℕ) (xs : List ℕ) (p e x : ℕ) → length xs ≡ 3 * c → triples (xs ++ p ∷ e ∷ x ∷ []) ≡ triples xs ++ record { processor = p; early = e; late = x } ∷ []
+unfolding triples
+triples-last zero [] p e x h = refl
+triples-last zero (a ∷ xs) p e x h = absurd (omega arith)
+triples-last (suc c) [] p e x h = absurd (omega arith)
+triples-last (suc c) (a ∷ []) p e x h = absurd (omega arith)
+triples-last (suc c) (a ∷ b ∷ []) p e x h = absurd (omega arith)
+triples-last (suc c) (a ∷ b ∷ d ∷ xs) p e x h = ap (λ (rs : List Replica). record { processor = a; early = b; late = d } ∷ rs) (triples-last c xs p e x (omega arith))
+
+-- The numbers vs of a line stand in the row at a.
+module _ (mem : List ℕ) (a : ℕ) (vs : List ℕ) (h : (i : ℕ) → i < length vs → nth mem (a + i) ≡ nth vs i) where
+  three : (xs : List ℕ) (i : ℕ) → i + 3 ≤ length xs → take 3 (drop i xs) ≡ nth xs i ∷ nth xs (suc i) ∷ nth xs (suc (suc i)) ∷ []
+  three xs i g = rw (drop-cons xs i 0 (omega arith), drop-cons xs (suc i) 0 (omega arith), drop-cons xs (suc (suc i)) 0 (omega arith))
+
+  -- Number x after the first.
+  cell-of : (x y : ℕ) → y ≡ 1 + x → y < length vs → nth (drop 1 vs) x ≡ nth mem (a + y)
+  cell-of x y e g = getD-drop 1 vs x 0 ∙ ap (λ (z : ℕ). nth vs z) (sym e) ∙ sym (h y g)
+
+  row-triples : (c : ℕ) → 1 + 3 * c ≤ length vs → triples (take (3 * c) (drop 1 vs)) ≡ rowReplicas a c mem
+  unfolding rowReplicas triples
+  row-triples zero g = refl
+  row-triples (suc c) g =
+      let us = drop 1 vs in
+      let m : length us ≡ length vs - 1 = length-drop 1 vs in
+      let n : 3 * suc c ≡ 3 * c + 3 = omega arith in
+      rw (n, take-add (3 * c) 3 us, three us (3 * c) (omega arith))
+      (triples-last c (take (3 * c) us) (nth us (3 * c)) (nth us (suc (3 * c))) (nth us (suc (suc (3 * c)))) (length-take-le (3 * c) us (omega arith))
+      ∙ rw (row-triples c (omega arith), cell-of (3 * c) (1 + 3 * c) refl (omega arith), cell-of (suc (3 * c)) (2 + 3 * c) (omega arith) (omega arith), cell-of (suc (suc (3 * c))) (3 + 3 * c) (omega arith) (omega arith)))
+
+  pub row-line : length vs ≡ 4 + 3 * nth mem 3 → lineOf vs ≡ lineIn a mem
+  row-line g =
+      let t : nth vs 0 ≡ nth mem a = sym (h 0 (omega arith)) ∙ ap (λ (y : ℕ). nth mem y) (add-zero a) in
+      let m : length (drop 1 vs) ≤ 3 * (nth mem 3 + 1) = omega (arith, length-drop 1 vs) in
+      rw (t, ← row-triples (nth mem 3 + 1) (omega arith), take-all (3 * (nth mem 3 + 1)) (drop 1 vs) m)
+
+-- Line by line ----------------------------------------------------------------------------------------------------------
+
+-- All T lines of the job in d, from a place of the text on.
+abbrev pub allLines : List ℕ → List ℕ → ℕ → Reading (List Line)
+allLines d s at = lines (planLine document01 (jobIn d)) (planLineRule document01 (jobIn d)) (nth d 0) [] (drop at s)
+
+-- k lines were read, up to the place p of the text s, into the memory d.
+pub record LinesUpTo (s : List ℕ) (at : ℕ) (d : List ℕ) (k p : ℕ) (mem : List ℕ) : Type 0 where
+  pub job : JobHeld d
+  pub kept : KeptOutside lineAt farAt d mem
+  pub standing : Standing k mem
+  pub rest : lines (planLine document01 (jobIn d)) (planLineRule document01 (jobIn d)) (nth d 0 - k) (linesIn (nth d 3 + 1) k mem) (drop p s) ≡ allLines d s at
+
+pub upto-none : (s : List ℕ) (at : ℕ) (d : List ℕ) → Standing 0 d → LinesUpTo s at d 0 at d
+unfolding linesIn
+upto-none s at d h = record { job = h .job; kept = kept-all; standing = h; rest = rw sub-zero }
+
+line-bad : (d s : List ℕ) (n x : ℕ) → n ≡ 4 + 3 * nth d 3 → line document01 (bytes "T,") n s ≡ refused x → planLine document01 (jobIn d) s ≡ refused x
+unfolding planLine
+line-bad d s n x q e = let m : 1 + 3 * (1 + jobIn d .losses) ≡ n = omega (arith, losses-in d) in rw (m, e)
+
+line-read : (d s vs r : List ℕ) (n : ℕ) → n ≡ 4 + 3 * nth d 3 → line document01 (bytes "T,") n s ≡ found vs r → planLine document01 (jobIn d) s ≡ found (lineOf vs) r
+unfolding planLine
+line-read d s vs r n q e = let m : 1 + 3 * (1 + jobIn d .losses) ≡ n = omega (arith, losses-in d) in rw (m, e)
+
+-- One line more, after the lines in `seen`.
+lines-more : (d mem : List ℕ) (k : ℕ) (seen : List Line) → linesIn (nth d 3 + 1) k mem ≡ seen → nth mem 3 ≡ nth d 3
+    → linesIn (nth d 3 + 1) (suc k) mem ≡ seen ++ lineIn (rowAt k) mem ∷ []
+unfolding linesIn
+lines-more d mem k seen e l = rw (e, l)
+
+module _ {s : List ℕ} {at : ℕ} {d : List ℕ} {k p : ℕ} {mem : List ℕ} (u : LinesUpTo s at d k p mem) where
+  abbrev form : Reader Line
+  form = planLine document01 (jobIn d)
+
+  abbrev rule : List Line → Line → ℕ
+  rule = planLineRule document01 (jobIn d)
+
+  tasks-kept : nth mem 0 ≡ nth d 0
+  tasks-kept = u .kept .before 0 (omega arith)
+
+  losses-kept : nth mem 3 ≡ nth d 3
+  losses-kept = u .kept .before 3 (omega arith)
+
+  -- All lines were read.
+  pub upto-end : nth d 0 ≤ k → (found (linesIn (nth mem 3 + 1) (nth mem 0) mem) (drop p s) ≡ allLines d s at) × Standing (nth mem 0) mem
+  upto-end h =
+      let e : nth mem 0 ≡ k = omega (arith, u .standing .count, tasks-kept) in
+      (rw (e, losses-kept) (lines-end form rule (nth d 0) k (linesIn (nth d 3 + 1) k mem) (drop p s) h ∙ u .rest), rw e (u .standing))
+
+  module _ (h : k < nth d 0) (n : ℕ) (q : n ≡ 4 + 3 * nth d 3) where
+    pub upto-bad : (x : ℕ) → line document01 (bytes "T,") n (drop p s) ≡ refused x → refused x ≡ allLines d s at
+    upto-bad x e = lines-bad form rule (nth d 0) k (linesIn (nth d 3 + 1) k mem) (drop p s) h x (line-bad d (drop p s) n x q e) ∙ u .rest
+
+    -- The numbers of one more line are in its row.
+    module _ (ys : List ℕ) (l : length ys ≡ length (midOf (rowAt k) (rowAt k + n - rowAt k) mem)) where
+      abbrev filled : List ℕ
+      filled = putMid (rowAt k) (rowAt k + n - rowAt k) mem ys
+
+      limits : Sizes mem
+      limits = sizes (u .standing .job)
+
+      fits : rowAt k + n ≤ rowAt k + 25
+      fits = omega (arith, limits, losses-kept)
+
+      within : rowAt k + n ≤ length mem
+      within = omega (arith, limits, fits, tasks-kept)
+
+      width : length ys ≡ rowAt k + n - rowAt k
+      width = l ∙ mid-len (rowAt k) (rowAt k + n) mem within
+
+      row-kept : KeptOutside (rowAt k) (rowAt k + n) mem filled
+      row-kept = lent-kept (rowAt k) (rowAt k + n) mem ys (omega arith) within width
+
+      pub upto-kept : KeptOutside lineAt farAt d (putMid (rowAt k) (rowAt k + n - rowAt k) mem ys)
+      upto-kept = kept-then (u .kept) (kept-wider lineAt farAt row-kept (omega arith) (omega (arith, limits, fits, tasks-kept)))
+
+      pub upto-standing : Standing k (putMid (rowAt k) (rowAt k + n - rowAt k) mem ys)
+      upto-standing = standing-behind row-kept (u .standing) (omega arith)
+
+      job-filled : jobIn filled ≡ jobIn d
+      job-filled = job-kept (u .job) upto-kept (omega arith)
+
+      losses-filled : nth filled 3 ≡ nth d 3
+      losses-filled = upto-kept .before 3 (omega arith)
+
+      lines-filled : linesIn (nth d 3 + 1) k filled ≡ linesIn (nth d 3 + 1) k mem
+      lines-filled = lines-same mem filled (nth d 3 + 1) k (omega (arith, limits, losses-kept)) (same-before (rowAt 0) (rowAt k) row-kept (omega arith))
+
+      -- The line was read, and q is the place after it.
+      module _ (r : ℕ) (e : line document01 (bytes "T,") n (drop p s) ≡ found (take n ys) (drop r s)) where
+        read-line : form (drop p s) ≡ found (lineIn (rowAt k) filled) (drop r s)
+        read-line =
+            let m : length ys ≡ n = omega (arith, width) in
+            let f : lineOf ys ≡ lineIn (rowAt k) filled = row-line filled (rowAt k) ys (lent-cell (rowAt k) (rowAt k + n) mem ys (omega arith) within width) (omega (arith, losses-filled)) in
+            line-read d (drop p s) (take n ys) (drop r s) n q e ∙ rw (take-all n ys (omega arith), f)
+
+        module _ (x : ℕ) (f : x ≡ planLineRule document01 (jobIn filled) (linesIn (nth filled 3 + 1) k filled) (lineIn (rowAt k) filled)) where
+          by-rule : x ≡ rule (linesIn (nth d 3 + 1) k mem) (lineIn (rowAt k) filled)
+          by-rule = f ∙ ap (λ (j : Job). planLineRule document01 j (linesIn (nth filled 3 + 1) k filled) (lineIn (rowAt k) filled)) job-filled ∙ ap (λ (z : ℕ). rule (linesIn (z + 1) k filled) (lineIn (rowAt k) filled)) losses-filled ∙ ap (λ (ns : List Line). rule ns (lineIn (rowAt k) filled)) lines-filled
+
+          pub upto-no : 0 < x → refused x ≡ allLines d s at
+          upto-no g = lines-no form rule (nth d 0) k (linesIn (nth d 3 + 1) k mem) (drop p s) h (lineIn (rowAt k) filled) (drop r s) read-line x by-rule g ∙ u .rest
+
+          pub upto-next : x ≤ 0 → (x ≡ 0 → (nth filled (rowAt k) < nth filled 0) × (nth filled (lineAt + nth filled (rowAt k)) ≡ 0) × RowHeld (rowAt k) filled)
+              → LinesUpTo s at d (k + 1) r (set filled (lineAt + nth filled (rowAt k)) (k + 1))
+          upto-next g v =
+              let (b, z, t) = v (omega arith) in
+              let full : Sizes filled = sizes (upto-standing .job) in
+              let last = set filled (lineAt + nth filled (rowAt k)) (suc k) in
+              let c : KeptOutside lineAt blockedAt filled last = kept-set (lineAt + nth filled (rowAt k)) (suc k) kept-all (omega arith) (omega (arith, full)) in
+              let more : linesIn (nth d 3 + 1) (suc k) last ≡ linesIn (nth d 3 + 1) k mem ++ lineIn (rowAt k) filled ∷ [] =
+              lines-same filled last (nth d 3 + 1) (suc k) (omega (arith, limits, losses-kept)) (same-behind (rowAt 0) (rowAt (suc k)) c (omega arith)) ∙ lines-more d filled k (linesIn (nth d 3 + 1) k mem) lines-filled losses-filled in
+              rw (add-one k)
+              (record {
+                job = u .job;
+                kept = kept-then upto-kept (kept-wider lineAt farAt c (omega arith) (omega arith));
+                standing = standing-more upto-standing (omega (arith, upto-kept .before 0 (omega arith))) b z t;
+                rest = rw more (ap (λ (i : ℕ). lines form rule (nth d 0 - i) (linesIn (nth d 3 + 1) k mem ++ lineIn (rowAt k) filled ∷ []) (drop r s)) (sym (add-one k)) ∙ lines-next form rule (nth d 0) k (linesIn (nth d 3 + 1) k mem) (drop p s) h (lineIn (rowAt k) filled) (drop r s) read-line x by-rule g ∙ u .rest);
+              })

@@ -1,0 +1,65 @@
+-- The ticks of the lines passed are the equations', and the clocks are those after them.
+use mathlib.Core.Path.{sym, _∙_}
+use Prim.Native.Nat.{ℕ, _≤_, _<_, _-_}
+use native.Mathlib.Omega.{arith}
+use borrow.Author.Needs.{needs}
+use mathlib.Core.Bool.{false≢true}
+use Rattle.mirguneth.specs.Checking.{ClocksAfter, LineAgrees}
+use Rattle.mirguneth.proofs.Held.{sizes}
+use Rattle.mirguneth.proofs.AgreeLaws.{clocks-new, ticks-yes, ticks-no, agreed-next}
+use Rattle.mirguneth.proofs.checker.ticks_agree.Statement.{statement}
+use Rattle.mirguneth.proofs.checker.ticks_agree.Tie as tie
+
+abbrev Inv-loop : tie.InvT-loop
+Inv-loop mem v clocks₀ k₀ clocks k =
+    (k ≤ v) × ((i : ℕ) → i < k → LineAgrees i mem) × ClocksAfter k mem clocks
+
+abbrev μ-loop : tie.MeasureT-loop
+μ-loop mem v clocks₀ k₀ clocks k = v - k
+
+shared-slice-read-v : tie.Need-shared-slice-read-v Inv-loop μ-loop
+shared-slice-read-v c = let s = sizes (c .before .before .pre .0 .standing .job) in omega arith
+
+new-requires : tie.Need-new-requires Inv-loop μ-loop
+new-requires c κs = search needs
+
+loop-holds : tie.Need-loop-holds Inv-loop μ-loop
+loop-holds c = (omega arith, λ i l. absurd (omega arith), clocks-new (c .new .result) (c .before .before .before .args .mem .now) (c .before .before .before .pre .0 .standing .job) (c .new .ensures .0) (c .new .ensures .1))
+
+line-agrees-requires : tie.Need-line-agrees-requires Inv-loop μ-loop
+line-agrees-requires c κs = search needs
+
+clocks-after-requires : tie.Need-clocks-after-requires Inv-loop μ-loop
+clocks-after-requires c κs = search needs
+
+returns : tie.Need-returns Inv-loop μ-loop
+returns c = ticks-no (c .before .before .before .before .before .before .before .pre .0) (c .before .before .before .before .before .before .before .pre .1) (c .before .before .before .loop .k) (c .before .before .loop-test .taken) (λ a. false≢true (sym (c .if1 .left) ∙ c .before .line-agrees .ensures .1 a))
+
+add-k : tie.Need-add-k Inv-loop μ-loop
+add-k c = let s = sizes (c .before .before .before .before .before .before .before .before .pre .0 .standing .job) in omega arith
+
+loop-less : tie.Need-loop-less Inv-loop μ-loop
+loop-less c = search needs
+
+loop-again : tie.Need-loop-again Inv-loop μ-loop
+loop-again c = (omega arith, agreed-next (c .before .before .before .before .before .before .before .before .args .mem .now) (c .before .before .before .before .loop .k) (c .before .before .line-agrees .ensures .0 (c .before .if1 .taken)) (c .before .before .before .before .loop .inv .1), c .clocks-after .ensures)
+
+returns-2 : tie.Need-returns-2 Inv-loop μ-loop
+returns-2 c = ticks-yes (c .before .before .before .before .before .pre .0) (c .before .before .before .before .before .pre .1) (c .before .loop .k) (omega arith) (c .before .loop .inv .1)
+
+pub ticks-agree-spec : {M : Type 1} → statement M
+ticks-agree-spec =
+    tie.close
+    (tie.spec
+    Inv-loop
+    μ-loop
+    shared-slice-read-v
+    new-requires
+    loop-holds
+    line-agrees-requires
+    clocks-after-requires
+    returns
+    add-k
+    loop-less
+    loop-again
+    returns-2)

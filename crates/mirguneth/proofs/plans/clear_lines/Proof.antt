@@ -1,0 +1,66 @@
+use mathlib.Core.Path.{_≡_, refl, sym, ap, _∙_}
+use mathlib.Core.List.{List, [], _∷_, _++_}
+use Prim.Native.Nat.{ℕ, zero, suc, _≤_, _<_, _-_, _+_, _*_, _^_}
+use native.Mathlib.Omega.{arith}
+use borrow.Author.Needs.{needs}
+use lib.ListN.{length, getD, take, drop, set, length-set}
+use Rattle.definitions.specs.Lists.{nth}
+use Rattle.mirguneth.specs.Layout.{lineAt, blockedAt}
+use Rattle.mirguneth.specs.Schedule.{KeptOutside}
+use Rattle.mirguneth.proofs.Held.{kept-all, kept-set}
+use Rattle.mirguneth.proofs.PlanReading.{cleared-more}
+use Rattle.mirguneth.proofs.plans.clear_lines.Statement.{statement}
+use Rattle.mirguneth.proofs.plans.clear_lines.Tie as tie
+use Rattle.mirguneth.proofs.plans.clear_lines.Reads as reads
+use Rattle.mirguneth.proofs.plans.clear_lines.Lts as lts
+
+abbrev Inv-loop : tie.InvT-loop
+Inv-loop mem₀ t₀ mem t = (t ≤ 256) × (length mem ≡ length mem₀) × KeptOutside lineAt blockedAt mem₀ mem × ((u : ℕ) → u < t → nth mem (lineAt + u) ≡ 0)
+
+abbrev μ-loop : tie.MeasureT-loop
+μ-loop mem₀ t₀ mem t = 256 - t
+
+loop-holds : tie.Need-loop-holds Inv-loop μ-loop
+loop-holds c = (search needs, refl, kept-all, λ u h. absurd (omega arith))
+
+add-mem : tie.Need-add-mem Inv-loop μ-loop
+add-mem c = search needs
+
+mul-mem : tie.Need-mul-mem Inv-loop μ-loop
+mul-mem c = search needs
+
+slice-write-mem : tie.Need-slice-write-mem Inv-loop μ-loop
+slice-write-mem c = search needs
+
+add-t : tie.Need-add-t Inv-loop μ-loop
+add-t c = search needs
+
+loop-less : tie.Need-loop-less Inv-loop μ-loop
+loop-less c = search needs
+
+loop-again : tie.Need-loop-again Inv-loop μ-loop
+loop-again c =
+    let l = c .before .loop in
+    (search needs, search needs, kept-set (lineAt + l .t) 0 (l .inv .2) (omega arith) (omega arith), cleared-more (l .mem) (l .t) (omega arith) (l .inv .3))
+
+same-length : tie.Need-same-length Inv-loop μ-loop
+same-length c = search needs
+
+returns : tie.Need-returns Inv-loop μ-loop
+returns c = let l = c .before .loop in (l .inv .2, λ u h. l .inv .3 u (omega arith))
+
+pub clear-lines-spec : {M : Type 1} → statement M
+clear-lines-spec =
+    tie.close
+    (tie.spec
+    Inv-loop
+    μ-loop
+    loop-holds
+    add-mem
+    mul-mem
+    slice-write-mem
+    add-t
+    loop-less
+    loop-again
+    same-length
+    returns)

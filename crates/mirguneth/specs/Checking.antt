@@ -1,0 +1,42 @@
+-- What the checker's tests speak of: a plan that was read, its lines' processors and their ticks.
+use mathlib.Core.Path.{_≡_}
+use mathlib.Core.List.{List, [], map}
+use mathlib.Core.Bool.{Bool, true, false}
+use Prim.Native.Nat.{ℕ, _+_, _*_, _<_}
+use Rattle.definitions.specs.Lists.{if_then_else_, nth}
+use Rattle.definitions.specs.Limits.{document01}
+use Rattle.definitions.specs.Times.{Time, finish}
+use Rattle.definitions.proofs.Facts.{PlanFacts}
+use Rattle.definitions.proofs.Tasks.{copyOf}
+use Rattle.mirguneth.specs.Layout.{rowAt}
+use Rattle.mirguneth.specs.Schedule.{jobIn, timeIn, choiceOf, placedIn, rowReplicas, Standing}
+use Rattle.mirguneth.specs.Planning.{ClocksHeld}
+use Rattle.mirguneth.specs.Loading.{planIn}
+use Rattle.mirguneth.specs.declared.clocks.Clocks.{Clocks}
+
+-- A plan that was read stands in a memory with its job, a line for each task.
+pub record PlanHeld (mem : List ℕ) : Type 0 where
+  pub standing : Standing (nth mem 0) mem
+  pub facts : PlanFacts document01 (jobIn mem) (planIn mem)
+
+-- The processors of the first c replicas of the line at a.
+unfoldable pub rowProcessors : ℕ → ℕ → List ℕ → List ℕ
+rowProcessors a c mem = map (λ r. r .processor) (rowReplicas a c mem)
+
+-- The ready ticks of all processors after the first k lines.
+abbrev pub ClocksAfter : ℕ → List ℕ → Clocks → Type 0
+ClocksAfter k mem clocks = ClocksHeld clocks (jobIn mem) (placedIn false (nth mem 3 + 1) k mem) (placedIn true (nth mem 3 + 1) k mem)
+
+-- The early or late finish of replica c of line k by the equations, after the first k lines as they are written.
+unfoldable pub finishIn : Bool → ℕ → ℕ → List ℕ → Time
+finishIn late k c mem =
+    finish (jobIn mem) (choiceOf late) [] (placedIn late (nth mem 3 + 1) k mem)
+    (copyOf (jobIn mem) (nth mem (rowAt k)) (nth mem (rowAt k + (1 + 3 * c))))
+
+-- The ticks of the first c replicas of line k are the equations'.
+abbrev pub AgreesTo : ℕ → ℕ → List ℕ → Type 0
+AgreesTo k c mem = (late : Bool) (i : ℕ) → i < c → finishIn late k i mem ≡ timeIn (nth mem (rowAt k + ((if late then 3 else 2) + 3 * i)))
+
+-- All of line k are.
+abbrev pub LineAgrees : ℕ → List ℕ → Type 0
+LineAgrees k mem = AgreesTo k (nth mem 3 + 1) mem

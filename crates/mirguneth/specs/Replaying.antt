@@ -1,0 +1,79 @@
+-- What the memory holds while a round is replayed: each replica's outcome stands where its early tick stood.
+use mathlib.Core.Path.{_≡_}
+use mathlib.Core.List.{List, _++_, map, reverse, reverseAux}
+use mathlib.Core.Bool.{false}
+use Prim.Native.Nat.{ℕ, suc, _+_, _*_, _%_, _<_, _≤_}
+use lib.ListN.{length}
+use Rattle.definitions.specs.Lists.{nth, In}
+use Rattle.definitions.specs.Job.{Edge, Job, incoming}
+use Rattle.definitions.specs.Stops.{Stop}
+use Rattle.definitions.specs.Times.{least, Copy, Outcome, ready, stopTime, walk, copiesOf}
+use Rattle.definitions.specs.Replay.{replay, firstFinish, firstBox}
+use Rattle.definitions.proofs.Bounds.{PlacedWithin}
+use Rattle.mirguneth.specs.Layout.{lineAt, rowAt, farAt}
+use Rattle.mirguneth.specs.Schedule.{jobIn, neverCell, timeIn, rowOutcomes, placedIn, rowReplicas, Small, KeptOutside, Standing}
+use Rattle.mirguneth.specs.Loading.{planIn}
+
+-- The stop times of a stop list are in the cells.
+abbrev pub StopsIn : List Stop → List ℕ → Type 0
+StopsIn ss cells = (p : ℕ) → p < 16 → timeIn (nth cells p) ≡ stopTime ss p
+
+-- What a replica adds to a tick at most: a run of 1,000,000 and a message of 4,095 × 255. 255 lines have 8 replicas each.
+abbrev pub replicaMost : ℕ
+replicaMost = 2_044_225
+
+-- The outcomes of the first k lines, and of the first c replicas of the next, newest first.
+unfoldable pub ranIn : ℕ → ℕ → List ℕ → List Outcome
+ranIn k c mem = rowOutcomes false (rowAt k) c mem ++ placedIn false (nth mem 3 + 1) k mem
+
+-- k lines and c replicas of the next have run, and the cells hold the processors' ready times after them.
+pub record Running (k c : ℕ) (cells mem : List ℕ) : Type 0 where
+  pub standing : Standing (nth mem 0) mem
+  pub size : length cells ≡ 16
+  pub ready-of : (p : ℕ) → p < nth mem 1 → timeIn (nth cells p) ≡ ready (jobIn mem) p (ranIn k c mem)
+  pub ready-small : (p : ℕ) → p < nth mem 1 → Small ((k * 8 + c) * replicaMost) (nth cells p)
+  pub within : PlacedWithin (jobIn mem) ((k * 8 + c) * replicaMost) (ranIn k c mem)
+
+-- Every predecessor of the task of line k has its line before it.
+abbrev pub FedBefore : ℕ → List ℕ → Type 0
+FedBefore k mem =
+    (e : Edge) → In e (incoming (jobIn mem) (nth mem (rowAt k))) → (0 < nth mem (lineAt + e .from)) × (nth mem (lineAt + e .from) ≤ k)
+
+-- In the lines from k to below n early times changed, and nothing else.
+pub record Retimed (k n : ℕ) (d e : List ℕ) : Type 0 where
+  pub outside : KeptOutside (rowAt k) (rowAt n) d e
+  pub row : (i o : ℕ) → o < 25 → (o % 3 ≡ 2 → ⊥) → nth e (rowAt i + o) ≡ nth d (rowAt i + o)
+
+-- The replicas of the first c of line k.
+unfoldable pub copiesIn : ℕ → ℕ → List ℕ → List Copy
+copiesIn k c mem = copiesOf (jobIn mem) (nth mem (rowAt k)) (map (λ r. r .processor) (rowReplicas (rowAt k) c mem))
+
+-- The outcomes after more replicas have run, newest first.
+unfoldable pub walked : Job → List Stop → List Outcome → List Copy → List Outcome
+walked j ss placed cs = reverseAux (walk j least ss placed cs) placed
+
+-- Line k has run under the stops in the cells.
+pub record LineRun (k : ℕ) (stops d e : List ℕ) : Type 0 where
+  pub retimed : Retimed k (suc k) d e
+  pub outcomes : (ss : List Stop) → StopsIn ss stops
+      → placedIn false (nth e 3 + 1) (suc k) e ≡ walked (jobIn d) ss (placedIn false (nth d 3 + 1) k d) (copiesIn k (nth d 3 + 1) d)
+
+-- The outcomes of all lines, newest first.
+abbrev pub outcomesIn : List ℕ → List Outcome
+outcomesIn mem = placedIn false (nth mem 3 + 1) (nth mem 0) mem
+
+-- The processors of a line do not descend.
+abbrev pub RisingIn : List ℕ → Type 0
+RisingIn mem = (i c : ℕ) → i < nth mem 0 → c < nth mem 3 → nth mem (rowAt i + (1 + 3 * c)) ≤ nth mem (rowAt i + (1 + 3 * (c + 1)))
+
+-- All lines have run under the stops in the cells.
+pub record RoundRun (stops d e : List ℕ) : Type 0 where
+  pub outside : KeptOutside (rowAt 0) farAt d e
+  pub standing : Standing (nth e 0) e
+  pub rising : RisingIn e
+  pub outcomes : (ss : List Stop) → StopsIn ss stops → outcomesIn e ≡ reverse (replay (jobIn d) ss (planIn d .lines))
+
+-- The first finish of t, and the lowest processor that has it.
+pub record FirstIn (t time processor : ℕ) (mem : List ℕ) : Type 0 where
+  pub finish : timeIn time ≡ firstFinish t (outcomesIn mem)
+  pub box : (time ≡ neverCell → ⊥) → processor ≡ firstBox t (timeIn time) (outcomesIn mem)

@@ -1,0 +1,155 @@
+// The checker's tests after a plan's last line: 12, 13, 14.
+ghost use mathlib.Core.Path.{_≡_};
+ghost use mathlib.Core.Logic.{_⊎_};
+ghost use mathlib.Core.List.{[]};
+ghost use mathlib.Core.Bool.{true, false, not};
+ghost use Prim.Native.Nat.{_+_, _≤_, _<_};
+ghost use lib.ListN.{length};
+ghost use Rattle.definitions.specs.Lists.{nth, In, distinct};
+ghost use Rattle.definitions.specs.Limits.{document01};
+ghost use Rattle.definitions.specs.Text.{good};
+ghost use Rattle.definitions.specs.Plan.{descends};
+ghost use Rattle.definitions.specs.Refusals.{doubledTasks, ticksAgree, endsAgree};
+ghost use Rattle.definitions.specs.Tools.{verdictFor};
+ghost use Rattle.mirguneth.specs.Layout.{rowAt};
+ghost use Rattle.mirguneth.specs.Schedule.{jobIn, JobHeld, LinkedOut};
+ghost use Rattle.mirguneth.specs.Loading.{planIn};
+ghost use Rattle.mirguneth.specs.Answers.{Judged};
+ghost use Rattle.mirguneth.specs.Checking.{PlanHeld, rowProcessors, ClocksAfter, LineAgrees};
+use crate::Checked;
+use crate::clocks::Clocks;
+use crate::ends;
+use crate::times;
+
+const BEST: usize = 8968;
+
+const WORST: usize = 8969;
+
+const ROWS: usize = 9480;
+
+// In the line at `a` two replicas are on one processor. Processors do not descend.
+fn doubles(mem: &[u64], a: usize) -> bool
+    requires { ⌜ JobHeld (now mem) × (a + 25 ≤ length (now mem)) × (descends (rowProcessors a (nth (now mem) 3 + 1) (now mem)) ≡ false) ⌝ }
+    ensures { λ r. ⌜ r ≡ not (distinct (rowProcessors a (nth (now (mem .entry)) 3 + 1) (now (mem .entry)))) ⌝ }
+{
+    let w = mem[3] as usize + 1;
+    let mut c = 0;
+    while c + 1 < w {
+        if mem[a + (1 + 3 * c)] == mem[a + (4 + 3 * c)] {
+            return true;
+        }
+        c += 1;
+    }
+    false
+}
+
+// The first line with two replicas on one processor; the number of lines if there is none.
+fn doubled_line(mem: &[u64]) -> usize
+    requires { ⌜ PlanHeld (now mem) ⌝ }
+    ensures { λ r. ⌜ ((r ≡ nth (now (mem .entry)) 0) × (doubledTasks (planIn (now (mem .entry)) .lines) ≡ [])) ⊎ ((r < nth (now (mem .entry)) 0) × In (nth (now (mem .entry)) (rowAt r)) (doubledTasks (planIn (now (mem .entry)) .lines))) ⌝ }
+{
+    let v = mem[0] as usize;
+    let mut k = 0;
+    while k < v {
+        if doubles(mem, ROWS + k * 25) {
+            return k;
+        }
+        k += 1;
+    }
+    v
+}
+
+// The ticks of line k are the equations'.
+fn line_agrees(mem: &[u64], k: usize, clocks: Clocks) -> bool
+    requires { ⌜ PlanHeld (now mem) × (k < nth (now mem) 0) × ClocksAfter k (now mem) clocks ⌝ }
+    ensures { λ r. ⌜ (r ≡ true → LineAgrees k (now (mem .entry))) × (LineAgrees k (now (mem .entry)) → r ≡ true) ⌝ }
+{
+    let w = mem[3] as usize + 1;
+    let a = ROWS + k * 25;
+    let t = mem[a] as usize;
+    let early = clocks.early;
+    let late = clocks.late;
+    let mut c = 0;
+    while c < w {
+        let p = mem[a + (1 + 3 * c)] as usize;
+        let x = times::finish_at(mem, false, early[p], t, p);
+        if x != mem[a + (2 + 3 * c)] {
+            return false;
+        }
+        let y = times::finish_at(mem, true, late[p], t, p);
+        if y != mem[a + (3 + 3 * c)] {
+            return false;
+        }
+        c += 1;
+    }
+    true
+}
+
+// The clocks after line k.
+fn clocks_after(mem: &[u64], k: usize, clocks: Clocks) -> Clocks
+    requires { ⌜ PlanHeld (now mem) × (k < nth (now mem) 0) × ClocksAfter k (now mem) clocks ⌝ }
+    ensures { λ r. ⌜ ClocksAfter (k + 1) (now (mem .entry)) r ⌝ }
+{
+    let w = mem[3] as usize + 1;
+    let a = ROWS + k * 25;
+    let mut after = clocks;
+    let mut c = 0;
+    while c < w {
+        let p = mem[a + (1 + 3 * c)] as usize;
+        let next = after.advance(p, mem[a + (2 + 3 * c)], mem[a + (3 + 3 * c)]);
+        after = next;
+        c += 1;
+    }
+    after
+}
+
+// All ticks are the equations'.
+fn ticks_agree(mem: &[u64]) -> bool
+    requires { ⌜ PlanHeld (now mem) × (doubledTasks (planIn (now mem) .lines) ≡ []) ⌝ }
+    ensures { λ r. ⌜ r ≡ ticksAgree (jobIn (now (mem .entry))) (planIn (now (mem .entry)) .lines) ⌝ }
+{
+    let v = mem[0] as usize;
+    let mut clocks = Clocks::new();
+    let mut k = 0;
+    while k < v {
+        if line_agrees(mem, k, clocks) {
+            let next = clocks_after(mem, k, clocks);
+            clocks = next;
+        } else {
+            return false;
+        }
+        k += 1;
+    }
+    true
+}
+
+// M* and M are the equations', if all ticks are.
+fn ends_agree(mem: &[u64]) -> bool
+    requires { ⌜ PlanHeld (now mem) × LinkedOut (now mem) × (doubledTasks (planIn (now mem) .lines) ≡ []) × (ticksAgree (jobIn (now mem)) (planIn (now mem) .lines) ≡ true) ⌝ }
+    ensures { λ r. ⌜ r ≡ endsAgree (jobIn (now (mem .entry))) (planIn (now (mem .entry))) ⌝ }
+{
+    let best = ends::end_of(mem, false);
+    if best != mem[BEST] {
+        return false;
+    }
+    let worst = ends::end_of(mem, true);
+    worst == mem[WORST]
+}
+
+// The checker's answer to the plan in memory.
+pub fn judge(mem: &[u64]) -> Checked
+    requires { ⌜ PlanHeld (now mem) × LinkedOut (now mem) ⌝ }
+    ensures { λ r. ⌜ Judged (verdictFor document01 (jobIn (now (mem .entry))) (good (planIn (now (mem .entry))))) r ⌝ }
+{
+    let k = doubled_line(mem);
+    if k < mem[0] as usize {
+        return Checked::Doubled(mem[ROWS + k * 25] as u8);
+    }
+    if ticks_agree(mem) {
+        if ends_agree(mem) {
+            return Checked::Accepted;
+        }
+        return Checked::Refused(14);
+    }
+    Checked::Refused(13)
+}

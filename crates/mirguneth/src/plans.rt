@@ -1,0 +1,233 @@
+// A plan's text, read into a memory that holds its job.
+ghost use mathlib.Core.Path.{_≡_};
+ghost use mathlib.Core.List.{[]};
+ghost use mathlib.Core.Bool.{not, _||_};
+ghost use Prim.Native.Nat.{ℕ, _+_, _*_, _≤_, _<_};
+ghost use lib.Dec.{eqb};
+ghost use lib.ListN.{length, drop};
+ghost use Rattle.definitions.specs.Lists.{nth, all};
+ghost use Rattle.definitions.specs.Limits.{document01};
+ghost use Rattle.definitions.specs.Text.{lines};
+ghost use Rattle.definitions.specs.Job.{outside, incoming};
+ghost use Rattle.definitions.specs.Plan.{processorsOf, planHeadOf, planHeadRule, planLine, planLineRule, readPlan};
+ghost use Rattle.definitions.specs.Plan as Plan;
+ghost use Rattle.text.specs.Told.{told};
+ghost use Rattle.text.specs.declared.Step.the-variants.{Next};
+ghost use Rattle.mirguneth.specs.Layout.{memorySize, lineAt, blockedAt, farAt};
+ghost use Rattle.mirguneth.specs.Schedule.{jobIn, linesIn, JobHeld, RowHeld, LinkedIn, KeptOutside, Standing};
+ghost use Rattle.mirguneth.specs.Loading.{lineIn, PlanLoaded};
+use crate::lines;
+use text::Step;
+
+const BEST: usize = 8968;
+
+const WORST: usize = 8969;
+
+const LINE: usize = 8712;
+
+const IN_HEAD: usize = 5640;
+
+const IN_NEXT: usize = 5896;
+
+const ROWS: usize = 9480;
+
+const LAST_TICK: u64 = 4294967295;
+
+// Some number of a plan's head is outside its range.
+fn head_strays(tasks: u64, processors: u64, losses: u64, best: u64, worst: u64) -> bool
+    ensures { λ r. ⌜ r ≡ (outside 1 255 tasks || outside 1 16 processors || outside 0 7 losses || outside 0 4294967295 best || outside 0 4294967295 worst) ⌝ }
+{
+    if tasks < 1 {
+        return true;
+    }
+    if tasks > 255 {
+        return true;
+    }
+    if processors < 1 {
+        return true;
+    }
+    if processors > 16 {
+        return true;
+    }
+    if losses > 7 {
+        return true;
+    }
+    if best > LAST_TICK {
+        return true;
+    }
+    worst > LAST_TICK
+}
+
+// The number of the refusal of a plan's head, or 0. Its five numbers stand at the front of `head`.
+fn check_head(mem: &[u64], head: &[u64]) -> u64
+    requires { ⌜ (4 ≤ length (now mem)) × (5 ≤ length (now head)) ⌝ }
+    ensures { λ r. ⌜ r ≡ planHeadRule document01 (jobIn (now (mem .entry))) (planHeadOf (now (head .entry))) ⌝ }
+{
+    let tasks = head[0];
+    let processors = head[1];
+    let losses = head[2];
+    if head_strays(tasks, processors, losses, head[3], head[4]) {
+        return 3;
+    }
+    if tasks != mem[0] {
+        return 9;
+    }
+    if processors != mem[1] {
+        return 9;
+    }
+    if losses != mem[3] {
+        return 9;
+    }
+    0
+}
+
+// The task, a processor or a tick of the line at `a` is outside its range.
+fn strays(mem: &[u64], a: usize) -> bool
+    requires { ⌜ JobHeld (now mem) × (a + 25 ≤ length (now mem)) ⌝ }
+    ensures { λ r. ⌜ r ≡ Plan.strays document01 (jobIn (now (mem .entry))) (lineIn a (now (mem .entry))) ⌝ }
+{
+    if mem[a] >= mem[0] {
+        return true;
+    }
+    let m = mem[1];
+    let mut c = mem[3] as usize + 1;
+    while c > 0 {
+        c -= 1;
+        if mem[a + (1 + 3 * c)] >= m {
+            return true;
+        }
+        if mem[a + (2 + 3 * c)] > LAST_TICK {
+            return true;
+        }
+        if mem[a + (3 + 3 * c)] > LAST_TICK {
+            return true;
+        }
+    }
+    false
+}
+
+// In the line at `a` a processor is less than the one before.
+fn descends(mem: &[u64], a: usize) -> bool
+    requires { ⌜ JobHeld (now mem) × (a + 25 ≤ length (now mem)) ⌝ }
+    ensures { λ r. ⌜ r ≡ Plan.descends (processorsOf (lineIn a (now (mem .entry)))) ⌝ }
+{
+    let mut c = mem[3] as usize;
+    while c > 0 {
+        if mem[a + (1 + 3 * c)] < mem[a + (1 + 3 * (c - 1))] {
+            return true;
+        }
+        c -= 1;
+    }
+    false
+}
+
+// Every predecessor of t has a line.
+fn fed(mem: &[u64], t: usize) -> bool
+    requires { ⌜ JobHeld (now mem) × LinkedIn (now mem) × (t < nth (now mem) 0) ⌝ }
+    ensures { λ r. ⌜ r ≡ all (λ e. not (eqb (nth (now (mem .entry)) (lineAt + e .from)) 0)) (incoming (jobIn (now (mem .entry))) t) ⌝ }
+{
+    let v = mem[0];
+    let m = mem[1];
+    let g = (4 + (v + m) * (m + 1)) as usize;
+    let mut k = mem[IN_HEAD + t] as usize;
+    while k > 0 {
+        let from = (mem[g + (k - 1)] % 256) as usize;
+        if mem[LINE + from] == 0 {
+            return false;
+        }
+        k = mem[IN_NEXT + (k - 1)] as usize;
+    }
+    true
+}
+
+// The number of the refusal of the line at `a`, after the lines that have a place in the table, or 0.
+fn check_line(mem: &[u64], a: usize) -> u64
+    requires { ⌜ JobHeld (now mem) × LinkedIn (now mem) × (a + 25 ≤ length (now mem)) ⌝ }
+    ensures { λ r. ⌜ ((k : ℕ) → Standing k (now (mem .entry)) → r ≡ planLineRule document01 (jobIn (now (mem .entry))) (linesIn (nth (now (mem .entry)) 3 + 1) k (now (mem .entry))) (lineIn a (now (mem .entry)))) × (r ≡ 0 → (nth (now (mem .entry)) a < nth (now (mem .entry)) 0) × (nth (now (mem .entry)) (lineAt + nth (now (mem .entry)) a) ≡ 0) × RowHeld a (now (mem .entry))) ⌝ }
+{
+    if strays(mem, a) {
+        return 3;
+    }
+    if descends(mem, a) {
+        return 11;
+    }
+    let t = mem[a] as usize;
+    if mem[LINE + t] != 0 {
+        return 10;
+    }
+    if fed(mem, t) {
+        return 0;
+    }
+    10
+}
+
+// No task has a line.
+fn clear_lines(mem: &mut [u64])
+    requires { ⌜ length (now mem) ≡ memorySize ⌝ }
+    ensures { λ _. ⌜ KeptOutside lineAt blockedAt (now (mem .entry)) (now (mem .exit)) × ((t : ℕ) → t < 256 → nth (now (mem .exit)) (lineAt + t) ≡ 0) ⌝ }
+{
+    let mut t = 0;
+    while t < 256 {
+        mem[LINE + t] = 0;
+        t += 1;
+    }
+}
+
+// The T lines, kept as rows.
+fn read_plan_lines(s: &[u8], at: usize, mem: &mut [u64]) -> Step
+    requires { ⌜ Standing 0 (now mem) ⌝ }
+    ensures { λ r. ⌜ KeptOutside lineAt farAt (now (mem .entry)) (now (mem .exit)) × (told (now (s .entry)) (linesIn (nth (now (mem .exit)) 3 + 1) (nth (now (mem .exit)) 0) (now (mem .exit))) r ≡ lines (planLine document01 (jobIn (now (mem .entry)))) (planLineRule document01 (jobIn (now (mem .entry)))) (nth (now (mem .entry)) 0) [] (drop at (now (s .entry)))) × ((n : ℕ) → r ≡ Next n → Standing (nth (now (mem .exit)) 0) (now (mem .exit))) ⌝ }
+{
+    let v = mem[0] as usize;
+    let n = 4 + 3 * mem[3] as usize;
+    let mut p = at;
+    let mut k = 0;
+    while k < v {
+        let a = ROWS + k * 25;
+        let b = a + n;
+        match lines::read_line(s, p, b"T,", n, &mut mem[a..b]) {
+            Step::Next(next) => p = next,
+            Step::Refused(x) => return Step::Refused(x),
+        }
+        let x = check_line(&mem[..], a);
+        if x > 0 {
+            return Step::Refused(x);
+        }
+        let t = mem[a] as usize;
+        mem[LINE + t] = (k + 1) as u64;
+        k += 1;
+    }
+    Step::Next(p)
+}
+
+// A plan's text for the job in memory, whose edges are linked.
+pub fn load_plan(s: &[u8], mem: &mut [u64]) -> Step
+    requires { ⌜ JobHeld (now mem) × LinkedIn (now mem) ⌝ }
+    ensures { λ r. ⌜ KeptOutside lineAt farAt (now (mem .entry)) (now (mem .exit)) × PlanLoaded (readPlan document01 (jobIn (now (mem .entry))) (now (s .entry))) (now (mem .exit)) r ⌝ }
+{
+    if s.len() > 65536 {
+        return Step::Refused(1);
+    }
+    let mut head = [0u64; 5];
+    match lines::read_line(s, 0, b"PLAN,", 5, &mut head) {
+        Step::Refused(x) => Step::Refused(x),
+        Step::Next(p) => {
+            let x = check_head(&mem[..], &head);
+            if x > 0 {
+                return Step::Refused(x);
+            }
+            clear_lines(mem);
+            match read_plan_lines(s, p, mem) {
+                Step::Refused(y) => Step::Refused(y),
+                Step::Next(q) => {
+                    if q < s.len() {
+                        return Step::Refused(2);
+                    }
+                    mem[BEST] = head[3];
+                    mem[WORST] = head[4];
+                    Step::Next(q)
+                }
+            }
+        }
+    }
+}

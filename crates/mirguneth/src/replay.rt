@@ -1,0 +1,99 @@
+// The replay: what each replica does under stops. Its outcome takes the place of its early tick.
+ghost use mathlib.Core.Path.{_≡_};
+ghost use mathlib.Core.List.{[]};
+ghost use Prim.Native.Nat.{ℕ, suc, _<_};
+ghost use lib.ListN.{length};
+ghost use Rattle.definitions.specs.Lists.{nth};
+ghost use Rattle.definitions.specs.Times.{unlessStopped};
+ghost use Rattle.definitions.proofs.Facts.{Ordered};
+ghost use Rattle.mirguneth.specs.Schedule.{jobIn, timeIn, Small, Standing};
+ghost use Rattle.mirguneth.specs.Loading.{planIn};
+ghost use Rattle.mirguneth.specs.Replaying.{Running, FedBefore, LineRun, RisingIn, RoundRun, FirstIn};
+use crate::times;
+
+const NEVER: u64 = 18446744073709551615;
+
+const LINE: usize = 8712;
+
+const ROWS: usize = 9480;
+
+// The processors' ready times in the replay.
+pub struct Ready {
+    pub at: [u64; 16],
+}
+
+// A finish that does not come by the stop never comes.
+fn unless_stopped(stop: u64, x: u64) -> u64
+    ensures { λ r. ⌜ (timeIn r ≡ unlessStopped (timeIn stop) (timeIn x)) × ((b : ℕ) → Small b x → Small b r) ⌝ }
+{
+    if x > stop {
+        return NEVER;
+    }
+    x
+}
+
+// Line k, replica by replica. The answer is the ready times after it.
+fn run_line(mem: &mut [u64], k: usize, stops: &[u64], ready: Ready) -> Ready
+    requires { ⌜ Running k 0 (ready .at) (now mem) × (k < nth (now mem) 0) × FedBefore k (now mem) × (length (now stops) ≡ 16) ⌝ }
+    ensures { λ r. ⌜ Running (suc k) 0 (r .at) (now (mem .exit)) × LineRun k (now (stops .entry)) (now (mem .entry)) (now (mem .exit)) ⌝ }
+{
+    let w = mem[3] as usize + 1;
+    let a = ROWS + k * 25;
+    let t = mem[a] as usize;
+    let mut after = ready;
+    let mut c = 0;
+    while c < w {
+        let p = mem[a + (1 + 3 * c)] as usize;
+        let x = times::finish_at(&mem[..], false, after.at[p], t, p);
+        let y = unless_stopped(stops[p], x);
+        mem[a + (2 + 3 * c)] = y;
+        after.at[p] = y;
+        c += 1;
+    }
+    after
+}
+
+// All lines of the plan in memory.
+pub fn run_round(mem: &mut [u64], stops: &[u64])
+    requires { ⌜ Standing (nth (now mem) 0) (now mem) × Ordered (jobIn (now mem)) [] (planIn (now mem) .lines) × (length (now stops) ≡ 16) ⌝ }
+    ensures { λ _. ⌜ RoundRun (now (stops .entry)) (now (mem .entry)) (now (mem .exit)) ⌝ }
+{
+    let v = mem[0] as usize;
+    let mut ready = Ready { at: [0; 16] };
+    let mut k = 0;
+    while k < v {
+        let after = run_line(mem, k, stops, ready);
+        ready = after;
+        k += 1;
+    }
+}
+
+// A task's first finish and its processor.
+pub struct First {
+    pub time: u64,
+    pub processor: u64,
+}
+
+// The first finish of t, on the lowest processor that has it.
+pub fn first_finish(mem: &[u64], t: usize) -> First
+    requires { ⌜ Standing (nth (now mem) 0) (now mem) × RisingIn (now mem) × (t < nth (now mem) 0) ⌝ }
+    ensures { λ r. ⌜ FirstIn t (r .time) (r .processor) (now (mem .entry)) ⌝ }
+{
+    let w = mem[3] as usize + 1;
+    let a = ROWS + (mem[LINE + t] as usize - 1) * 25;
+    let mut time = NEVER;
+    let mut processor = 0;
+    let mut c = 0;
+    while c < w {
+        let x = mem[a + (2 + 3 * c)];
+        if x < time {
+            time = x;
+            processor = mem[a + (1 + 3 * c)];
+        }
+        c += 1;
+    }
+    First {
+        time: time,
+        processor: processor,
+    }
+}

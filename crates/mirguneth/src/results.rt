@@ -1,0 +1,97 @@
+// The replay's answer: an R line for each task, then the L line.
+ghost use mathlib.Core.Path.{_≡_};
+ghost use Prim.Native.Nat.{_≤_};
+ghost use lib.ListN.{length};
+ghost use Rattle.definitions.specs.Lists.{nth};
+ghost use Rattle.definitions.specs.Limits.{document01};
+ghost use Rattle.definitions.specs.Replay.{resultLine, endLine, replayText};
+ghost use Rattle.slices.specs.Over.{over};
+ghost use Rattle.mirguneth.specs.Schedule.{jobIn, timeIn, LinkedOut, Standing};
+ghost use Rattle.mirguneth.specs.Replaying.{outcomesIn, RisingIn};
+use crate::ends;
+use crate::replay;
+use crate::replay::First;
+use crate::writing;
+
+const NEVER: u64 = 18446744073709551615;
+
+// The bytes that the R line of t takes.
+fn result_length(t: u64, first: First) -> usize
+    ensures { λ r. ⌜ (r ≡ length (resultLine document01 t (timeIn (first .time)) (first .processor))) × (r ≤ 35) ⌝ }
+{
+    let x = first.time;
+    if x == NEVER {
+        return 7 + text::width_of(t);
+    }
+    let p = first.processor;
+    writing::line_length(b"R,", &[t, p, x])
+}
+
+// The R line of t, written at the front of `out`, which is what is left of an output. The answer is its length.
+fn write_result(out: &mut [u8], t: u64, first: First) -> usize
+    requires { ⌜ length (resultLine document01 t (timeIn (first .time)) (first .processor)) ≤ length (now out) ⌝ }
+    ensures { λ r. ⌜ (r ≡ length (resultLine document01 t (timeIn (first .time)) (first .processor))) × (now (out .exit) ≡ over (now (out .entry)) 0 (resultLine document01 t (timeIn (first .time)) (first .processor))) ⌝ }
+{
+    let x = first.time;
+    if x == NEVER {
+        let a = text::write_fixed(out, 0, b"R,");
+        let b = text::write_number(out, a, t);
+        return text::write_fixed(out, b, b",-,-\n");
+    }
+    let p = first.processor;
+    writing::write_line(out, b"R,", &[t, p, x])
+}
+
+// The bytes that the L line takes.
+fn end_length(x: u64) -> usize
+    ensures { λ r. ⌜ (r ≡ length (endLine document01 (timeIn x))) × (r ≤ 13) ⌝ }
+{
+    if x == NEVER {
+        return 4;
+    }
+    writing::line_length(b"L,", &[x])
+}
+
+// The L line, written at the front of `out`, which is what is left of an output. The answer is its length.
+fn write_end(out: &mut [u8], x: u64) -> usize
+    requires { ⌜ length (endLine document01 (timeIn x)) ≤ length (now out) ⌝ }
+    ensures { λ r. ⌜ (r ≡ length (endLine document01 (timeIn x))) × (now (out .exit) ≡ over (now (out .entry)) 0 (endLine document01 (timeIn x))) ⌝ }
+{
+    if x == NEVER {
+        return text::write_fixed(out, 0, b"L,-\n");
+    }
+    writing::write_line(out, b"L,", &[x])
+}
+
+// The bytes that the answer takes.
+pub fn replay_length(mem: &[u64]) -> usize
+    requires { ⌜ Standing (nth (now mem) 0) (now mem) × RisingIn (now mem) × LinkedOut (now mem) ⌝ }
+    ensures { λ r. ⌜ r ≡ length (replayText document01 (jobIn (now (mem .entry))) (outcomesIn (now (mem .entry)))) ⌝ }
+{
+    let v = mem[0] as usize;
+    let mut n = 0;
+    let mut t = 0;
+    while t < v {
+        let first = replay::first_finish(mem, t);
+        n += result_length(t as u64, first);
+        t += 1;
+    }
+    n + end_length(ends::end_of(mem, false))
+}
+
+// The answer, written at the front of `out`. What comes back is its length.
+pub fn write_replay(out: &mut [u8], mem: &[u64]) -> usize
+    requires { ⌜ Standing (nth (now mem) 0) (now mem) × RisingIn (now mem) × LinkedOut (now mem) × (length (replayText document01 (jobIn (now mem)) (outcomesIn (now mem))) ≤ length (now out)) ⌝ }
+    ensures { λ r. ⌜ (r ≡ length (replayText document01 (jobIn (now (mem .entry))) (outcomesIn (now (mem .entry))))) × (now (out .exit) ≡ over (now (out .entry)) 0 (replayText document01 (jobIn (now (mem .entry))) (outcomesIn (now (mem .entry))))) ⌝ }
+{
+    let v = mem[0] as usize;
+    let mut at = 0;
+    let mut t = 0;
+    while t < v {
+        let first = replay::first_finish(mem, t);
+        at += write_result(&mut out[at..], t as u64, first);
+        t += 1;
+    }
+    let end = ends::end_of(mem, false);
+    at + write_end(&mut out[at..], end)
+}
