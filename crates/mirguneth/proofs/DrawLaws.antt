@@ -1,22 +1,24 @@
 -- One turn of the planner: the free tasks, the critical one, its line, and what waits after it.
 use mathlib.Core.Path.{_≡_, refl, ap, ap₂, _∙_, sym}
-use mathlib.Core.Logic.{_⊎_, inl, inr, ⊎-elim}
-use mathlib.Core.List.{List, [], _∷_, _++_, map, map-map, map-append, reverse, reverseAux, reverseAux-eq, reverseAux-append, append-assoc}
+use mathlib.Core.Logic.{inl, inr}
+use mathlib.Core.List.{List, [], _∷_, map, map-map, reverseAux}
 use mathlib.Core.Bool.{Bool, true, false, not, _&&_}
-use Prim.Native.Nat.{ℕ, zero, suc, _+_, _*_, _-_, _<_, _≤_, max, min}
+use Prim.Native.Nat.{ℕ, zero, suc, _+_, _-_, _<_, _≤_, max, min}
 use native.Mathlib.Omega.{arith}
-use borrow.Author.Tests.{eqb-true, eqb-false, eq-eqb, ne-eqb}
+use borrow.Author.Tests.{eqb-true, eqb-false, ne-eqb}
 use lib.Dec.{eqb, ltb}
-use lib.ListN.{length, length-append, length-map}
-use Rattle.definitions.specs.Lists.{if_then_else_, In, nth, keep, all, has, distinct, countFrom, below}
-use Rattle.definitions.specs.Job.{Edge, Job, incoming, outgoing}
-use Rattle.definitions.specs.Plan.{Replica, Line}
-use Rattle.definitions.specs.Times.{Time, tick, never, later, sooner, after, least, largest, Copy, Outcome, outcome, ofTask, ready, arrival, dataReady, start, stopTime, unlessStopped, finish, walk, copiesOf}
-use Rattle.definitions.specs.Planner.{tickOf, greatestOf, Waiting, waitingFrom, freeTasks, ranked, criticalTask, topLevel, trial, goesBefore, chosen, replicas, place, planFor}
-use Rattle.definitions.proofs.Lists.{both, map-in, in-map, in-keep, keep-in, map-same, map-keep, apart-head, in-below, nth-below}
-use Rattle.definitions.proofs.Tasks.{copyOf, in-incoming}
+use lib.ListN.{length, set}
+use lib.Seq.{getD-set-same, getD-set-other}
+use Rattle.definitions.specs.Lists.{if_then_else_, In, nth, keep, all, distinct, countFrom, below}
+use Rattle.definitions.specs.Job.{Edge, Job, incoming}
+use Rattle.definitions.specs.Times.{Time, tick, later, sooner, after, least, largest, Copy, Outcome, outcome, ofTask, ready, arrival, dataReady, start, finish, walk, copiesOf}
+use Rattle.definitions.specs.Planner.{tickOf, greatestOf, Waiting, waitingFrom, freeTasks, ranked, criticalTask, trial, goesBefore, chosen, replicas, place}
+use Rattle.definitions.proofs.Lists.{map-same, apart-head, in-below, nth-below}
+use Rattle.definitions.proofs.Tasks.{copyOf}
+use Rattle.definitions.proofs.Chosen.{chosen-count}
 use Rattle.mirguneth.specs.Schedule.{choiceOf}
 use Rattle.mirguneth.specs.Planning.{bestOf}
+use Rattle.mirguneth.proofs.Upward.{count-yes, count-no}
 
 -- Lists -----------------------------------------------------------------------------------------------------------
 
@@ -87,6 +89,14 @@ pub all-same : {A : Type 0} (f g : A → Bool) (xs : List A) → ((x : A) → In
 unfolding all
 all-same f g [] h = refl
 all-same f g (x ∷ xs) h = rw (h x (inl refl), all-same f g xs (λ y i. h y (inr i)))
+
+-- What holds of the first n places, with one place more.
+pub each-more : (P : ℕ → ℕ → Type 0) (xs : List ℕ) (n x : ℕ) → n < length xs → ((i : ℕ) → i < n → P i (nth xs i)) → P n x → (i : ℕ) → i < n + 1 → P i (nth (set xs n x) i)
+each-more P xs n x h g e i l = by (eqb i n) refl
+  where
+    by : (b : Bool) → eqb i n ≡ b → P i (nth (set xs n x) i)
+    by true t = let q : i ≡ n = eqb-true i n t in rw (q, getD-set-same xs n x 0 h) e
+    by false t = let q = eqb-false i n t in rw (getD-set-other xs n i x 0 q) (g i (omega arith))
 
 -- The greatest is one of them ---------------------------------------------------------------------------------------
 
@@ -240,3 +250,22 @@ unfolding trial
 trial-nth j placed t p h =
     let f : Copy → ℕ = λ c. tickOf (finish j least [] placed c) in
     ap (λ (xs : List ℕ). nth xs p) (map-map f (copyOf j t) (below (j .processors))) ∙ nth-below (λ p. f (copyOf j t p)) (j .processors) p h
+
+count-most : (f : ℕ → Bool) (n k : ℕ) → length (keep f (below n)) ≤ length (keep f (below (n + k)))
+count-most f n zero = let e : n + 0 ≡ n = omega arith in rw e (omega arith)
+count-most f n (suc k) = let e : n + suc k ≡ n + k + 1 = omega arith in rw e (by (f (n + k)) refl (count-most f n k))
+  where
+    by : (b : Bool) → f (n + k) ≡ b → length (keep f (below n)) ≤ length (keep f (below (n + k))) → length (keep f (below n)) ≤ length (keep f (below (n + k + 1)))
+    by true e h = omega (arith, count-yes f (n + k) e)
+    by false e h = omega (arith, count-no f (n + k) e)
+
+-- While one more is chosen, fewer than w were.
+pub chosen-room : (j : Job) (xs : List ℕ) (w p : ℕ) → w ≤ j .processors → p < j .processors → isChosen xs (j .processors) w p ≡ true
+    → length (keep (isChosen xs (j .processors) w) (below p)) < w
+unfolding chosen
+chosen-room j xs w p h l e =
+    let f = isChosen xs (j .processors) w in
+    let n : p + 1 + (j .processors - (p + 1)) ≡ j .processors = omega arith in
+    let m = count-most f (p + 1) (j .processors - (p + 1)) in
+    let c : length (keep f (below (j .processors))) ≡ w = chosen-count j xs w h in
+    omega (arith, count-yes f p e, rw n at m)

@@ -17,7 +17,6 @@ pub mod RowSums
 pub mod LevelLaws
 pub mod ChoiceLaws
 pub mod WriteLaws
-pub mod Spreading
 pub mod DrawLaws
 pub mod CheckLaws
 pub mod AgreeLaws
@@ -31,3 +30,8 @@ pub mod RunLaws
 pub mod RoundLaws
 pub mod FirstLaws
 pub mod ResultLaws
+pub mod TopLaws
+pub mod NextLine
+pub mod Drawing
+pub mod OutsetLaws
+pub mod ReleaseLaws

@@ -1,21 +1,24 @@
 -- What the memory holds while a plan is drawn up.
 use mathlib.Core.Path.{_≡_}
-use mathlib.Core.List.{List, [], _∷_, _++_, map}
+use mathlib.Core.List.{List, [], _∷_, _++_, map, reverseAux}
 use mathlib.Core.Bool.{Bool, true, false, _&&_}
-use Prim.Native.Nat.{ℕ, zero, suc, _+_, _*_, _-_, _<_, _≤_}
+use Prim.Native.Nat.{ℕ, _+_, _*_, _-_, _<_, _≤_}
 use lib.Dec.{eqb}
 use lib.ListN.{length}
-use Rattle.definitions.specs.Lists.{nth, below, keep, In}
+use Rattle.definitions.specs.Lists.{nth, below, keep}
 use Rattle.definitions.specs.Limits.{document01}
 use Rattle.definitions.specs.Job.{Edge, Job, incoming}
-use Rattle.definitions.specs.Plan.{Line}
-use Rattle.definitions.specs.Times.{Time, tick, Outcome, ready}
-use Rattle.definitions.specs.Planner.{tickOf, greatestOf, Waiting, waitingFrom, scale, place, planFor}
-use Rattle.mirguneth.specs.Layout.{levelAt, lineAt, blockedAt, priorityAt, rowAt}
-use Rattle.mirguneth.specs.Schedule.{jobIn, placedIn, linesIn, topIn, Standing, LinkedOut, FarFilled, LevelsFilled}
+use Rattle.definitions.specs.Plan.{Replica}
+use Rattle.definitions.specs.Times.{Time, tick, after, least, largest, Outcome, ready, finish}
+use Rattle.definitions.specs.Planner.{tickOf, greatestOf, Waiting, waitingFrom, scale, trial, chosen, place, planFor}
+use Rattle.definitions.proofs.Tasks.{copyOf}
+use Rattle.mirguneth.specs.Layout.{levelAt, lineAt, blockedAt, priorityAt, rowAt, farAt}
+use Rattle.mirguneth.specs.Schedule.{jobIn, rowOutcomes, placedIn, rowReplicas, linesIn, topIn, KeptOutside, RowHeld, FedIn, Standing, LinkedOut, FarFilled, LevelsFilled}
 use Rattle.mirguneth.specs.declared.clocks.Clocks.{Clocks}
 
--- Task t is not placed, and so are none of its predecessors' edges counted as blocking.
+-- The choice of a task ------------------------------------------------------------------------------------------
+
+-- Task t is not placed, and no edge is counted that blocks it.
 abbrev pub isFree : List ℕ → ℕ → Bool
 isFree mem t = eqb (nth mem (lineAt + t)) 0 && eqb (nth mem (blockedAt + t)) 0
 
@@ -33,6 +36,45 @@ unfoldable pub waitingIn : List ℕ → List Waiting
 waitingIn mem =
     keep (λ w. eqb (nth mem (lineAt + w .task)) 0) (waitingFrom 0 (map (λ t. nth mem (levelAt + t)) (below (nth mem 0))))
 
+-- The line at a is one that top levels ask, for an edge of this volume.
+pub record Sends (a volume : ℕ) (mem : List ℕ) : Type 0 where
+  pub row : RowHeld a mem
+  pub within : a + 25 ≤ length mem
+  pub narrow : nth mem 3 ≤ document01 .losses
+  pub ticks : (c : ℕ) → c < nth mem 3 + 1 → nth mem (a + (2 + 3 * c)) ≤ document01 .tick
+  pub little : volume ≤ document01 .volume
+  pub far : FarFilled mem
+
+-- When the data of one of the first c replicas of the line at a is everywhere, for an edge of this volume.
+unfoldable pub spreadIn : ℕ → ℕ → ℕ → List ℕ → Time
+spreadIn volume a c mem = least (map (λ d. after (volume * nth mem (farAt + d .processor)) (d .time)) (rowOutcomes false a c mem))
+
+-- What is placed ------------------------------------------------------------------------------------------------
+
+-- The replicas of the first k lines with their early times, and with their late ones.
+abbrev pub earliesIn : ℕ → List ℕ → List Outcome
+earliesIn k mem = placedIn false (nth mem 3 + 1) k mem
+
+abbrev pub latesIn : ℕ → List ℕ → List Outcome
+latesIn k mem = placedIn true (nth mem 3 + 1) k mem
+
+-- The early and the late finish of task t on p, after the first k lines.
+unfoldable pub earlyOn : ℕ → List ℕ → ℕ → ℕ → Time
+earlyOn k mem t p = finish (jobIn mem) least [] (earliesIn k mem) (copyOf (jobIn mem) t p)
+
+unfoldable pub lateOn : ℕ → List ℕ → ℕ → ℕ → Time
+lateOn k mem t p = finish (jobIn mem) largest [] (latesIn k mem) (copyOf (jobIn mem) t p)
+
+-- The replica of t on p, after the first k lines; and its outcomes.
+abbrev pub replicaOn : ℕ → List ℕ → ℕ → ℕ → Replica
+replicaOn k mem t p = record { processor = p; early = tickOf (earlyOn k mem t p); late = tickOf (lateOn k mem t p) }
+
+abbrev pub earlyOutcome : ℕ → List ℕ → ℕ → ℕ → Outcome
+earlyOutcome k mem t p = record { task = t; processor = p; time = earlyOn k mem t p }
+
+abbrev pub lateOutcome : ℕ → List ℕ → ℕ → ℕ → Outcome
+lateOutcome k mem t p = record { task = t; processor = p; time = lateOn k mem t p }
+
 -- The clocks have the ready ticks of all processors after what is placed, with its early and its late times.
 pub record ClocksHeld (clocks : Clocks) (j : Job) (es ls : List Outcome) : Type 0 where
   pub early-size : length (clocks .early) ≡ 16
@@ -40,18 +82,59 @@ pub record ClocksHeld (clocks : Clocks) (j : Job) (es ls : List Outcome) : Type 
   pub early-ready : (p : ℕ) → p < j .processors → tick (nth (clocks .early) p) ≡ ready j p es
   pub late-ready : (p : ℕ) → p < j .processors → tick (nth (clocks .late) p) ≡ ready j p ls
 
+-- What a line adds to the ticks at most: a run and a message.
+abbrev pub lineTicks : ℕ
+lineTicks = document01 .runTime + document01 .volume * document01 .delay
+
 -- k lines of the plan are drawn up, and what is left to place gives the rest of it.
 pub record Drawn (k : ℕ) (mem : List ℕ) : Type 0 where
   pub standing : Standing k mem
   pub linked : LinkedOut mem
   pub far : FarFilled mem
   pub levels : LevelsFilled mem
-  pub early-tick : (i c : ℕ) → i < k → c < nth mem 3 + 1 → nth mem (rowAt i + (2 + 3 * c)) ≤ document01 .tick
-  pub late-tick : (i c : ℕ) → i < k → c < nth mem 3 + 1 → nth mem (rowAt i + (3 + 3 * c)) ≤ document01 .tick
+  pub early-tick : (i c : ℕ) → i < k → c < nth mem 3 + 1 → nth mem (rowAt i + (2 + 3 * c)) ≤ k * lineTicks
+  pub late-tick : (i c : ℕ) → i < k → c < nth mem 3 + 1 → nth mem (rowAt i + (3 + 3 * c)) ≤ k * lineTicks
+  pub rest : linesIn (nth mem 3 + 1) k mem
+      ++ place (jobIn mem) (nth mem 3) (nth mem 0 - k) (waitingIn mem) (earliesIn k mem) (latesIn k mem)
+      ≡ planFor (jobIn mem) (nth mem 3) .lines
+
+-- Each task counts its edges from tasks that are not placed, and the edges es to it; a free task has its priority.
+pub record Ranked (es : List Edge) (mem : List ℕ) : Type 0 where
   pub blocked : (u : ℕ) → u < nth mem 0
-      → nth mem (blockedAt + u) ≡ length (keep (λ e. eqb (nth mem (lineAt + e .from)) 0) (incoming (jobIn mem) u))
+      → nth mem (blockedAt + u)
+      ≡ length (keep (λ e. eqb (nth mem (lineAt + e .from)) 0) (incoming (jobIn mem) u)) + length (keep (λ e. eqb (e .to) u) es)
   pub priorities : (u : ℕ) → u < nth mem 0 → isFree mem u ≡ true
       → nth mem (priorityAt + u) ≡ tickOf (topIn u mem) * scale (jobIn mem) + nth mem (levelAt + u)
-  pub rest : linesIn (nth mem 3 + 1) k mem
-      ++ place (jobIn mem) (nth mem 3) (nth mem 0 - k) (waitingIn mem) (placedIn false (nth mem 3 + 1) k mem) (placedIn true (nth mem 3 + 1) k mem)
-      ≡ planFor (jobIn mem) (nth mem 3) .lines
+
+-- Line k is to be of task t, whose predecessors are placed, and which would finish early at these ticks.
+pub record Tried (k t : ℕ) (at : List ℕ) (clocks : Clocks) (mem : List ℕ) : Type 0 where
+  pub drawn : Drawn k mem
+  pub more : k < nth mem 0
+  pub task-below : t < nth mem 0
+  pub fed : FedIn t mem
+  pub clocks-now : ClocksHeld clocks (jobIn mem) (earliesIn k mem) (latesIn k mem)
+  pub size : length at ≡ 16
+  pub finishes : (p : ℕ) → p < nth mem 1 → tick (nth at p) ≡ earlyOn k mem t p
+
+-- The processors of line k, if it is of task t.
+abbrev pub boxesFor : ℕ → ℕ → List ℕ → List ℕ
+boxesFor k t mem = chosen (jobIn mem) (nth mem 3 + 1) (trial (jobIn mem) (earliesIn k mem) t)
+
+-- Replica c of the line at a was written, on p with these finishes, and nothing else.
+pub record Wrote (a c p early late : ℕ) (d mem : List ℕ) : Type 0 where
+  pub kept : KeptOutside (a + (1 + 3 * c)) (a + (4 + 3 * c)) d mem
+  pub processor : nth mem (a + (1 + 3 * c)) ≡ p
+  pub early-finish : nth mem (a + (2 + 3 * c)) ≡ early
+  pub late-finish : nth mem (a + (3 + 3 * c)) ≡ late
+
+-- Line k of a memory d has its replicas, of task t on the processors ps, and the clocks are those after it.
+pub record Begun (k t : ℕ) (ps : List ℕ) (clocks : Clocks) (d mem : List ℕ) : Type 0 where
+  pub kept : KeptOutside (rowAt k) farAt d mem
+  pub replicas : rowReplicas (rowAt k) (length ps) mem ≡ map (replicaOn k d t) ps
+  pub clocks-after : ClocksHeld clocks (jobIn d) (reverseAux (map (earlyOutcome k d t) ps) (earliesIn k d)) (reverseAux (map (lateOutcome k d t) ps) (latesIn k d))
+
+-- The first n tasks have no line and no edge that is counted, and their bottom levels for priorities.
+pub record Cleared (n : ℕ) (mem : List ℕ) : Type 0 where
+  pub line : (t : ℕ) → t < n → nth mem (lineAt + t) ≡ 0
+  pub blocked : (t : ℕ) → t < n → nth mem (blockedAt + t) ≡ 0
+  pub priority : (t : ℕ) → t < n → nth mem (priorityAt + t) ≡ nth mem (levelAt + t)

@@ -11,6 +11,7 @@ mod job;
 mod levels;
 mod lines;
 mod links;
+mod planner;
 mod plans;
 mod priority;
 mod replay;

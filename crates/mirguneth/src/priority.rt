@@ -1,19 +1,15 @@
 // Priorities: top levels of free tasks, and the choice of the critical one.
 ghost use mathlib.Core.Path.{_≡_};
 ghost use mathlib.Core.List.{map};
-ghost use mathlib.Core.Bool.{false};
 ghost use Prim.Native.Nat.{ℕ, _+_, _*_, _≤_, _<_};
 ghost use lib.ListN.{length};
 ghost use Rattle.definitions.specs.Lists.{nth, below, greatest};
 ghost use Rattle.definitions.specs.Limits.{document01};
-ghost use Rattle.definitions.specs.Times.{after, least};
+ghost use Rattle.definitions.specs.Times.{tick};
 ghost use Rattle.definitions.specs.Planner.{tickOf, scale};
 ghost use Rattle.mirguneth.specs.Layout.{memorySize, farAt, rowAt};
-ghost use Rattle.mirguneth.specs.Schedule.{jobIn, timeIn, rowOutcomes, topIn, JobHeld, RowHeld, KeptOutside, FarFilled, Standing, FedIn};
-ghost use Rattle.mirguneth.specs.Planning.{isFree, freeIn, bestOf};
-use crate::times;
-
-const NEVER: u64 = 18446744073709551615;
+ghost use Rattle.mirguneth.specs.Schedule.{jobIn, topIn, JobHeld, KeptOutside, FarFilled, Standing, FedIn};
+ghost use Rattle.mirguneth.specs.Planning.{isFree, freeIn, bestOf, Sends, spreadIn};
 
 const FAR: usize = 15856;
 
@@ -61,17 +57,25 @@ pub fn fill_far(mem: &mut [u64])
     }
 }
 
+// The first tick at which the data of replica c of the line at `a` is everywhere.
+fn sent(mem: &[u64], a: usize, c: usize, volume: u64) -> u64
+    requires { ⌜ JobHeld (now mem) × Sends a volume (now mem) × (c < nth (now mem) 3 + 1) ⌝ }
+    ensures { λ r. ⌜ (r ≡ nth (now (mem .entry)) (a + (2 + 3 * c)) + volume * nth (now (mem .entry)) (farAt + nth (now (mem .entry)) (a + (1 + 3 * c)))) × (r ≤ 4296011520) ⌝ }
+{
+    let p = mem[a + (1 + 3 * c)] as usize;
+    mem[a + (2 + 3 * c)] + volume * mem[FAR + p]
+}
+
 // The first tick at which the data of a predecessor whose line is at `a` is everywhere.
 fn spread(mem: &[u64], a: usize, volume: u64) -> u64
-    requires { ⌜ JobHeld (now mem) × RowHeld a (now mem) × FarFilled (now mem) × (a + 25 ≤ length (now mem)) × (volume ≤ 4095) × ((c : ℕ) → c < nth (now mem) 3 + 1 → nth (now mem) (a + (2 + 3 * c)) ≤ document01 .tick) ⌝ }
-    ensures { λ r. ⌜ (timeIn r ≡ least (map (λ d. after (volume * nth (now (mem .entry)) (farAt + d .processor)) (d .time)) (rowOutcomes false a (nth (now (mem .entry)) 3 + 1) (now (mem .entry))))) × (r ≤ 4296011520) ⌝ }
+    requires { ⌜ JobHeld (now mem) × Sends a volume (now mem) ⌝ }
+    ensures { λ r. ⌜ (tick r ≡ spreadIn volume a (nth (now (mem .entry)) 3 + 1) (now (mem .entry))) × (r ≤ 4296011520) ⌝ }
 {
     let w = mem[3] as usize + 1;
-    let mut x = NEVER;
-    let mut c = 0;
+    let mut x = sent(mem, a, 0, volume);
+    let mut c = 1;
     while c < w {
-        let p = mem[a + (1 + 3 * c)] as usize;
-        let y = mem[a + (2 + 3 * c)] + volume * mem[FAR + p];
+        let y = sent(mem, a, c, volume);
         if y < x {
             x = y;
         }
@@ -83,7 +87,7 @@ fn spread(mem: &[u64], a: usize, volume: u64) -> u64
 // The scaled top level of t, whose predecessors all have a line.
 pub fn top_level(mem: &[u64], t: usize) -> u64
     requires { ⌜ ((k : ℕ) × Standing k (now mem) × ((i c : ℕ) → i < k → c < nth (now mem) 3 + 1 → nth (now mem) (rowAt i + (2 + 3 * c)) ≤ document01 .tick)) × (t < nth (now mem) 0) × FedIn t (now mem) × FarFilled (now mem) ⌝ }
-    ensures { λ r. ⌜ r ≡ tickOf (topIn t (now (mem .entry))) * scale (jobIn (now (mem .entry))) ⌝ }
+    ensures { λ r. ⌜ (r ≡ tickOf (topIn t (now (mem .entry))) * scale (jobIn (now (mem .entry)))) × (r ≤ 1100000000000) ⌝ }
 {
     let v = mem[0];
     let m = mem[1];
@@ -95,7 +99,9 @@ pub fn top_level(mem: &[u64], t: usize) -> u64
         let from = (c % 256) as usize;
         let a = ROWS + (mem[LINE + from] as usize - 1) * 25;
         let y = spread(mem, a, c / 65536);
-        x = times::chosen_of(true, y, x);
+        if y > x {
+            x = y;
+        }
         k = mem[IN_NEXT + (k - 1)] as usize;
     }
     if m == 1 {

@@ -1,75 +1,37 @@
--- After c turns x is the least time of the first c replicas of the line.
-use mathlib.Core.Path.{refl}
-use mathlib.Core.Logic.{⊎-elim}
-use Prim.Native.Nat.{_≤_, _-_}
+-- x is the least over the replicas passed.
+use mathlib.Core.Path.{_≡_}
+use Prim.Native.Nat.{_≤_, _-_, _+_}
 use native.Mathlib.Omega.{arith}
 use borrow.Author.Needs.{needs}
-use Rattle.mirguneth.proofs.Held.{Sizes, sizes}
-use Rattle.mirguneth.proofs.Spreading.{Spreading, spread-first, spread-next, spread-done, far-most}
+use Prim.Native.Nat.{min}
+use mathlib.Core.Logic.{⊎-elim}
+use Rattle.definitions.specs.Lists.{nth}
+use Rattle.definitions.specs.Times.{tick}
+use Rattle.mirguneth.specs.Planning.{spreadIn}
+use Rattle.mirguneth.proofs.TopLaws.{spread-first, spread-more}
 use Rattle.mirguneth.proofs.priority.spread.Statement.{statement}
 use Rattle.mirguneth.proofs.priority.spread.Tie as tie
 
 abbrev Inv-loop : tie.InvT-loop
-Inv-loop mem a volume w x₀ c₀ x c = (c ≤ w) × Sizes mem × Spreading volume a mem x c
+Inv-loop mem a volume w x₀ c₀ x c = (c ≤ w) × (x ≤ 4296011520) × (tick x ≡ spreadIn volume a c mem)
 
 abbrev μ-loop : tie.MeasureT-loop
 μ-loop mem a volume w x₀ c₀ x c = w - c
 
 shared-slice-read-w : tie.Need-shared-slice-read-w Inv-loop μ-loop
-shared-slice-read-w c = omega (arith, sizes (c .before .pre .0))
+shared-slice-read-w c = search needs
 
 add-w : tie.Need-add-w Inv-loop μ-loop
-add-w c = omega (arith, sizes (c .before .pre .0))
+add-w c = search needs
+
+sent-requires : tie.Need-sent-requires Inv-loop μ-loop
+sent-requires c κs = (c .before .before .pre .0, c .before .before .pre .1, omega arith)
 
 loop-holds : tie.Need-loop-holds Inv-loop μ-loop
-loop-holds c = (search needs, sizes (c .before .pre .0), spread-first (c .before .args .volume) (c .before .args .a) (c .before .args .mem .now))
+loop-holds c = (omega arith, c .sent .ensures .1, spread-first (c .before .before .before .pre .0) (c .before .before .before .pre .1) (c .sent .result) (c .sent .ensures .0))
 
-mul-p : tie.Need-mul-p Inv-loop μ-loop
-mul-p c = search needs
-
-add-p : tie.Need-add-p Inv-loop μ-loop
-add-p c = search needs
-
-add-p-2 : tie.Need-add-p-2 Inv-loop μ-loop
-add-p-2 c = search needs
-
-mul-p-2 : tie.Need-mul-p-2 Inv-loop μ-loop
-mul-p-2 c = search needs
-
-shared-slice-read-p : tie.Need-shared-slice-read-p Inv-loop μ-loop
-shared-slice-read-p c = search needs
-
-mul-y : tie.Need-mul-y Inv-loop μ-loop
-mul-y c = search needs
-
-add-y : tie.Need-add-y Inv-loop μ-loop
-add-y c = search needs
-
-add-y-2 : tie.Need-add-y-2 Inv-loop μ-loop
-add-y-2 c = search needs
-
-mul-y-2 : tie.Need-mul-y-2 Inv-loop μ-loop
-mul-y-2 c = search needs
-
-shared-slice-read-y : tie.Need-shared-slice-read-y Inv-loop μ-loop
-shared-slice-read-y c = search needs
-
-add-y-3 : tie.Need-add-y-3 Inv-loop μ-loop
-add-y-3 c = omega (arith, c .before .before .before .before .before .pre .1 .processor-of (c .before .before .before .loop .c) (c .before .before .loop-test .taken))
-
-mul-y-3 : tie.Need-mul-y-3 Inv-loop μ-loop
-mul-y-3 c = omega (arith, c .before .before .before .before .before .pre .1 .processor-of (c .before .before .before .loop .c) (c .before .before .loop-test .taken))
-
-shared-slice-read-y-2 : tie.Need-shared-slice-read-y-2 Inv-loop μ-loop
-shared-slice-read-y-2 c = omega (arith, c .before .before .before .before .before .before .pre .1 .processor-of (c .before .before .before .before .loop .c) (c .before .before .before .loop-test .taken))
-
-mul-y-4 : tie.Need-mul-y-4 Inv-loop μ-loop
-mul-y-4 c = let a = c .before .before .before .before .before .before .args in omega (arith, far-most (a .volume) (a .a) (a .mem .now) (c .before .before .before .before .before .before .pre .0) (c .before .before .before .before .before .before .pre .1) (c .before .before .before .before .before .before .pre .2) (c .before .before .before .before .before .before .pre .4) (c .before .before .before .before .loop .c) (c .before .before .before .loop-test .taken))
-
-add-y-4 : tie.Need-add-y-4 Inv-loop μ-loop
-add-y-4 c =
-    let a = c .before .before .before .before .before .before .args in
-    omega (arith, far-most (a .volume) (a .a) (a .mem .now) (c .before .before .before .before .before .before .pre .0) (c .before .before .before .before .before .before .pre .1) (c .before .before .before .before .before .before .pre .2) (c .before .before .before .before .before .before .pre .4) (c .before .before .before .before .loop .c) (c .before .before .before .loop-test .taken), c .before .before .before .before .before .before .pre .5 (c .before .before .before .before .loop .c) (c .before .before .before .loop-test .taken))
+sent-requires-2 : tie.Need-sent-requires-2 Inv-loop μ-loop
+sent-requires-2 c κs = (c .before .before .before .before .before .pre .0, c .before .before .before .before .before .pre .1, c .loop-test .taken)
 
 add-c : tie.Need-add-c Inv-loop μ-loop
 add-c c = search needs
@@ -79,19 +41,13 @@ loop-less c = search needs
 
 loop-again : tie.Need-loop-again Inv-loop μ-loop
 loop-again c =
-    let a = c .before .before .before .before .before .before .before .args in
-    let l = c .before .before .before .before .before .loop in (
-      search needs,
-      l .inv .1,
-      spread-next (a .volume) (a .a) (a .mem .now) (c .before .before .before .before .before .before .before .pre .0) (c .before .before .before .before .before .before .before .pre .1) (c .before .before .before .before .before .before .before .pre .2) (c .before .before .before .before .before .before .before .pre .4) (l .c) (c .before .before .before .before .loop-test .taken) (c .before .before .before .before .before .before .before .pre .5) (l .x) _ (c .if1 .x) refl
-          (⊎-elim (λ w. omega arith) (λ w. omega arith) (c .if1 .came)) (l .inv .2),
-    )
+    let l = c .before .before .before .loop in
+    let y = c .before .sent2 .result in
+    let e : c .if1 .x ≡ min y (l .x) = ⊎-elim (λ w. omega (arith, w .0 .taken, w .1)) (λ w. omega (arith, w .0 .left, w .1)) (c .if1 .came) in
+    (search needs, omega (arith, c .before .sent2 .ensures .1), spread-more (c .before .before .before .before .before .before .before .pre .0) (c .before .before .before .before .before .before .before .pre .1) (l .c) (c .before .before .loop-test .taken) (l .x) y (c .if1 .x) (c .before .sent2 .ensures .0) (l .inv .2) e)
 
 returns : tie.Need-returns Inv-loop μ-loop
-returns c =
-    let a = c .before .before .before .args in
-    let l = c .before .loop in
-    (spread-done (a .volume) (a .a) (a .mem .now) (l .x) (l .c) (l .inv .2) (omega arith), l .inv .2 .most (omega arith))
+returns c = let l = c .before .loop in let e : l .c ≡ nth (c .before .before .before .before .before .args .mem .now) 3 + 1 = omega arith in (rw (← e) (l .inv .2), l .inv .1)
 
 pub spread-spec : {M : Type 1} → statement M
 spread-spec =
@@ -101,22 +57,9 @@ spread-spec =
     μ-loop
     shared-slice-read-w
     add-w
+    sent-requires
     loop-holds
-    mul-p
-    add-p
-    add-p-2
-    mul-p-2
-    shared-slice-read-p
-    mul-y
-    add-y
-    add-y-2
-    mul-y-2
-    shared-slice-read-y
-    add-y-3
-    mul-y-3
-    shared-slice-read-y-2
-    mul-y-4
-    add-y-4
+    sent-requires-2
     add-c
     loop-less
     loop-again

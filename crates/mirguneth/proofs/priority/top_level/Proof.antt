@@ -1,19 +1,21 @@
--- x is the largest time of the edges passed; the links lead through the others.
-use mathlib.Core.Logic.{inr}
-use Prim.Native.Nat.{ℕ, _≤_, _<_, _-_}
+-- x is the largest over the edges passed; the links lead through the others.
+use mathlib.Core.Path.{_≡_, sym, _∙_}
+use Prim.Native.Nat.{_≤_, _-_}
 use native.Mathlib.Omega.{arith}
 use borrow.Author.Needs.{needs}
+use mathlib.Core.Logic.{⊎-elim, inr}
 use Rattle.definitions.specs.Lists.{nth}
 use Rattle.mirguneth.specs.Memory.{edgeIn}
-use Rattle.mirguneth.specs.Schedule.{edgeAt}
+use Rattle.definitions.specs.Times.{later}
+use Rattle.mirguneth.specs.Schedule.{edgeAt, timeIn}
 use Rattle.mirguneth.proofs.Held.{Sizes, sizes}
 use Rattle.mirguneth.proofs.TimeLaws.{Feeds, Gathering, gather-first, gather-edge, gather-falls, gather-next}
-use Rattle.mirguneth.proofs.Spreading.{spreads, feeds-ticks, either-most, scale-most, scaled-most, top-one, top-scaled}
+use Rattle.mirguneth.proofs.TopLaws.{spreads, feeds-sends, top-later, scale-most, top-most, top-one, top-scaled}
 use Rattle.mirguneth.proofs.priority.top_level.Statement.{statement}
 use Rattle.mirguneth.proofs.priority.top_level.Tie as tie
 
 abbrev Inv-loop : tie.InvT-loop
-Inv-loop mem t v m g x₀ k₀ x k = Sizes mem × Gathering (spreads mem) 4296011520 t mem x k × (x ≤ 4296011520)
+Inv-loop mem t v m g x₀ k₀ x k = Sizes mem × (x ≤ 4296011520) × Gathering (spreads mem) 5000000000 t mem x k
 
 abbrev μ-loop : tie.MeasureT-loop
 μ-loop mem t v m g x₀ k₀ x k = k
@@ -21,13 +23,17 @@ abbrev μ-loop : tie.MeasureT-loop
 held : (c : tie.Start Inv-loop μ-loop) → Sizes (c .args .mem .now)
 held c = sizes (c .pre .0 .1 .job)
 
--- The line that the link leads to.
-fed : (s : tie.Start Inv-loop μ-loop) (x k : ℕ) → Gathering (spreads (s .args .mem .now)) 4296011520 (s .args .t) (s .args .mem .now) x k → 0 < k
-    → Feeds (edgeIn (nth (s .args .mem .now) (edgeAt (s .args .mem .now) (k - 1)))) (s .args .mem .now)
-fed s x k g h = gather-edge (spreads (s .args .mem .now)) 4296011520 (s .pre .0 .0) (s .args .t) (s .args .mem .now) (s .pre .0 .1) g h (s .pre .2)
+abbrev start : tie.In-loop Inv-loop μ-loop → tie.Start Inv-loop μ-loop
+start c = c .before .before .before .before .before .before
+
+-- The edge at hand comes from a task that has its line.
+feeds : (c : tie.In-loop Inv-loop μ-loop) → Feeds (edgeIn (nth (start c .args .mem .now) (edgeAt (start c .args .mem .now) (c .before .loop .k - 1)))) (start c .args .mem .now)
+feeds c =
+    let s = start c in
+    gather-edge (spreads (s .args .mem .now)) 5000000000 (s .pre .0 .0) (s .args .t) (s .args .mem .now) (s .pre .0 .1) (c .before .loop .inv .2) (c .loop-test .taken) (s .pre .2)
 
 shared-slice-read-v : tie.Need-shared-slice-read-v Inv-loop μ-loop
-shared-slice-read-v c = omega (arith, held (c .before .before))
+shared-slice-read-v c = search needs
 
 shared-slice-read-m : tie.Need-shared-slice-read-m Inv-loop μ-loop
 shared-slice-read-m c = search needs
@@ -54,9 +60,7 @@ shared-slice-read-k : tie.Need-shared-slice-read-k Inv-loop μ-loop
 shared-slice-read-k c = omega (arith, held (c .before .before .before .before))
 
 loop-holds : tie.Need-loop-holds Inv-loop μ-loop
-loop-holds c =
-    let a = c .before .before .before .before .args in
-    (held (c .before .before .before .before), gather-first (spreads (a .mem .now)) 4296011520 (c .before .before .before .before .pre .0 .0) (a .t) (a .mem .now) (c .before .before .before .before .pre .0 .1) (c .before .before .before .before .pre .1), omega arith)
+loop-holds c = let a = c .before .before .before .before .args in (held (c .before .before .before .before), omega arith, gather-first (spreads (a .mem .now)) 5000000000 (c .before .before .before .before .pre .0 .0) (a .t) (a .mem .now) (c .before .before .before .before .pre .0 .1) (c .before .before .before .before .pre .1))
 
 sub-c : tie.Need-sub-c Inv-loop μ-loop
 sub-c c = search needs
@@ -80,23 +84,16 @@ shared-slice-read-a : tie.Need-shared-slice-read-a Inv-loop μ-loop
 shared-slice-read-a c = search needs
 
 sub-a : tie.Need-sub-a Inv-loop μ-loop
-sub-a c = let l = c .before .before .before .loop in omega (arith, fed (c .before .before .before .before .before .before .before .before) (l .x) (l .k) (l .inv .1) (omega arith))
+sub-a c = let f = feeds (c .before .before) in omega arith
 
 mul-a-2 : tie.Need-mul-a-2 Inv-loop μ-loop
-mul-a-2 c = let l = c .before .before .before .loop in omega (arith, fed (c .before .before .before .before .before .before .before .before) (l .x) (l .k) (l .inv .1) (omega arith))
+mul-a-2 c = let f = feeds (c .before .before) in omega arith
 
 add-a-2 : tie.Need-add-a-2 Inv-loop μ-loop
-add-a-2 c = let l = c .before .before .before .loop in omega (arith, fed (c .before .before .before .before .before .before .before .before) (l .x) (l .k) (l .inv .1) (omega arith))
+add-a-2 c = let f = feeds (c .before .before) in omega arith
 
 spread-requires : tie.Need-spread-requires Inv-loop μ-loop
-spread-requires c κs =
-    let l = c .before .before .before .loop in
-    let m = c .before .before .before .before .before .before .before .before .args .mem .now in
-    let f = fed (c .before .before .before .before .before .before .before .before) (l .x) (l .k) (l .inv .1) (omega arith) in
-    (c .before .before .before .before .before .before .before .before .pre .0 .1 .job, f .row, c .before .before .before .before .before .before .before .before .pre .3, omega arith, f .volume-most, feeds-ticks (c .before .before .before .before .before .before .before .before .pre .0 .0) m (edgeIn (nth m (edgeAt m (l .k - 1)))) (c .before .before .before .before .before .before .before .before .pre .0 .1) (c .before .before .before .before .before .before .before .before .pre .0 .2) f)
-
-chosen-of-requires : tie.Need-chosen-of-requires Inv-loop μ-loop
-chosen-of-requires c κs = search needs
+spread-requires c κs = (c .before .before .before .before .before .before .before .before .pre .0 .1 .job, feeds-sends (c .before .before .before .before .before .before .before .before .pre .0 .1) (c .before .before .before .before .before .before .before .before .pre .0 .2) (c .before .before .before .before .before .before .before .before .pre .3) (feeds (c .before .before)))
 
 sub-k : tie.Need-sub-k Inv-loop μ-loop
 sub-k c = search needs
@@ -113,43 +110,33 @@ shared-slice-read-k-2 c = search needs
 loop-less : tie.Need-loop-less Inv-loop μ-loop
 loop-less c =
     let a = c .before .before .before .before .before .before .before .before .before .before .before .args in
-    gather-falls (spreads (a .mem .now)) 4296011520 (c .before .before .before .before .before .before .before .before .before .before .before .pre .0 .0) (a .t) (a .mem .now) (c .before .before .before .before .before .before .before .before .before .before .before .pre .0 .1) (c .before .before .before .before .before .before .loop .inv .1) (omega arith)
+    gather-falls (spreads (a .mem .now)) 5000000000 (c .before .before .before .before .before .before .before .before .before .before .before .pre .0 .0) (a .t) (a .mem .now) (c .before .before .before .before .before .before .before .before .before .before .before .pre .0 .1) (c .before .before .before .before .before .before .loop .inv .2) (c .before .before .before .before .before .loop-test .taken)
 
 loop-again : tie.Need-loop-again Inv-loop μ-loop
 loop-again c =
     let a = c .before .before .before .before .before .before .before .before .before .before .before .args in
     let l = c .before .before .before .before .before .before .loop in
-    let y = c .before .before .spread in
-    let r = c .before .chosen-of in
-    let b = either-most 4296011520 (r .result) (y .result) (l .x) (r .ensures .1) (y .ensures .1) (l .inv .2) in
-    (l .inv .0, gather-next (spreads (a .mem .now)) 4296011520 (c .before .before .before .before .before .before .before .before .before .before .before .pre .0 .0) (a .t) (a .mem .now) (c .before .before .before .before .before .before .before .before .before .before .before .pre .0 .1) (l .inv .1) (omega arith) (y .result) (r .result) (y .ensures .0) (r .ensures .0) (inr b), b)
+    let x = c .before .if1 .x in
+    let y = c .before .before .spread .result in
+    let (f, g, h) = top-later (l .x) y (l .inv .1) (c .before .before .spread .ensures .1) in
+    let s : x ≤ 4296011520 = ⊎-elim (λ w. omega (arith, w .1, c .before .before .spread .ensures .1)) (λ w. omega (arith, w .1)) (c .before .if1 .came) in
+    let e : timeIn x ≡ later (timeIn y) (timeIn (l .x)) = ⊎-elim (λ w. rw (w .1) (h (omega (arith, w .0 .taken)))) (λ w. rw (w .1) (g (omega (arith, w .0 .left)))) (c .before .if1 .came) in
+    (l .inv .0, s, gather-next (spreads (a .mem .now)) 5000000000 (c .before .before .before .before .before .before .before .before .before .before .before .pre .0 .0) (a .t) (a .mem .now) (c .before .before .before .before .before .before .before .before .before .before .before .pre .0 .1) (l .inv .2) (c .before .before .before .before .before .loop-test .taken) y x (sym f ∙ c .before .before .spread .ensures .0) e (inr (omega arith)))
 
 returns : tie.Need-returns Inv-loop μ-loop
-returns c =
-    let a = c .before .before .before .before .before .before .before .args in
-    let l = c .before .before .loop in
-    top-one (c .before .before .before .before .before .before .before .pre .0 .0) (a .t) (a .mem .now) (c .before .before .before .before .before .before .before .pre .0 .1) (l .x) (l .inv .2) (l .inv .1) (omega arith) (c .if1 .taken)
+returns c = let l = c .before .before .loop in (top-one (c .before .before .before .before .before .before .before .pre .0 .0) (c .before .before .before .before .before .before .before .pre .0 .1) (l .inv .2) (omega arith) (l .inv .1) (c .if2 .taken), omega arith)
 
 sub-result : tie.Need-sub-result Inv-loop μ-loop
 sub-result c = search needs
 
 mul-result : tie.Need-mul-result Inv-loop μ-loop
-mul-result c =
-    let a = c .before .before .before .before .before .before .before .args in
-    let l = c .before .before .loop in
-    omega (arith, scale-most (c .before .before .before .before .before .before .before .pre .0 .0) (a .t) (a .mem .now) (c .before .before .before .before .before .before .before .pre .0 .1) (l .x) (l .inv .2))
+mul-result c = let l = c .before .before .loop in omega (arith, scale-most (c .before .before .before .before .before .before .before .pre .0 .0) (c .before .before .before .before .before .before .before .pre .0 .1) (l .inv .2) (omega arith) (l .inv .1))
 
 mul-result-2 : tie.Need-mul-result-2 Inv-loop μ-loop
-mul-result-2 c =
-    let a = c .before .before .before .before .before .before .before .args in
-    let l = c .before .before .loop in
-    omega (arith, scaled-most (c .before .before .before .before .before .before .before .pre .0 .0) (a .t) (a .mem .now) (c .before .before .before .before .before .before .before .pre .0 .1) (l .x) (l .inv .2))
+mul-result-2 c = let l = c .before .before .loop in omega (arith, top-most (c .before .before .before .before .before .before .before .pre .0 .0) (c .before .before .before .before .before .before .before .pre .0 .1) (l .inv .2) (omega arith) (l .inv .1))
 
 returns-2 : tie.Need-returns-2 Inv-loop μ-loop
-returns-2 c =
-    let a = c .before .before .before .before .before .before .before .args in
-    let l = c .before .before .loop in
-    top-scaled (c .before .before .before .before .before .before .before .pre .0 .0) (a .t) (a .mem .now) (c .before .before .before .before .before .before .before .pre .0 .1) (l .x) (l .inv .2) (l .inv .1) (omega arith) (c .if1 .left)
+returns-2 c = let l = c .before .before .loop in (top-scaled (c .before .before .before .before .before .before .before .pre .0 .0) (c .before .before .before .before .before .before .before .pre .0 .1) (l .inv .2) (omega arith) (l .inv .1) (c .if2 .left), top-most (c .before .before .before .before .before .before .before .pre .0 .0) (c .before .before .before .before .before .before .before .pre .0 .1) (l .inv .2) (omega arith) (l .inv .1))
 
 pub top-level-spec : {M : Type 1} → statement M
 top-level-spec =
@@ -178,7 +165,6 @@ top-level-spec =
     mul-a-2
     add-a-2
     spread-requires
-    chosen-of-requires
     sub-k
     add-k-2
     mul-k-2

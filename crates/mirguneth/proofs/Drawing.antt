@@ -1,0 +1,482 @@
+-- The memory while a plan is drawn up: its ticks, a line more, and what a change elsewhere leaves as it was.
+use mathlib.Core.Path.{_≡_, refl, ap, _∙_, sym}
+use mathlib.Core.Logic.{inl, inr, ⊎-elim}
+use mathlib.Core.List.{List, [], _∷_, _++_, map, map-map, map-append, reverse, reverseAux, reverseAux-append, append-nil}
+use mathlib.Core.Bool.{Bool, true, false, not, _&&_}
+use Prim.Native.Nat.{ℕ, zero, suc, _+_, _*_, _-_, _<_, _≤_}
+use native.Mathlib.Omega.{arith}
+use native.Mathlib.Nat.{mul-le-mul, add-zero}
+use native.Mathlib.Numerals.{add-one}
+use borrow.Author.Tests.{eqb-true, eqb-false, eq-eqb, ne-eqb, lt-ltb, not-true}
+use lib.Dec.{eqb, ltb}
+use lib.ListN.{length, set, length-append, length-map, length-set}
+use lib.Seq.{getD-set-same, getD-set-other}
+use Rattle.definitions.specs.Lists.{if_then_else_, In, nth, keep, all, has, below}
+use Rattle.definitions.specs.Limits.{document01}
+use Rattle.definitions.specs.Job.{Edge, Job, runTime, delay, incoming}
+use Rattle.definitions.specs.Plan.{Replica}
+use Rattle.definitions.specs.Times as Times
+use Rattle.definitions.specs.Times.{tick, never, later, after, Outcome, ready, arrival, dataReady, start, stopTime, finish}
+use Rattle.definitions.specs.Planner.{tickOf, Waiting, freeTasks, ranked, scale, topLevel, trial, replicas, place, planFor}
+use Rattle.definitions.proofs.Lists.{both, in-map, in-keep, map-same, map-keep, in-append, append-left, append-right, in-below, all-in}
+use Rattle.definitions.proofs.Tasks.{copyOf, in-incoming}
+use Rattle.definitions.proofs.Placing.{placed-count}
+use Rattle.mirguneth.specs.Layout.{memorySize, jobSize, levelAt, raisedAt, lineAt, blockedAt, priorityAt, rowAt, farAt}
+use Rattle.mirguneth.specs.Schedule.{jobIn, neverCell, timeIn, choiceOf, rowOutcomes, placedIn, rowReplicas, linesIn, rowOf, dataIn, topIn, KeptOutside, Small, Standing, FedIn}
+use Rattle.mirguneth.specs.declared.clocks.Clocks.{Clocks}
+use Rattle.mirguneth.specs.Planning.{isFree, freeIn, bestOf, waitingIn, earliesIn, latesIn, earlyOn, lateOn, replicaOn, earlyOutcome, lateOutcome, ClocksHeld, lineTicks, Drawn, Ranked, Tried, boxesFor, Wrote, Begun}
+use Rattle.mirguneth.proofs.Held.{zero-or-more, tasks-in, processors-in, Same, same-part, same-before, same-behind, Sizes, sizes, job-same, placed-same, replicas-same, lines-same, standing-same, linked-out-same, levels-same, far-same, kept-all, kept-set, kept-then, kept-wider}
+use Rattle.mirguneth.proofs.Upward.{below-more, keep-yes, keep-no}
+use Rattle.mirguneth.proofs.TimeLaws.{time-tick}
+use Rattle.mirguneth.proofs.Placed.{has-placed, feeding-line, fed-all, data-placed, level-placed}
+use Rattle.mirguneth.proofs.DrawLaws.{isChosen, chosen-room, chosen-same, trial-nth, keep-same, keep-keep, none-kept, all-same, some-free, best-in, waiting-from, Comes, comes-wider, comes-after, comes-later, comes-largest, comes-choice}
+
+-- The cells of a line -----------------------------------------------------------------------------------------------
+
+-- Replica c of a line, as its cells say.
+abbrev pub replicaAt : ℕ → ℕ → List ℕ → Replica
+replicaAt a c mem = record { processor = nth mem (a + (1 + 3 * c)); early = nth mem (a + (2 + 3 * c)); late = nth mem (a + (3 + 3 * c)) }
+
+pub in-replicas : (a n c : ℕ) (mem : List ℕ) → c < n → In (replicaAt a c mem) (rowReplicas a n mem)
+unfolding rowReplicas
+in-replicas a zero c mem h = absurd (omega arith)
+in-replicas a (suc n) c mem h = by (eqb c n) refl (in-replicas a n c mem)
+  where
+    by : (b : Bool) → eqb c n ≡ b → (c < n → In (replicaAt a c mem) (rowReplicas a n mem)) → In (replicaAt a c mem) (rowReplicas a n mem ++ replicaAt a n mem ∷ [])
+    by true e r = append-right (replicaAt a c mem) (rowReplicas a n mem) (replicaAt a n mem ∷ []) (rw (eqb-true c n e) (inl refl))
+    by false e r = let q = eqb-false c n e in append-left (replicaAt a c mem) (rowReplicas a n mem) (replicaAt a n mem ∷ []) (r (omega arith))
+
+-- The outcome of a line's replica, early or late.
+abbrev pub outcomeOf : Bool → ℕ → Replica → Outcome
+outcomeOf late t r = record { task = t; processor = r .processor; time = timeIn (if late then r .late else r .early) }
+
+pub outcomes-row : (late : Bool) (a c : ℕ) (mem : List ℕ) → rowOutcomes late a c mem ≡ reverse (map (outcomeOf late (nth mem a)) (rowReplicas a c mem))
+unfolding rowOutcomes rowReplicas
+outcomes-row late a zero mem = refl
+outcomes-row late a (suc c) mem =
+    let f = outcomeOf late (nth mem a) in
+    let xs = rowReplicas a c mem in
+    let r = replicaAt a c mem in
+    let back : reverse (map f (xs ++ r ∷ [])) ≡ f r ∷ reverse (map f xs) = rw (map-append f xs (r ∷ [])) (reverseAux-append (map f xs) (f r ∷ []) []) in
+    rw (back, outcomes-row late a c mem) (by late)
+  where
+    by : (late : Bool)
+        → _≡_ {A = List Outcome} (record { task = nth mem a; processor = nth mem (a + (1 + 3 * c)); time = timeIn (nth mem (a + ((if late then 3 else 2) + 3 * c))) }
+        ∷ reverse (map (outcomeOf late (nth mem a)) (rowReplicas a c mem)))
+        (outcomeOf late (nth mem a) (replicaAt a c mem) ∷ reverse (map (outcomeOf late (nth mem a)) (rowReplicas a c mem)))
+    by true = refl
+    by false = refl
+
+-- The ticks of lines ------------------------------------------------------------------------------------------------
+
+abbrev AllCome : ℕ → List Outcome → Type 0
+AllCome b ds = (d : Outcome) → In d ds → Comes b (d .time)
+
+time-back : (x b : ℕ) → x ≤ b → b < neverCell → Comes b (timeIn x)
+time-back x b h g = (x, time-tick x (λ e. omega arith), h)
+
+time-of : (r y : ℕ) → timeIn r ≡ tick y → r ≡ y
+time-of r y = by (eqb r neverCell)
+  where
+    by : (b : Bool) → (if b then never else tick r) ≡ tick y → r ≡ y
+    by true h = absurd (let z : _≡_ {A = ℕ} 0 1 = cc in omega arith)
+    by false h = ap tickOf h
+
+row-come : (late : Bool) (a c b : ℕ) (mem : List ℕ) → b < neverCell → ((i : ℕ) → i < c → nth mem (a + ((if late then 3 else 2) + 3 * i)) ≤ b) → AllCome b (rowOutcomes late a c mem)
+unfolding rowOutcomes
+row-come late a (suc c) b mem g h d (inl e) = rw (← e) (time-back (nth mem (a + ((if late then 3 else 2) + 3 * c))) b (h c (omega arith)) g)
+row-come late a (suc c) b mem g h d (inr i) = row-come late a c b mem g (λ i l. h i (omega arith)) d i
+
+placed-come : (late : Bool) (w k b : ℕ) (mem : List ℕ) → b < neverCell → ((i c : ℕ) → i < k → c < w → nth mem (rowAt i + ((if late then 3 else 2) + 3 * c)) ≤ b) → AllCome b (placedIn late w k mem)
+unfolding placedIn
+placed-come late w (suc k) b mem g h d i =
+    ⊎-elim (row-come late (rowAt k) w b mem g (λ c l. h k c (omega arith) l) d) (placed-come late w k b mem g (λ i c l m. h i c (omega arith) m) d)
+    (in-append d (rowOutcomes late (rowAt k) w mem) (placedIn late w k mem) i)
+
+ready-comes : (j : Job) (p b : ℕ) (ds : List Outcome) → AllCome b ds → Comes b (ready j p ds)
+unfolding ready
+ready-comes j p b [] h = (0, refl, omega arith)
+ready-comes j p b (d ∷ ds) h = by (eqb (d .processor) p) (ready-comes j p b ds (λ x i. h x (inr i)))
+  where
+    by : (a : Bool) → Comes b (ready j p ds) → Comes b (if a then d .time else ready j p ds)
+    by true r = h d (inl refl)
+    by false r = r
+
+row-length : (late : Bool) (a c : ℕ) (mem : List ℕ) → length (rowOutcomes late a c mem) ≡ c
+unfolding rowOutcomes
+row-length late a zero mem = refl
+row-length late a (suc c) mem = ap suc (row-length late a c mem)
+
+row-on : (late : Bool) (a c m : ℕ) (mem : List ℕ) → ((i : ℕ) → i < c → nth mem (a + (1 + 3 * i)) < m) → (d : Outcome) → In d (rowOutcomes late a c mem) → d .processor < m
+unfolding rowOutcomes
+row-on late a (suc c) m mem h d (inl e) = rw (← e) (h c (omega arith))
+row-on late a (suc c) m mem h d (inr i) = row-on late a c m mem (λ i l. h i (omega arith)) d i
+
+module _ {k : ℕ} {mem : List ℕ} (s : Drawn k mem) where
+  abbrev wide : ℕ
+  wide = nth mem 3 + 1
+
+  -- The ticks of k lines pass no k times the ticks of a line.
+  pub ticks-fit : k * lineTicks ≤ document01 .tick
+  ticks-fit = let w = sizes (s .standing .job) in let c = s .standing .count in omega arith
+
+  cells-most : (late : Bool) (i c : ℕ) → i < k → c < wide → nth mem (rowAt i + ((if late then 3 else 2) + 3 * c)) ≤ k * lineTicks
+  cells-most true = s .late-tick
+  cells-most false = s .early-tick
+
+  all-come : (late : Bool) → AllCome (k * lineTicks) (placedIn late wide k mem)
+  all-come late = let f = ticks-fit in placed-come late wide k (k * lineTicks) mem (omega arith) (cells-most late)
+
+  -- A processor's ready tick.
+  pub clock-most : (late : Bool) (p x : ℕ) → tick x ≡ ready (jobIn mem) p (placedIn late wide k mem) → x ≤ k * lineTicks
+  clock-most late p x e =
+      let (y, f, l) = ready-comes (jobIn mem) p (k * lineTicks) (placedIn late wide k mem) (all-come late) in
+      let q : x ≡ y = ap tickOf (e ∙ f) in
+      omega arith
+
+  -- The top level of a task whose predecessors are placed is that of the definition.
+  pub top-here : (t : ℕ) → FedIn t mem → tickOf (topIn t mem) * scale (jobIn mem) ≡ topLevel (jobIn mem) (earliesIn k mem) t
+  top-here t f = sym (level-placed (s .standing) k t (omega arith) (fed-all (s .standing) t f) (s .far))
+
+  module _ (t p : ℕ) (f : FedIn t mem) (ht : t < nth mem 0) (hp : p < nth mem 1) where
+    -- The data of one predecessor comes a message after its replicas.
+    arrival-comes : (late : Bool) (e : Edge) → In e (incoming (jobIn mem) t) → Comes (k * lineTicks + 1044225) (arrival (jobIn mem) (choiceOf late) (placedIn late wide k mem) p e)
+    unfolding arrival
+    arrival-comes late e i =
+        let b = fed-all (s .standing) t f in
+        let (l, m) = b e i in
+        let a = rowOf (e .from) mem in
+        let n = nth mem (lineAt + e .from) - 1 in
+        let g : n < k = omega arith in
+        let (o, _) = in-incoming (jobIn mem) t e i in
+        rw (feeding-line (s .standing) k t (omega arith) b late e i)
+        (comes-choice late (λ d. after (e .volume * delay (jobIn mem) (d .processor) p) (d .time)) (rowOutcomes late a wide mem) (omega (arith, row-length late a wide mem)) (λ d i.
+        comes-after 1044225 (e .volume * delay (jobIn mem) (d .processor) p)
+        (mul-le-mul {n₁ = e .volume} {m₁ = delay (jobIn mem) (d .processor) p} {n₂ = 4095} {m₂ = 255} (s .standing .job .facts .volume-most e o)
+        (s .standing .job .facts .delay-most (d .processor) p (rw (processors-in mem) (row-on late a wide (nth mem 1) mem (s .standing .row n g .processor-of) d i)) (rw (processors-in mem) hp)))
+        (row-come late a wide (k * lineTicks) mem (omega (arith, ticks-fit)) (λ c h. cells-most late n c g h) d i)))
+
+    -- The finish of t on p.
+    pub finish-comes : (late : Bool) → Comes (k * lineTicks + lineTicks) (finish (jobIn mem) (choiceOf late) [] (placedIn late wide k mem) (copyOf (jobIn mem) t p))
+    unfolding finish start dataReady stopTime
+    finish-comes late =
+        let r = s .standing .job .facts .run-most t p (rw (tasks-in mem) ht) (rw (processors-in mem) hp) in
+        let d = comes-largest (arrival (jobIn mem) (choiceOf late) (placedIn late wide k mem) p) (incoming (jobIn mem) t) (arrival-comes late) in
+        let a = comes-wider {c = k * lineTicks + 1044225} (omega arith) (ready-comes (jobIn mem) p (k * lineTicks) (placedIn late wide k mem) (all-come late)) in
+        comes-wider (omega arith) (comes-after 1000000 (runTime (jobIn mem) t p) r (comes-later a d))
+
+    -- What the code computes is that finish.
+    pub finish-cell : (late : Bool) (x r : ℕ) → tick x ≡ ready (jobIn mem) p (placedIn late wide k mem)
+        → timeIn r ≡ after (runTime (jobIn mem) t p) (later (timeIn x) (dataIn late t p mem))
+        → tick r ≡ finish (jobIn mem) (choiceOf late) [] (placedIn late wide k mem) (copyOf (jobIn mem) t p)
+    unfolding finish start stopTime
+    finish-cell late x r e h =
+        let (y, q, l) = finish-comes late in
+        let z = clock-most late p x e in
+        let fits = ticks-fit in
+        let g : timeIn r ≡ tick y = h ∙ rw (time-tick x (λ n. omega arith), e, data-placed (s .standing) k t (omega arith) (fed-all (s .standing) t f) late p) q in
+        ap tick (time-of r y g) ∙ sym q
+
+-- What a change elsewhere leaves as it was --------------------------------------------------------------------------
+
+-- Task t as it waits.
+abbrev pub waitingAt : List ℕ → ℕ → Waiting
+waitingAt mem t = record { task = t; bottom = nth mem (levelAt + t) }
+
+pub waiting-map : (mem : List ℕ) → waitingIn mem ≡ map (waitingAt mem) (keep (λ t. eqb (nth mem (lineAt + t)) 0) (below (nth mem 0)))
+unfolding waitingIn
+waiting-map mem =
+    rw (waiting-from (λ t. nth mem (levelAt + t)) 0 (nth mem 0))
+    (sym (map-keep (waitingAt mem) (λ w. eqb (nth mem (lineAt + w .task)) 0) (below (nth mem 0))))
+
+module _ {d e : List ℕ} (w : Sizes d) (j : Same 0 blockedAt d e) where
+  waiting-same : waitingIn e ≡ waitingIn d
+  waiting-same =
+      let v : nth e 0 ≡ nth d 0 = j .cell 0 (omega arith) (omega arith) in
+      let low : (t : ℕ) → In t (below (nth d 0)) → t < nth d 0 = in-below (nth d 0) in
+      let kept = keep (λ t. eqb (nth d (lineAt + t)) 0) (below (nth d 0)) in
+      waiting-map e
+      ∙ rw (v, keep-same (λ t. eqb (nth e (lineAt + t)) 0) (λ t. eqb (nth d (lineAt + t)) 0) (below (nth d 0)) (λ t i. rw (j .cell (lineAt + t) (omega arith) (omega (arith, low t i)))))
+      (map-same (waitingAt e) (waitingAt d) kept
+      (λ t i. rw (j .cell (levelAt + t) (omega arith) (omega (arith, low t (in-keep (λ t. eqb (nth d (lineAt + t)) 0) t (below (nth d 0)) i .0))))))
+      ∙ sym (waiting-map d)
+
+-- The job with its links and levels, the table of lines, the first k lines and the table of largest delays are as they were.
+drawn-same : {k : ℕ} {d e : List ℕ} → length e ≡ length d → Same 0 blockedAt d e → Same (rowAt 0) (rowAt k) d e → Same farAt memorySize d e → Drawn k d → Drawn k e
+drawn-same {k} {d} {e} z j r f s =
+    let h = s .standing .job in
+    let w = sizes h in
+    let a : Same 0 jobSize d e = same-part 0 jobSize j (omega arith) (omega arith) in
+    let b : Same 0 levelAt d e = same-part 0 levelAt j (omega arith) (omega arith) in
+    let v : nth e 0 ≡ nth d 0 = j .cell 0 (omega arith) (omega arith) in
+    let l : nth e 3 ≡ nth d 3 = j .cell 3 (omega arith) (omega arith) in
+    let c = s .standing .count in
+    let few : nth d 3 + 1 ≤ 8 = omega (arith, w .losses-most) in
+    record {
+      standing = standing-same z b (same-part lineAt blockedAt j (omega arith) (omega arith)) r (s .standing);
+      linked = linked-out-same h b (s .linked);
+      far = far-same h a f (s .far);
+      levels = levels-same h a (same-part levelAt raisedAt j (omega arith) (omega arith)) (s .levels);
+      early-tick = λ i c g m. let n : c < nth d 3 + 1 = rw l at m in rw (r .cell (rowAt i + (2 + 3 * c)) (omega arith) (omega arith)) (s .early-tick i c g n);
+      late-tick = λ i c g m. let n : c < nth d 3 + 1 = rw l at m in rw (r .cell (rowAt i + (3 + 3 * c)) (omega arith) (omega arith)) (s .late-tick i c g n);
+      rest = rw (l, v, job-same w a, waiting-same w j, lines-same d e (nth d 3 + 1) k few r, placed-same d e false (nth d 3 + 1) k few r, placed-same d e true (nth d 3 + 1) k few r) (s .rest);
+    }
+
+module _ {k low high : ℕ} {d e : List ℕ} (c : KeptOutside low high d e) (s : Drawn k d) where
+  -- A change among what serves the choice of a task, or behind the k lines.
+  pub drawn-choice : blockedAt ≤ low → high ≤ rowAt 0 → Drawn k e
+  drawn-choice a b = drawn-same (c .size) (same-before 0 blockedAt c a) (same-behind (rowAt 0) (rowAt k) c b) (same-behind farAt memorySize c (omega arith)) s
+
+  drawn-behind : rowAt k ≤ low → high ≤ farAt → Drawn k e
+  drawn-behind a b = drawn-same (c .size) (same-before 0 blockedAt c (omega arith)) (same-before (rowAt 0) (rowAt k) c a) (same-behind farAt memorySize c b) s
+
+-- The clocks, when what serves the choice of a task changes.
+pub clocks-choice : {k : ℕ} {d e : List ℕ} {clocks : Clocks} → KeptOutside blockedAt (rowAt 0) d e → Drawn k d → ClocksHeld clocks (jobIn d) (earliesIn k d) (latesIn k d)
+    → ClocksHeld clocks (jobIn e) (earliesIn k e) (latesIn k e)
+clocks-choice {k} {d} {e} c s h =
+    let w = sizes (s .standing .job) in
+    let r : Same (rowAt 0) (rowAt k) d e = same-behind (rowAt 0) (rowAt k) c (omega arith) in
+    let few : nth d 3 + 1 ≤ 8 = omega (arith, w .losses-most) in
+    rw (job-same w (same-before 0 jobSize c (omega arith)), c .before 3 (omega arith), placed-same d e false (nth d 3 + 1) k few r, placed-same d e true (nth d 3 + 1) k few r) h
+
+-- A line that is begun ----------------------------------------------------------------------------------------------
+
+module _ {k : ℕ} {d e : List ℕ} (s : Drawn k d) (c : KeptOutside (rowAt k) farAt d e) where
+  before-row : Same 0 (rowAt k) d e
+  before-row = same-before 0 (rowAt k) c (omega arith)
+
+  job-begun : jobIn e ≡ jobIn d
+  job-begun = job-same (sizes (s .standing .job)) (same-part 0 jobSize before-row (omega arith) (omega arith))
+
+  placed-begun : (late : Bool) → placedIn late (nth e 3 + 1) k e ≡ placedIn late (nth d 3 + 1) k d
+  placed-begun late =
+      let w = sizes (s .standing .job) in
+      rw (before-row .cell 3 (omega arith) (omega arith)) (placed-same d e late (nth d 3 + 1) k (omega arith) (same-part (rowAt 0) (rowAt k) before-row (omega arith) (omega arith)))
+
+  fed-begun : (t : ℕ) → FedIn t d → FedIn t e
+  fed-begun t f x i =
+      let w = sizes (s .standing .job) in
+      let m : In x (incoming (jobIn d) t) = rw job-begun at i in
+      let b : x .from < nth d 0 = rw (tasks-in d) at (s .standing .job .facts .from-task x (in-incoming (jobIn d) t x m .0)) in
+      rw (before-row .cell (lineAt + x .from) (omega arith) (omega arith)) (f x m)
+
+  -- What the code is asked of before it computes a late finish.
+  pub late-asks : (t p : ℕ) (clocks : Clocks) → FedIn t d → t < nth d 0 → p < nth d 1 → ClocksHeld clocks (jobIn d) (earliesIn k d) (latesIn k d)
+      → ((n : ℕ) × Standing n e) × (t < nth e 0) × (p < nth e 1) × FedIn t e × Small 4294967295 (nth (clocks .late) p)
+  late-asks t p clocks f ht hp cs =
+      let x = clock-most s true p (nth (clocks .late) p) (cs .late-ready p (rw (processors-in d) hp)) in (
+        (k, drawn-behind c s (omega arith) (omega arith) .standing),
+        rw (before-row .cell 0 (omega arith) (omega arith)) ht,
+        rw (before-row .cell 1 (omega arith) (omega arith)) hp,
+        fed-begun t f,
+        inr (omega (arith, ticks-fit s)),
+      )
+
+  -- The late finish, from the cell that the code computes it to.
+  late-begun : (t p : ℕ) → FedIn t d → t < nth d 0 → p < nth d 1 → (x r : ℕ) → tick x ≡ ready (jobIn d) p (latesIn k d)
+      → timeIn r ≡ after (runTime (jobIn e) t p) (later (timeIn x) (dataIn true t p e)) → tick r ≡ lateOn k d t p
+  unfolding lateOn
+  late-begun t p f ht hp x r g h =
+      let n = drawn-behind c s (omega arith) (omega arith) in
+      let a = finish-cell n t p (fed-begun t f) (rw (before-row .cell 0 (omega arith) (omega arith)) ht) (rw (before-row .cell 1 (omega arith) (omega arith)) hp) true x r
+      (rw (job-begun, placed-begun true) g) h in
+      rw (job-begun, placed-begun true) at a
+
+pub wrote : (a c p early late : ℕ) (d : List ℕ) → a + (4 + 3 * c) ≤ length d
+    → Wrote a c p early late d (set (set (set d (a + (1 + 3 * c)) p) (a + (2 + 3 * c)) early) (a + (3 + 3 * c)) late)
+wrote a c p early late d h =
+    let one = set d (a + (1 + 3 * c)) p in
+    let two = set one (a + (2 + 3 * c)) early in
+    let x : length one ≡ length d = length-set d (a + (1 + 3 * c)) p in
+    let y : length two ≡ length one = length-set one (a + (2 + 3 * c)) early in
+    record {
+      kept = kept-set (a + (3 + 3 * c)) late (kept-set (a + (2 + 3 * c)) early (kept-set (a + (1 + 3 * c)) p kept-all (omega arith) (omega arith)) (omega arith) (omega arith)) (omega arith) (omega arith);
+      processor = getD-set-other two (a + (3 + 3 * c)) (a + (1 + 3 * c)) late 0 (λ q. omega arith) ∙ getD-set-other one (a + (2 + 3 * c)) (a + (1 + 3 * c)) early 0 (λ q. omega arith) ∙ getD-set-same d (a + (1 + 3 * c)) p 0 (omega arith);
+      early-finish = getD-set-other two (a + (3 + 3 * c)) (a + (2 + 3 * c)) late 0 (λ q. omega arith) ∙ getD-set-same one (a + (2 + 3 * c)) early 0 (omega arith);
+      late-finish = getD-set-same two (a + (3 + 3 * c)) late 0 (omega arith);
+    }
+
+-- A clock that is set.
+clock-more : (j : Job) (ticks : List ℕ) (ds : List Outcome) (o : Outcome) (x : ℕ) → length ticks ≡ 16 → o .processor < 16 → o .time ≡ tick x
+    → (q : ℕ) → tick (nth ticks q) ≡ ready j q ds → tick (nth (set ticks (o .processor) x) q) ≡ ready j q (o ∷ ds)
+unfolding ready
+clock-more j ticks ds o x z h e q g = by (eqb (o .processor) q) refl
+  where
+    by : (b : Bool) → eqb (o .processor) q ≡ b → tick (nth (set ticks (o .processor) x) q) ≡ (if b then o .time else ready j q ds)
+    by true f = rw (← eqb-true (o .processor) q f) (ap tick (getD-set-same ticks (o .processor) x 0 (omega arith)) ∙ sym e)
+    by false f = let n = eqb-false (o .processor) q f in ap tick (getD-set-other ticks (o .processor) q x 0 (λ m. n (sym m))) ∙ g
+
+module _ {k t : ℕ} {d : List ℕ} {clocks : Clocks} where
+  pub begun-none : ClocksHeld clocks (jobIn d) (earliesIn k d) (latesIn k d) → Begun k t [] clocks d d
+  unfolding rowReplicas
+  begun-none c = record { kept = kept-all; replicas = refl; clocks-after = c }
+
+  -- One replica more.
+  module _ {ps : List ℕ} {mem e : List ℕ} (b : Begun k t ps clocks d mem) (p x y : ℕ) (f : Wrote (rowAt k) (length ps) p x y mem e)
+      (early : tick x ≡ earlyOn k d t p) (late : tick y ≡ lateOn k d t p) where
+    begun-more : k < 255 → length ps < 8 → p < 16 → (next : Clocks) → next .early ≡ set (clocks .early) p x → next .late ≡ set (clocks .late) p y → Begun k t (ps ++ p ∷ []) next d e
+    unfolding rowReplicas
+    begun-more hk few hp next g h =
+        let a = rowAt k in
+        let c = length ps in
+        let n : length (ps ++ p ∷ []) ≡ suc c = length-append ps (p ∷ []) ∙ add-one c in
+        let cs = b .clocks-after in
+        let r : replicaAt a c e ≡ replicaOn k d t p = rw (f .processor, f .early-finish, f .late-finish, ← early, ← late) in
+        let more : (o : ℕ → Outcome) (ds : List Outcome) → reverseAux (map o (ps ++ p ∷ [])) ds ≡ o p ∷ reverseAux (map o ps) ds =
+        λ o ds. rw (map-append o ps (p ∷ [])) (reverseAux-append (map o ps) (o p ∷ []) ds) in
+        record {
+          kept = kept-then (b .kept) (kept-wider (rowAt k) farAt (f .kept) (omega arith) (omega arith));
+          replicas = rw (n, replicas-same mem e a c (same-before a (a + (1 + 3 * c)) (f .kept) (omega arith)), r, b .replicas) (sym (map-append (replicaOn k d t) ps (p ∷ [])));
+          clocks-after = record {
+            early-size = rw (g, length-set (clocks .early) p x) (cs .early-size);
+            late-size = rw (h, length-set (clocks .late) p y) (cs .late-size);
+            early-ready = λ q l. rw (g, more (earlyOutcome k d t) (earliesIn k d)) (clock-more (jobIn d) (clocks .early) (reverseAux (map (earlyOutcome k d t) ps) (earliesIn k d)) (earlyOutcome k d t p) x (cs .early-size) hp (sym early) q (cs .early-ready q l));
+            late-ready = λ q l. rw (h, more (lateOutcome k d t) (latesIn k d)) (clock-more (jobIn d) (clocks .late) (reverseAux (map (lateOutcome k d t) ps) (latesIn k d)) (lateOutcome k d t p) y (cs .late-size) hp (sym late) q (cs .late-ready q l));
+          };
+        }
+
+-- Processor by processor.
+module _ {k t : ℕ} {at : List ℕ} {clocks : Clocks} {d : List ℕ} (o : Tried k t at clocks d) where
+  -- The processors that are chosen.
+  abbrev takes : ℕ → Bool
+  takes = isChosen at (nth d 1) (nth d 3 + 1)
+
+  few-tasks : k < 255
+  few-tasks = omega (arith, o .more, sizes (o .drawn .standing .job) .tasks-most)
+
+  module _ {p c : ℕ} {after : Clocks} {mem : List ℕ} (l : p < nth d 1) (n : c ≡ length (keep takes (below p))) (b : Begun k t (keep takes (below p)) after d mem) where
+    pub pass-box : takes p ≡ false → (c ≡ length (keep takes (below (p + 1)))) × Begun k t (keep takes (below (p + 1))) after d mem
+    pass-box f = rw (below-more p, keep-no takes (below p) p f) (n, b)
+
+    module _ (f : takes p ≡ true) where
+      pub box-room : c < 8
+      unfolding jobIn
+      box-room = let w = sizes (o .drawn .standing .job) in omega (arith, chosen-room (jobIn d) at (nth d 3 + 1) p (w .enough) l f)
+
+      pub box-within : rowAt k + (4 + 3 * c) ≤ length mem
+      box-within = omega (arith, few-tasks, box-room, b .kept .size, o .drawn .standing .job .size)
+
+      pub take-box : (x : ℕ) {e : List ℕ} (next : Clocks) → timeIn x ≡ Times.after (runTime (jobIn mem) t p) (later (timeIn (nth (clocks .late) p)) (dataIn true t p mem))
+          → Wrote (rowAt k) c p (nth at p) x mem e → next .early ≡ set (after .early) p (nth at p) → next .late ≡ set (after .late) p x
+          → (c + 1 ≡ length (keep takes (below (p + 1)))) × Begun k t (keep takes (below (p + 1))) next d e
+      take-box x next q a g h =
+          let ps = keep takes (below p) in
+          let y = late-begun (o .drawn) (b .kept) t p (o .fed) (o .task-below) l (nth (clocks .late) p) x (o .clocks-now .late-ready p (rw (processors-in d) l)) q in
+          let m : length ps < 8 = omega (arith, box-room) in
+          rw (below-more p, keep-yes takes (below p) p f) (
+            ap (λ (i : ℕ). i + 1) n ∙ sym (length-append ps (p ∷ [])),
+            begun-more b p (nth at p) x (rw n at a) (o .finishes p l) y few-tasks m (omega (arith, sizes (o .drawn .standing .job) .processors-most)) next g h,
+          )
+
+  -- All processors have been asked.
+  pub boxes-taken : {p : ℕ} {after : Clocks} {mem : List ℕ} → p ≡ nth d 1 → Begun k t (keep takes (below p)) after d mem → Begun k t (boxesFor k t d) after d mem
+  unfolding jobIn earlyOn
+  boxes-taken {p} {after} {mem} e b =
+      let same = chosen-same (jobIn d) (nth d 3 + 1) at (trial (jobIn d) (earliesIn k d) t) (λ q l. ap tickOf (o .finishes q l) ∙ sym (trial-nth (jobIn d) (earliesIn k d) t q l)) in
+      rw (← same) (rw e at b)
+
+-- The free tasks ----------------------------------------------------------------------------------------------------
+
+-- A task that no edge blocks has its predecessors placed.
+pub fed-none : (t : ℕ) (mem : List ℕ) → length (keep (λ e. eqb (nth mem (lineAt + e .from)) 0) (incoming (jobIn mem) t)) ≡ 0 → FedIn t mem
+fed-none t mem h e i =
+    let blocks : Edge → Bool = λ e. eqb (nth mem (lineAt + e .from)) 0 in
+    let every : all (λ e. not (blocks e)) (incoming (jobIn mem) t) ≡ true = sym (none-kept blocks (incoming (jobIn mem) t)) ∙ eq-eqb (length (keep blocks (incoming (jobIn mem) t))) 0 h in
+    let n = eqb-false (nth mem (lineAt + e .from)) 0 (not-true (blocks e) (all-in (λ e. not (blocks e)) e (incoming (jobIn mem) t) every i)) in
+    ⊎-elim (λ z. absurd (n z)) (λ l. l) (zero-or-more (nth mem (lineAt + e .from)))
+
+some-test : (x : ℕ) → ltb 0 x ≡ not (eqb x 0)
+some-test x = ⊎-elim (λ (e : x ≡ 0). rw e) (λ h. lt-ltb 0 x h ∙ sym (ap not (ne-eqb x 0 (λ e. omega arith)))) (zero-or-more x)
+
+module _ {k : ℕ} {mem : List ℕ} (s : Drawn k mem) (r : Ranked [] mem) where
+  -- A task's predecessors are all placed exactly if no edge blocks it.
+  fed-test : (t : ℕ) → t < nth mem 0 → all (λ e. has (e .from) (map (λ d. d .task) (earliesIn k mem))) (incoming (jobIn mem) t) ≡ eqb (nth mem (blockedAt + t)) 0
+  unfolding keep
+  fed-test t h =
+      let blocks : Edge → Bool = λ e. eqb (nth mem (lineAt + e .from)) 0 in
+      let n : nth mem (blockedAt + t) ≡ length (keep blocks (incoming (jobIn mem) t)) = r .blocked t h ∙ add-zero (length (keep blocks (incoming (jobIn mem) t))) in
+      all-same (λ e. has (e .from) (map (λ d. d .task) (earliesIn k mem))) (λ e. not (blocks e)) (incoming (jobIn mem) t)
+      (λ e i. has-placed (s .standing) false (nth mem 3 + 1) (e .from) (omega arith) (rw (tasks-in mem) at (s .standing .job .facts .from-task e (in-incoming (jobIn mem) t e i .0))) ∙ some-test (nth mem (lineAt + e .from)))
+      ∙ sym (none-kept blocks (incoming (jobIn mem) t)) ∙ ap (λ (x : ℕ). eqb x 0) (sym n)
+
+  free-tasks : freeTasks (jobIn mem) (earliesIn k mem) (waitingIn mem) ≡ map (waitingAt mem) (keep (isFree mem) (below (nth mem 0)))
+  unfolding freeTasks
+  free-tasks =
+      let fed : Waiting → Bool = λ w. all (λ e. has (e .from) (map (λ d. d .task) (earliesIn k mem))) (incoming (jobIn mem) (w .task)) in
+      let waits : ℕ → Bool = λ t. eqb (nth mem (lineAt + t)) 0 in
+      let ts = below (nth mem 0) in
+      ap (keep fed) (waiting-map mem) ∙ sym (map-keep (waitingAt mem) fed (keep waits ts))
+      ∙ ap (map (waitingAt mem))
+      (keep-keep (λ t. fed (waitingAt mem t)) waits ts
+      ∙ keep-same (λ t. waits t && fed (waitingAt mem t)) (isFree mem) ts (λ t i. ap (λ (b : Bool). waits t && b) (fed-test t (in-below (nth mem 0) t i))))
+
+  -- A free task has its predecessors placed.
+  pub free-fed : (t : ℕ) → t < nth mem 0 → isFree mem t ≡ true → FedIn t mem
+  free-fed t l f =
+      let z = eqb-true (nth mem (blockedAt + t)) 0 (both (eqb (nth mem (lineAt + t)) 0) (eqb (nth mem (blockedAt + t)) 0) f .1) in
+      fed-none t mem (omega (arith, r .blocked t l))
+
+  pub free-ranked : map (ranked (jobIn mem) (earliesIn k mem)) (freeTasks (jobIn mem) (earliesIn k mem) (waitingIn mem)) ≡ freeIn mem
+  unfolding freeIn ranked
+  free-ranked =
+      let ts = keep (isFree mem) (below (nth mem 0)) in
+      ap (map (ranked (jobIn mem) (earliesIn k mem))) free-tasks
+      ∙ map-map (ranked (jobIn mem) (earliesIn k mem)) (waitingAt mem) ts
+      ∙ map-same (λ t. ranked (jobIn mem) (earliesIn k mem) (waitingAt mem t)) (λ t. (t, nth mem (priorityAt + t))) ts
+      (λ t i.
+      let (a, b) = in-keep (isFree mem) t (below (nth mem 0)) i in
+      let l = in-below (nth mem 0) t a in
+      ap (λ (x : ℕ). (t, x)) (sym (r .priorities t l b ∙ ap (λ (x : ℕ). x + nth mem (levelAt + t)) (top-here s t (free-fed t l b)))))
+
+lines-length : (w k : ℕ) (mem : List ℕ) → length (linesIn w k mem) ≡ k
+unfolding linesIn
+lines-length w zero mem = refl
+lines-length w (suc k) mem = length-append (linesIn w k mem) _ ∙ ap (_+ 1) (lines-length w k mem) ∙ add-one k
+
+module _ {k : ℕ} {mem : List ℕ} (s : Drawn k mem) (h : k < nth mem 0) where
+  -- The lines that are still to be placed.
+  abbrev left : ℕ
+  left = nth mem 0 - (k + 1)
+
+  turns : nth mem 0 - k ≡ suc left
+  turns = omega arith
+
+  pub rest-here : linesIn (nth mem 3 + 1) k mem ++ place (jobIn mem) (nth mem 3) (suc left) (waitingIn mem) (earliesIn k mem) (latesIn k mem) ≡ planFor (jobIn mem) (nth mem 3) .lines
+  rest-here = rw turns at (s .rest)
+
+  pub lines-left : 0 < length (place (jobIn mem) (nth mem 3) (suc left) (waitingIn mem) (earliesIn k mem) (latesIn k mem))
+  unfolding jobIn
+  lines-left =
+      let all = place (jobIn mem) (nth mem 3) (suc left) (waitingIn mem) (earliesIn k mem) (latesIn k mem) in
+      let n : length (linesIn (nth mem 3 + 1) k mem) + length all ≡ nth mem 0 =
+      sym (length-append (linesIn (nth mem 3 + 1) k mem) all) ∙ ap length rest-here ∙ placed-count document01 (jobIn mem) (s .standing .job .facts) in
+      omega (arith, lines-length (nth mem 3 + 1) k mem)
+
+  -- The task that is chosen.
+  module _ (r : Ranked [] mem) (t : ℕ) (e : t ≡ bestOf (nth mem 0) (freeIn mem)) where
+    free : In t (keep (isFree mem) (below (nth mem 0)))
+    unfolding freeIn
+    free =
+        let some = some-free (jobIn mem) (nth mem 3) left (waitingIn mem) (earliesIn k mem) (latesIn k mem) lines-left in
+        let n = length-map (freeTasks (jobIn mem) (earliesIn k mem) (waitingIn mem)) (ranked (jobIn mem) (earliesIn k mem)) in
+        let more : 0 < length (freeIn mem) = rw (← free-ranked s r, n) some in
+        let (x, i, f) = in-map (λ y. y .0) t (freeIn mem) (rw e (best-in (nth mem 0) (freeIn mem) more)) in
+        let (u, o, g) = in-map (λ t. (t, nth mem (priorityAt + t))) x (keep (isFree mem) (below (nth mem 0))) i in
+        let q : u ≡ t = ap (λ y. y .0) g ∙ f in
+        rw q at o
+
+    pub task-below : t < nth mem 0
+    task-below = in-below (nth mem 0) t (in-keep (isFree mem) t (below (nth mem 0)) free .0)
+
+    pub task-waits : nth mem (lineAt + t) ≡ 0
+    task-waits = eqb-true (nth mem (lineAt + t)) 0 (both (eqb (nth mem (lineAt + t)) 0) (eqb (nth mem (blockedAt + t)) 0) (in-keep (isFree mem) t (below (nth mem 0)) free .1) .0)
+
+    pub task-fed : FedIn t mem
+    task-fed = free-fed s r t task-below (in-keep (isFree mem) t (below (nth mem 0)) free .1)
+
+-- With a line for each task the lines are the plan's.
+pub drawn-lines : {mem : List ℕ} → Drawn (nth mem 0) mem → linesIn (nth mem 3 + 1) (nth mem 0) mem ≡ planFor (jobIn mem) (nth mem 3) .lines
+unfolding place
+drawn-lines {mem} s =
+    let none : nth mem 0 - nth mem 0 ≡ 0 = omega arith in
+    sym (append-nil (linesIn (nth mem 3 + 1) (nth mem 0) mem)) ∙ (rw none at (s .rest))

@@ -1,0 +1,201 @@
+-- The edges from link k on are still counted.
+use mathlib.Core.Path.{_≡_}
+use Prim.Native.Nat.{ℕ, _-_, _+_}
+use native.Mathlib.Omega.{arith}
+use borrow.Author.Needs.{needs}
+use lib.ListN.{length-set}
+use mathlib.Core.Logic.{⊎-elim}
+use Rattle.definitions.specs.Lists.{nth}
+use Rattle.mirguneth.specs.Layout.{outNextAt}
+use Rattle.mirguneth.specs.Planning.{Drawn}
+use Rattle.mirguneth.proofs.Held.{Sizes, sizes}
+use Rattle.mirguneth.proofs.ReleaseLaws.{Releasing, release-first, release-done, release-falls, release-some, release-held, release-asks, release-level, release-free}
+use Rattle.mirguneth.proofs.planner.release.Statement.{statement}
+use Rattle.mirguneth.proofs.planner.release.Tie as tie
+
+abbrev Inv-loop : tie.InvT-loop
+Inv-loop mem₀ t v m g k₀ mem k = Sizes mem₀ × ((n : ℕ) × Drawn n mem₀ × Releasing n k mem₀ mem)
+
+abbrev μ-loop : tie.MeasureT-loop
+μ-loop mem₀ t v m g k₀ mem k = k
+
+held : (c : tie.Start Inv-loop μ-loop) → Sizes (c .args .mem .now)
+held c = sizes (c .pre .0 .1 .standing .job)
+
+-- After a turn the edges from the next link on are still counted.
+turned : (c : tie.Joined1 Inv-loop μ-loop)
+    → let l = c .before .before .before .before .loop in
+    let d = c .before .before .before .before .before .before .before .before .before .args .mem .now in
+    Releasing (l .inv .1 .0) (nth d (outNextAt + (l .k - 1))) d (c .if1 .mem)
+turned c =
+    let l = c .before .before .before .before .loop in
+    let (n, s, r) = l .inv .1 in
+    let h = c .before .before .before .loop-test .taken in
+    ⊎-elim
+    (λ w. rw (w .4) (release-free s r h (w .0 .taken) (w .2 .result) (w .2 .ensures .0)))
+    (λ w. rw (w .1) (release-held s r h (w .0 .left)))
+    (c .if1 .came)
+
+-- The next link is as it was.
+linked : (c : tie.Joined1 Inv-loop μ-loop)
+    → let l = c .before .before .before .before .loop in
+    let d = c .before .before .before .before .before .before .before .before .before .args .mem .now in
+    nth (c .if1 .mem) (outNextAt + (l .k - 1)) ≡ nth d (outNextAt + (l .k - 1))
+linked c =
+    let l = c .before .before .before .before .loop in
+    turned c .kept .before (outNextAt + (l .k - 1)) (omega (arith, l .inv .0 .edges-most, l .inv .1 .2 .most))
+
+slice-read-v : tie.Need-slice-read-v Inv-loop μ-loop
+slice-read-v c = search needs
+
+slice-read-m : tie.Need-slice-read-m Inv-loop μ-loop
+slice-read-m c = search needs
+
+add-g : tie.Need-add-g Inv-loop μ-loop
+add-g c = omega (arith, held (c .before .before .before))
+
+add-g-2 : tie.Need-add-g-2 Inv-loop μ-loop
+add-g-2 c = omega (arith, held (c .before .before .before))
+
+mul-g : tie.Need-mul-g Inv-loop μ-loop
+mul-g c = omega (arith, held (c .before .before .before))
+
+add-g-3 : tie.Need-add-g-3 Inv-loop μ-loop
+add-g-3 c = omega (arith, held (c .before .before .before))
+
+add-k : tie.Need-add-k Inv-loop μ-loop
+add-k c = omega (arith, held (c .before .before .before))
+
+mul-k : tie.Need-mul-k Inv-loop μ-loop
+mul-k c = omega (arith, held (c .before .before .before))
+
+slice-read-k : tie.Need-slice-read-k Inv-loop μ-loop
+slice-read-k c = omega (arith, held (c .before .before .before .before))
+
+loop-holds : tie.Need-loop-holds Inv-loop μ-loop
+loop-holds c = (held (c .before .before .before .before), (c .before .before .before .before .pre .0 .0, c .before .before .before .before .pre .0 .1, release-first (c .before .before .before .before .pre .0 .1) (c .before .before .before .before .args .t) (c .before .before .before .before .pre .2) (c .before .before .before .before .pre .1)))
+
+sub-u : tie.Need-sub-u Inv-loop μ-loop
+sub-u c = search needs
+
+add-u : tie.Need-add-u Inv-loop μ-loop
+add-u c = search needs
+
+mul-u : tie.Need-mul-u Inv-loop μ-loop
+mul-u c = search needs
+
+slice-read-u : tie.Need-slice-read-u Inv-loop μ-loop
+slice-read-u c = search needs
+
+add-b : tie.Need-add-b Inv-loop μ-loop
+add-b c = search needs
+
+mul-b : tie.Need-mul-b Inv-loop μ-loop
+mul-b c = search needs
+
+slice-read-b : tie.Need-slice-read-b Inv-loop μ-loop
+slice-read-b c = search needs
+
+sub-b : tie.Need-sub-b Inv-loop μ-loop
+sub-b c = let (n, s, r) = c .before .before .before .loop .inv .1 in omega (arith, release-some s r (c .before .before .loop-test .taken))
+
+add-mem : tie.Need-add-mem Inv-loop μ-loop
+add-mem c = search needs
+
+mul-mem : tie.Need-mul-mem Inv-loop μ-loop
+mul-mem c = search needs
+
+slice-write-mem : tie.Need-slice-write-mem Inv-loop μ-loop
+slice-write-mem c = search needs
+
+top-level-requires : tie.Need-top-level-requires Inv-loop μ-loop
+top-level-requires c κs = let (n, s, r) = c .before .before .before .before .before .loop .inv .1 in release-asks s r (c .before .before .before .before .loop-test .taken) (c .before .if1 .taken)
+
+add-mem-2 : tie.Need-add-mem-2 Inv-loop μ-loop
+add-mem-2 c = search needs
+
+mul-mem-2 : tie.Need-mul-mem-2 Inv-loop μ-loop
+mul-mem-2 c = search needs
+
+slice-read-mem : tie.Need-slice-read-mem Inv-loop μ-loop
+slice-read-mem c = simp length-set (omega arith)
+
+add-mem-3 : tie.Need-add-mem-3 Inv-loop μ-loop
+add-mem-3 c = let (n, s, r) = c .before .before .before .before .before .before .before .loop .inv .1 in omega (arith, release-level s r (c .before .before .before .before .before .before .loop-test .taken) (c .before .before .before .if1 .taken), c .before .top-level .ensures .1)
+
+add-mem-4 : tie.Need-add-mem-4 Inv-loop μ-loop
+add-mem-4 c = search needs
+
+mul-mem-3 : tie.Need-mul-mem-3 Inv-loop μ-loop
+mul-mem-3 c = search needs
+
+slice-write-mem-2 : tie.Need-slice-write-mem-2 Inv-loop μ-loop
+slice-write-mem-2 c = simp length-set (omega arith)
+
+sub-k : tie.Need-sub-k Inv-loop μ-loop
+sub-k c = search needs
+
+add-k-2 : tie.Need-add-k-2 Inv-loop μ-loop
+add-k-2 c = search needs
+
+mul-k-2 : tie.Need-mul-k-2 Inv-loop μ-loop
+mul-k-2 c = search needs
+
+slice-read-k-2 : tie.Need-slice-read-k-2 Inv-loop μ-loop
+slice-read-k-2 c = let l = c .before .before .before .before .before .loop in omega (arith, turned (c .before) .kept .size, l .inv .0 .edges-most, l .inv .0 .size, l .inv .1 .2 .most)
+
+loop-less : tie.Need-loop-less Inv-loop μ-loop
+loop-less c = let (n, s, r) = c .before .before .before .before .before .loop .inv .1 in omega (arith, linked (c .before), release-falls s r (c .before .before .before .before .loop-test .taken))
+
+loop-again : tie.Need-loop-again Inv-loop μ-loop
+loop-again c = let (n, s, r) = c .before .before .before .before .before .loop .inv .1 in (c .before .before .before .before .before .loop .inv .0, (n, s, rw (linked (c .before)) (turned (c .before))))
+
+same-length : tie.Need-same-length Inv-loop μ-loop
+same-length c = c .before .loop .inv .1 .2 .kept .size
+
+returns : tie.Need-returns Inv-loop μ-loop
+returns c = let (n, s, r) = c .before .loop .inv .1 in (r .kept, release-done s r (omega arith))
+
+pub release-spec : {M : Type 1} → statement M
+release-spec =
+    tie.close
+    (tie.spec
+    Inv-loop
+    μ-loop
+    slice-read-v
+    slice-read-m
+    add-g
+    add-g-2
+    mul-g
+    add-g-3
+    add-k
+    mul-k
+    slice-read-k
+    loop-holds
+    sub-u
+    add-u
+    mul-u
+    slice-read-u
+    add-b
+    mul-b
+    slice-read-b
+    sub-b
+    add-mem
+    mul-mem
+    slice-write-mem
+    top-level-requires
+    add-mem-2
+    mul-mem-2
+    slice-read-mem
+    add-mem-3
+    add-mem-4
+    mul-mem-3
+    slice-write-mem-2
+    sub-k
+    add-k-2
+    mul-k-2
+    slice-read-k-2
+    loop-less
+    loop-again
+    same-length
+    returns)

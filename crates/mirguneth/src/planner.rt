@@ -1,0 +1,186 @@
+// The planner: tasks placed one by one on the processors of least early finish.
+ghost use mathlib.Core.Path.{_≡_};
+ghost use mathlib.Core.List.{[], reverse};
+ghost use mathlib.Core.Bool.{false};
+ghost use Prim.Native.Nat.{ℕ, _+_, _*_, _≤_, _<_};
+ghost use lib.ListN.{length};
+ghost use Rattle.definitions.specs.Lists.{nth};
+ghost use Rattle.definitions.specs.Job.{runTime, incoming, outgoing};
+ghost use Rattle.definitions.specs.Times.{later, after};
+ghost use Rattle.mirguneth.specs.Layout.{memorySize, inHeadAt, lineAt, blockedAt, priorityAt, rowAt, farAt};
+ghost use Rattle.mirguneth.specs.Schedule.{jobIn, timeIn, dataIn, Small, JobHeld, KeptOutside, Standing, FedIn};
+ghost use Rattle.mirguneth.specs.Planning.{freeIn, bestOf, earliesIn, latesIn, boxesFor, ClocksHeld, Drawn, Ranked, Tried, Wrote, Begun, Cleared};
+use crate::boxes;
+use crate::clocks::Clocks;
+use crate::levels;
+use crate::links;
+use crate::priority;
+use crate::times;
+
+const LINE: usize = 8712;
+
+const LEVEL: usize = 8200;
+
+const BLOCKED: usize = 8968;
+
+const PRIORITY: usize = 9224;
+
+const OUT_HEAD: usize = 6920;
+
+const OUT_NEXT: usize = 7176;
+
+const ROWS: usize = 9480;
+
+// The early finish of a task on each processor.
+pub struct Finishes {
+    pub at: [u64; 16],
+}
+
+// No task is placed; each has its bottom level for a priority.
+fn clear_tasks(mem: &mut [u64])
+    requires { ⌜ JobHeld (now mem) ⌝ }
+    ensures { λ _. ⌜ KeptOutside lineAt (rowAt 0) (now (mem .entry)) (now (mem .exit)) × Cleared (nth (now (mem .exit)) 0) (now (mem .exit)) ⌝ }
+{
+    let v = mem[0] as usize;
+    let mut t = 0;
+    while t < v {
+        let x = mem[LEVEL + t];
+        mem[LINE + t] = 0;
+        mem[BLOCKED + t] = 0;
+        mem[PRIORITY + t] = x;
+        t += 1;
+    }
+}
+
+// Each edge blocks the task that it enters.
+fn count_blocked(mem: &mut [u64])
+    requires { ⌜ JobHeld (now mem) × ((t : ℕ) → t < nth (now mem) 0 → nth (now mem) (blockedAt + t) ≡ 0) ⌝ }
+    ensures { λ _. ⌜ KeptOutside blockedAt priorityAt (now (mem .entry)) (now (mem .exit)) × ((t : ℕ) → t < nth (now (mem .exit)) 0 → nth (now (mem .exit)) (blockedAt + t) ≡ length (incoming (jobIn (now (mem .exit))) t)) ⌝ }
+{
+    let v = mem[0];
+    let m = mem[1];
+    let e = mem[2] as usize;
+    let g = (4 + (v + m) * (m + 1)) as usize;
+    let mut i = 0;
+    while i < e {
+        let to = (mem[g + i] / 256 % 256) as usize;
+        mem[BLOCKED + to] += 1;
+        i += 1;
+    }
+}
+
+// The early finish of t on each processor.
+fn trial(mem: &[u64], t: usize, clocks: Clocks) -> Finishes
+    requires { ⌜ ((k : ℕ) × Standing k (now mem)) × (t < nth (now mem) 0) × FedIn t (now mem) × (length (clocks .early) ≡ 16) × ((p : ℕ) → p < nth (now mem) 1 → Small 4294967295 (nth (clocks .early) p)) ⌝ }
+    ensures { λ r. ⌜ (length (r .at) ≡ 16) × ((p : ℕ) → p < nth (now (mem .entry)) 1 → timeIn (nth (r .at) p) ≡ after (runTime (jobIn (now (mem .entry))) t p) (later (timeIn (nth (clocks .early) p)) (dataIn false t p (now (mem .entry))))) ⌝ }
+{
+    let m = mem[1] as usize;
+    let early = clocks.early;
+    let mut f = Finishes { at: [0; 16] };
+    let mut p = 0;
+    while p < m {
+        let x = times::finish_at(mem, false, early[p], t, p);
+        f.at[p] = x;
+        p += 1;
+    }
+    f
+}
+
+// Replica c of the line at `a`: on p, with these finishes.
+fn put_replica(mem: &mut [u64], a: usize, c: usize, p: usize, early: u64, late: u64)
+    requires { ⌜ a + (4 + 3 * c) ≤ length (now mem) ⌝ }
+    ensures { λ _. ⌜ Wrote a c p early late (now (mem .entry)) (now (mem .exit)) ⌝ }
+{
+    mem[a + (1 + 3 * c)] = p as u64;
+    mem[a + (2 + 3 * c)] = early;
+    mem[a + (3 + 3 * c)] = late;
+}
+
+// The replicas of line k: t on the processors of least early finish. The answer is the clocks after it.
+fn fill_line(mem: &mut [u64], k: usize, t: usize, at: [u64; 16], clocks: Clocks) -> Clocks
+    requires { ⌜ Tried k t at clocks (now mem) ⌝ }
+    ensures { λ r. ⌜ Begun k t (boxesFor k t (now (mem .entry))) r (now (mem .entry)) (now (mem .exit)) ⌝ }
+{
+    let m = mem[1] as usize;
+    let w = mem[3] as usize + 1;
+    let late = clocks.late;
+    let a = ROWS + k * 25;
+    let mut after = clocks;
+    let mut c = 0;
+    let mut p = 0;
+    while p < m {
+        if boxes::is_chosen(&at, m, w, p) {
+            let x = times::finish_at(&mem[..], true, late[p], t, p);
+            put_replica(mem, a, c, p, at[p], x);
+            let next = after.advance(p, at[p], x);
+            after = next;
+            c += 1;
+        }
+        p += 1;
+    }
+    after
+}
+
+// Line k: t on the processors of least early finish. The answer is the clocks after it.
+fn place_task(mem: &mut [u64], k: usize, t: usize, clocks: Clocks) -> Clocks
+    requires { ⌜ Drawn k (now mem) × Ranked [] (now mem) × (k < nth (now mem) 0) × (t ≡ bestOf (nth (now mem) 0) (freeIn (now mem))) × ClocksHeld clocks (jobIn (now mem)) (earliesIn k (now mem)) (latesIn k (now mem)) ⌝ }
+    ensures { λ r. ⌜ KeptOutside lineAt farAt (now (mem .entry)) (now (mem .exit)) × Drawn (k + 1) (now (mem .exit)) × Ranked (reverse (outgoing (jobIn (now (mem .exit))) t)) (now (mem .exit)) × ClocksHeld r (jobIn (now (mem .exit))) (earliesIn (k + 1) (now (mem .exit))) (latesIn (k + 1) (now (mem .exit))) ⌝ }
+{
+    let f = trial(&mem[..], t, clocks);
+    let at = f.at;
+    let after = fill_line(mem, k, t, at, clocks);
+    mem[ROWS + k * 25] = t as u64;
+    mem[LINE + t] = (k + 1) as u64;
+    after
+}
+
+// The edges that leave t no longer block; a task that becomes free gets its priority.
+fn release(mem: &mut [u64], t: usize)
+    requires { ⌜ ((k : ℕ) × Drawn k (now mem)) × Ranked (reverse (outgoing (jobIn (now mem)) t)) (now mem) × (t < nth (now mem) 0) ⌝ }
+    ensures { λ _. ⌜ KeptOutside blockedAt (rowAt 0) (now (mem .entry)) (now (mem .exit)) × Ranked [] (now (mem .exit)) ⌝ }
+{
+    let v = mem[0];
+    let m = mem[1];
+    let g = (4 + (v + m) * (m + 1)) as usize;
+    let mut k = mem[OUT_HEAD + t] as usize;
+    while k > 0 {
+        let u = (mem[g + (k - 1)] / 256 % 256) as usize;
+        let b = mem[BLOCKED + u] - 1;
+        mem[BLOCKED + u] = b;
+        if b == 0 {
+            let x = priority::top_level(&mem[..], u);
+            mem[PRIORITY + u] = x + mem[LEVEL + u];
+        }
+        k = mem[OUT_NEXT + (k - 1)] as usize;
+    }
+}
+
+// Links, levels and the tables of tasks, before the first line.
+fn prepare(mem: &mut [u64])
+    requires { ⌜ JobHeld (now mem) ⌝ }
+    ensures { λ _. ⌜ KeptOutside inHeadAt memorySize (now (mem .entry)) (now (mem .exit)) × Drawn 0 (now (mem .exit)) × Ranked [] (now (mem .exit)) ⌝ }
+{
+    links::link_edges(mem);
+    levels::settle_levels(mem);
+    priority::fill_far(mem);
+    clear_tasks(mem);
+    count_blocked(mem);
+}
+
+// Draws up the plan of the job in memory.
+pub fn draw_plan(mem: &mut [u64])
+    requires { ⌜ JobHeld (now mem) ⌝ }
+    ensures { λ _. ⌜ KeptOutside inHeadAt memorySize (now (mem .entry)) (now (mem .exit)) × Drawn (nth (now (mem .entry)) 0) (now (mem .exit)) ⌝ }
+{
+    prepare(mem);
+    let v = mem[0] as usize;
+    let mut clocks = Clocks::new();
+    let mut k = 0;
+    while k < v {
+        let t = priority::critical(&mem[..]);
+        let after = place_task(mem, k, t, clocks);
+        clocks = after;
+        release(mem, t);
+        k += 1;
+    }
+}
