@@ -1,21 +1,21 @@
 -- Rows of numbers in a memory, and the rules of C and D lines.
 use mathlib.Core.Path.{_≡_, refl, ap, sym, _∙_}
 use mathlib.Core.List.{List, [], _∷_, _++_, append-nil}
-use mathlib.Core.Bool.{Bool, true, false}
+use mathlib.Core.Bool.{true, false, not}
 use Prim.Native.Nat.{ℕ, zero, suc, _+_, _-_, _*_, _<_, _≤_}
 use native.Mathlib.Omega.{arith}
 use native.Mathlib.Numerals.{add-one}
 use native.Mathlib.Nat.{zero-add, suc-add, suc-mul, mul-le-mul-right}
 use borrow.Author.Tests.{lt-ltb, le-ltb, eq-eqb, ne-eqb}
 use borrow.Rule.Slice.PartMut.{postOf, putMid, take-put}
-use lib.Dec.{ltb}
+use lib.Dec.{ltb, eqb}
 use lib.ListN.{length, getD, take, drop, length-drop, length-append, drop-of-length-le}
 use lib.Seq.{drop-cons, drop-at, take-take, take-nil, length-take-le}
 use Rattle.definitions.specs.Lists.{if_then_else_, nth, any}
 use Rattle.definitions.specs.Text.{firstOf}
 use Rattle.definitions.specs.Job.{outside, runRule, delayRule}
 use Rattle.definitions.proofs.Lists.{either-right}
-use Rattle.mirguneth.specs.Memory.{rows, ruleOf}
+use Rattle.mirguneth.specs.Memory.{rows, ruleOf, strayOf}
 use Rattle.mirguneth.specs.declared.rows.Kind.{Kind}
 use Rattle.mirguneth.specs.declared.rows.Kind.the-variants.{Runs, Delays}
 
@@ -40,28 +40,29 @@ module _ (low high : ℕ) (row : List ℕ) (i : ℕ) where
 
 -- The rules of row i, after the rows in `seen`.
 module _ (seen : List (List ℕ)) (row : List ℕ) (i : ℕ) (l : length seen ≡ i) where
-  pub out-of-turn : (kind : Kind) → (nth row 0 ≡ i → ⊥) → 2 ≡ ruleOf kind seen row
+  pub out-of-turn : (kind : Kind) → not (eqb (nth row 0) i) ≡ true → 2 ≡ ruleOf kind seen row
   unfolding runRule delayRule firstOf
-  out-of-turn Runs h = rw (l, ne-eqb (nth row 0) i h)
-  out-of-turn Delays h = rw (l, ne-eqb (nth row 0) i h)
+  out-of-turn Runs h = rw (l, h)
+  out-of-turn Delays h = rw (l, h)
 
-  module _ (t : nth row 0 ≡ i) where
-    pub run-range : (b : Bool) → b ≡ any (outside 1 1000000) (drop 1 row) → (if b then 3 else 0) ≡ ruleOf Runs seen row
+  module _ (t : not (eqb (nth row 0) i) ≡ false) where
+    pub out-of-range : (kind : Kind) → true ≡ any (strayOf kind) (drop 1 row) → 3 ≡ ruleOf kind seen row
+    unfolding runRule delayRule firstOf
+    out-of-range Runs e = rw (l, t, ← e)
+    out-of-range Delays e = rw (l, t, ← e)
+
+    pub run-good : false ≡ any (strayOf Runs) (drop 1 row) → 0 ≡ ruleOf Runs seen row
     unfolding runRule firstOf
-    run-range b e = rw (l, eq-eqb (nth row 0) i t, e)
+    run-good e = rw (l, t, ← e)
 
-    pub delay-range : true ≡ any (outside 0 255) (drop 1 row) → 3 ≡ ruleOf Delays seen row
-    unfolding delayRule firstOf
-    delay-range e = rw (l, eq-eqb (nth row 0) i t, ← e)
-
-    module _ (e : false ≡ any (outside 0 255) (drop 1 row)) where
+    module _ (e : false ≡ any (strayOf Delays) (drop 1 row)) where
       pub delay-self : (nth row (i + 1) ≡ 0 → ⊥) → 5 ≡ ruleOf Delays seen row
       unfolding delayRule firstOf
-      delay-self h = let c : 1 + length seen ≡ i + 1 = omega arith in rw (c, l, eq-eqb (nth row 0) i t, ← e, ne-eqb (nth row (i + 1)) 0 h)
+      delay-self h = let c : 1 + length seen ≡ i + 1 = omega arith in rw (c, l, t, ← e, ne-eqb (nth row (i + 1)) 0 h)
 
       pub delay-good : nth row (i + 1) ≡ 0 → 0 ≡ ruleOf Delays seen row
       unfolding delayRule firstOf
-      delay-good h = let c : 1 + length seen ≡ i + 1 = omega arith in rw (c, l, eq-eqb (nth row 0) i t, ← e, eq-eqb (nth row (i + 1)) 0 h)
+      delay-good h = let c : 1 + length seen ≡ i + 1 = omega arith in rw (c, l, t, ← e, eq-eqb (nth row (i + 1)) 0 h)
 
 -- A part that ends within the front.
 pub drop-take : (a k : ℕ) (l : List ℕ) → drop a (take (a + k) l) ≡ take k (drop a l)

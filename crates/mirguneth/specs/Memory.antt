@@ -7,7 +7,7 @@ use lib.Dec.{eqb}
 use lib.ListN.{length, take, drop}
 use Rattle.definitions.specs.Lists.{if_then_else_, nth, any}
 use Rattle.definitions.specs.Limits.{document01}
-use Rattle.definitions.specs.Job.{Edge, Job, runRule, delayRule}
+use Rattle.definitions.specs.Job.{Edge, Job, outside, runRule, delayRule}
 use Rattle.mirguneth.specs.declared.rows.Kind.{Kind}
 use Rattle.mirguneth.specs.declared.rows.Kind.the-variants.{Runs, Delays}
 
@@ -36,6 +36,11 @@ jobCells j =
 unfoldable pub rows : ℕ → ℕ → List ℕ → List (List ℕ)
 rows k zero mem = []
 rows k (suc n) mem = rows k n mem ++ take k (drop (n * k) mem) ∷ []
+
+-- What a kind of row does not take: a number outside its range.
+abbrev pub strayOf : Kind → ℕ → Bool
+strayOf Runs = outside 1 (document01 .runTime)
+strayOf Delays = outside 0 (document01 .delay)
 
 -- The rule of a kind of row.
 abbrev pub ruleOf : Kind → List (List ℕ) → List ℕ → ℕ

@@ -8,7 +8,7 @@ ghost use Rattle.definitions.specs.Limits.{document01};
 ghost use Rattle.definitions.specs.Text.{line, lines};
 ghost use Rattle.definitions.specs.Job.{outside};
 ghost use Rattle.text.specs.Told.{told};
-ghost use Rattle.mirguneth.specs.Memory.{rows, ruleOf};
+ghost use Rattle.mirguneth.specs.Memory.{rows, ruleOf, strayOf};
 ghost use Rattle.mirguneth.specs.declared.rows.Kind.the-variants.{Delays};
 use crate::lines;
 use text::Step;
@@ -36,25 +36,32 @@ fn strays(row: &[u64], low: u64, high: u64) -> bool
     false
 }
 
+// Some number of a row, after its first, is outside the range of its kind.
+fn off_range(kind: Kind, row: &[u64]) -> bool
+    ensures { λ r. ⌜ r ≡ any (strayOf kind) (drop 1 (now (row .entry))) ⌝ }
+{
+    match kind {
+        Kind::Runs => strays(row, 1, 1000000),
+        Kind::Delays => strays(row, 0, 255),
+    }
+}
+
 // The number of the refusal of row i, or 0.
 fn check_row(kind: Kind, i: usize, row: &[u64]) -> u64
     requires { ⌜ (0 < length (now row)) × (kind ≡ Delays → i + 1 < length (now row)) ⌝ }
     ensures { λ r. ⌜ ((seen : List (List ℕ)) → length seen ≡ i → r ≡ ruleOf kind seen (now (row .entry))) ⌝ }
 {
-    if row[0] != i as u64 {
+    let misplaced = row[0] != i as u64;
+    let astray = off_range(kind, row);
+    if misplaced {
         return 2;
     }
+    if astray {
+        return 3;
+    }
     match kind {
-        Kind::Runs => {
-            if strays(row, 1, 1000000) {
-                return 3;
-            }
-            0
-        }
+        Kind::Runs => 0,
         Kind::Delays => {
-            if strays(row, 0, 255) {
-                return 3;
-            }
             if row[i + 1] != 0 {
                 return 5;
             }
