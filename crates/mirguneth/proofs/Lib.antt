@@ -1,4 +1,6 @@
 pub mod LineLaws
+pub mod WalkLaws
+pub mod ReaderLaws
 pub mod RowLaws
 pub mod MarkLaws
 pub mod EdgeLaws

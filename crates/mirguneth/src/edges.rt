@@ -8,7 +8,7 @@ ghost use Rattle.definitions.specs.Text.{lines};
 ghost use Rattle.definitions.specs.Job.{Edge, edgeLine, edgeRule};
 ghost use Rattle.text.specs.Told.{told};
 ghost use Rattle.mirguneth.specs.Memory.{edgeCell, edgeIn, Pairs};
-use crate::lines;
+use crate::reader;
 use text::Step;
 
 // The place of a pair in the table.
@@ -59,7 +59,7 @@ pub fn read_edges(s: &[u8], at: usize, v: u64, n: usize, mem: &mut [u64], pairs:
     let mut i = 0;
     let mut p = at;
     while i < n {
-        match lines::read_line(s, p, b"E,", 3, &mut mem[i..]) {
+        match reader::read_line(s, p, b"E,", 3, &mut mem[i..]) {
             Step::Next(next) => p = next,
             Step::Refused(x) => return Step::Refused(x),
         }

@@ -11,7 +11,7 @@ ghost use Rattle.mirguneth.specs.Answers.{Loaded};
 ghost use Rattle.mirguneth.specs.Stages.{Headed, fromRuns, fromDelays, fromEdges, closed, RunsIn, DelaysIn};
 use crate::circle;
 use crate::edges;
-use crate::lines;
+use crate::reader;
 use crate::rows;
 use crate::rows::Kind;
 use text::Step;
@@ -104,7 +104,7 @@ pub fn load_job(s: &[u8], mem: &mut [u64], pairs: &mut [u8]) -> Step
     if s.len() > 65536 {
         return Step::Refused(1);
     }
-    match lines::read_line(s, 0, b"JOB,", 4, mem) {
+    match reader::read_line(s, 0, b"JOB,", 4, mem) {
         Step::Next(p) => {
             let v = mem[0];
             let m = mem[1];

@@ -14,6 +14,7 @@ mod links;
 mod planner;
 mod plans;
 mod priority;
+mod reader;
 mod replay;
 mod results;
 mod rows;

@@ -51,7 +51,7 @@ fn read_numbers(s: &[u8], at: usize, k: usize, vals: &mut [u64]) -> Step
 }
 
 // A line: its opening and k numbers, kept at the front of `vals`.
-pub fn read_line(s: &[u8], at: usize, opening: &[u8], k: usize, vals: &mut [u64]) -> Step
+pub fn line_at(s: &[u8], at: usize, opening: &[u8], k: usize, vals: &mut [u64]) -> Step
     requires { ⌜ k ≤ length (now vals) ⌝ }
     ensures { λ r. ⌜ told (now (s .entry)) (take k (now (vals .exit))) r ≡ line document01 (now (opening .entry)) k (drop at (now (s .entry))) ⌝ }
 {

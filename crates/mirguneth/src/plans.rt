@@ -16,7 +16,7 @@ ghost use Rattle.text.specs.declared.Step.the-variants.{Next};
 ghost use Rattle.mirguneth.specs.Layout.{memorySize, lineAt, blockedAt, farAt};
 ghost use Rattle.mirguneth.specs.Schedule.{jobIn, linesIn, JobHeld, RowHeld, LinkedIn, KeptOutside, Standing};
 ghost use Rattle.mirguneth.specs.Loading.{lineIn, PlanLoaded};
-use crate::lines;
+use crate::reader;
 use text::Step;
 
 const BEST: usize = 8968;
@@ -185,7 +185,7 @@ fn read_plan_lines(s: &[u8], at: usize, mem: &mut [u64]) -> Step
     while k < v {
         let a = ROWS + k * 25;
         let b = a + n;
-        match lines::read_line(s, p, b"T,", n, &mut mem[a..b]) {
+        match reader::read_line(s, p, b"T,", n, &mut mem[a..b]) {
             Step::Next(next) => p = next,
             Step::Refused(x) => return Step::Refused(x),
         }
@@ -209,7 +209,7 @@ pub fn load_plan(s: &[u8], mem: &mut [u64]) -> Step
         return Step::Refused(1);
     }
     let mut head = [0u64; 5];
-    match lines::read_line(s, 0, b"PLAN,", 5, &mut head) {
+    match reader::read_line(s, 0, b"PLAN,", 5, &mut head) {
         Step::Refused(x) => Step::Refused(x),
         Step::Next(p) => {
             let x = check_head(&mem[..], &head);

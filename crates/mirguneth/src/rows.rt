@@ -10,7 +10,7 @@ ghost use Rattle.definitions.specs.Job.{outside};
 ghost use Rattle.text.specs.Told.{told};
 ghost use Rattle.mirguneth.specs.Memory.{rows, ruleOf, strayOf};
 ghost use Rattle.mirguneth.specs.declared.rows.Kind.the-variants.{Delays};
-use crate::lines;
+use crate::reader;
 use text::Step;
 
 // C lines, with run times, or D lines, with delays.
@@ -88,7 +88,7 @@ pub fn read_rows(
     while i < n {
         let a = i * k;
         let b = a + k;
-        match lines::read_line(s, p, opening, k, &mut mem[a..]) {
+        match reader::read_line(s, p, opening, k, &mut mem[a..]) {
             Step::Next(next) => p = next,
             Step::Refused(x) => return Step::Refused(x),
         }

@@ -11,7 +11,7 @@ ghost use Rattle.definitions.specs.Stops.{Stop, stopLine, stopRule, readStops};
 ghost use Rattle.definitions.proofs.Facts.{afterLast};
 ghost use Rattle.mirguneth.specs.Schedule.{neverCell};
 ghost use Rattle.mirguneth.specs.Loading.{StopsLoaded};
-use crate::lines;
+use crate::reader;
 use text::Step;
 
 const NEVER: u64 = 18446744073709551615;
@@ -41,7 +41,7 @@ fn read_stop_lines(s: &[u8], m: u64, stops: &mut [u64]) -> Step
     let mut least = 0;
     let mut p = 0;
     while p < s.len() {
-        match lines::read_line(s, p, b"S,", 2, &mut line) {
+        match reader::read_line(s, p, b"S,", 2, &mut line) {
             Step::Refused(x) => return Step::Refused(x),
             Step::Next(next) => p = next,
         }

@@ -22,7 +22,7 @@ use Rattle.mirguneth.proofs.edges.read_edges.Lts as lts
 use Rattle.mirguneth.proofs.edges.cell_of.Reads as cell-of-reads
 use Rattle.mirguneth.proofs.edges.check_edge.Reads as check-edge-reads
 use Rattle.mirguneth.proofs.edges.pair_at.Reads as pair-at-reads
-use Rattle.mirguneth.proofs.lines.read_line.Reads as read-line-reads
+use Rattle.mirguneth.proofs.reader.read_line.Reads as read-line-reads
 
 abbrev Inv-loop : tie.InvT-loop
 Inv-loop s at v n mem₀ pairs₀ i₀ p₀ t16 mem pairs i p =

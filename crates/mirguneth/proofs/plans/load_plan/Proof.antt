@@ -15,7 +15,7 @@ use Rattle.mirguneth.proofs.plans.load_plan.Statement.{statement}
 use Rattle.mirguneth.proofs.plans.load_plan.Tie as tie
 use Rattle.mirguneth.proofs.plans.load_plan.Reads as reads
 use Rattle.mirguneth.proofs.plans.load_plan.Lts as lts
-use Rattle.mirguneth.proofs.lines.read_line.Reads as read-line-reads
+use Rattle.mirguneth.proofs.reader.read_line.Reads as read-line-reads
 use Rattle.mirguneth.proofs.plans.check_head.Reads as check-head-reads
 use Rattle.mirguneth.proofs.plans.clear_lines.Reads as clear-lines-reads
 use Rattle.mirguneth.proofs.plans.read_plan_lines.Reads as read-plan-lines-reads

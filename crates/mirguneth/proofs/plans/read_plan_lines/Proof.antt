@@ -13,7 +13,7 @@ use Rattle.mirguneth.proofs.plans.read_plan_lines.Statement.{statement}
 use Rattle.mirguneth.proofs.plans.read_plan_lines.Tie as tie
 use Rattle.mirguneth.proofs.plans.read_plan_lines.Reads as reads
 use Rattle.mirguneth.proofs.plans.read_plan_lines.Lts as lts
-use Rattle.mirguneth.proofs.lines.read_line.Reads as read-line-reads
+use Rattle.mirguneth.proofs.reader.read_line.Reads as read-line-reads
 use Rattle.mirguneth.proofs.plans.check_line.Reads as check-line-reads
 
 abbrev Inv-loop : tie.InvT-loop

@@ -17,7 +17,7 @@ use Rattle.mirguneth.proofs.rows.read_rows.Statement.{statement}
 use Rattle.mirguneth.proofs.rows.read_rows.Tie as tie
 use Rattle.mirguneth.proofs.rows.read_rows.Reads as reads
 use Rattle.mirguneth.proofs.rows.read_rows.Lts as lts
-use Rattle.mirguneth.proofs.lines.read_line.Reads as read-line-reads
+use Rattle.mirguneth.proofs.reader.read_line.Reads as read-line-reads
 use Rattle.mirguneth.proofs.rows.check_row.Reads as check-row-reads
 
 abbrev Inv-loop : tie.InvT-loop

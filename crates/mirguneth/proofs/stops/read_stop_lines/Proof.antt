@@ -11,7 +11,7 @@ use Rattle.mirguneth.proofs.stops.read_stop_lines.Statement.{statement}
 use Rattle.mirguneth.proofs.stops.read_stop_lines.Tie as tie
 use Rattle.mirguneth.proofs.stops.read_stop_lines.Reads as reads
 use Rattle.mirguneth.proofs.stops.read_stop_lines.Lts as lts
-use Rattle.mirguneth.proofs.lines.read_line.Reads as read-line-reads
+use Rattle.mirguneth.proofs.reader.read_line.Reads as read-line-reads
 use Rattle.mirguneth.proofs.stops.check_stop.Reads as check-stop-reads
 
 abbrev Inv-loop : tie.InvT-loop

@@ -6,10 +6,10 @@ use borrow.Author.Needs.{needs}
 use lib.ListN.{length, getD, take, drop, set, length-set}
 use Rattle.text.specs.Told.{told}
 use Rattle.mirguneth.proofs.LineLaws.{line-open, line-no}
-use Rattle.mirguneth.proofs.lines.read_line.Statement.{statement}
-use Rattle.mirguneth.proofs.lines.read_line.Tie as tie
-use Rattle.mirguneth.proofs.lines.read_line.Reads as reads
-use Rattle.mirguneth.proofs.lines.read_line.Lts as lts
+use Rattle.mirguneth.proofs.lines.line_at.Statement.{statement}
+use Rattle.mirguneth.proofs.lines.line_at.Tie as tie
+use Rattle.mirguneth.proofs.lines.line_at.Reads as reads
+use Rattle.mirguneth.proofs.lines.line_at.Lts as lts
 use Rattle.mirguneth.proofs.lines.read_numbers.Reads as read-numbers-reads
 use Rattle.text.proofs.read_fixed.Reads as read-fixed-reads
 
@@ -34,8 +34,8 @@ returns c = c .before .before .read-numbers .ensures ∙ line-open _ _ _ _ _ (sy
 returns-2 : tie.Need-returns-2
 returns-2 c = line-no _ _ _ _ _ (sym (c .before .before .before .read-fixed .ensures) ∙ ap (told (c .before .before .before .before .before .before .before .args .s .now) tt) (c .before .n .given .1))
 
-pub read-line-spec : {M : Type 1} → statement M
-read-line-spec =
+pub line-at-spec : {M : Type 1} → statement M
+line-at-spec =
     tie.close
     (tie.spec
     read-fixed-requires
