@@ -1,35 +1,37 @@
--- Ticks that are the equations', line by line; the clocks; and the ends of a plan whose ticks are.
+-- Ticks that are the equations', line by line; the clocks; and the walk over lines whose ticks are.
 use mathlib.Core.Path.{_≡_, refl, ap, _∙_, sym}
 use mathlib.Core.Logic.{inl, inr, ⊎-elim}
-use mathlib.Core.List.{List, [], _∷_, _++_, map, map-append, map-map, append-assoc, append-nil, reverse, reverseAux, reverse-append, reverse-reverse, reverse-cons}
+use mathlib.Core.List.{List, [], _∷_, _++_, map, map-append, map-map, append-assoc, append-nil, reverse, reverseAux, reverse-append, reverse-reverse}
 use mathlib.Core.Bool.{Bool, true, false}
 use Prim.Native.Nat.{ℕ, zero, suc, _+_, _*_, _<_, _≤_}
 use native.Mathlib.Omega.{arith}
 use native.Mathlib.Numerals.{add-one}
-use borrow.Author.Tests.{eqb-true, eq-eqb, ne-eqb}
+use borrow.Author.Tests.{eqb-true}
 use lib.Dec.{eqb}
-use lib.ListN.{length, length-append, length-map, take, drop, set, length-set, replicate, length-replicate, getD-replicate}
-use lib.Seq.{take-at, drop-at, getD-set-same, getD-set-other}
+use lib.ListN.{length, length-append, length-map, take, drop, set, length-set, replicate}
+use lib.Seq.{take-at, drop-at}
 use Rattle.definitions.specs.Lists.{if_then_else_, nth, In, distinct}
 use Rattle.definitions.specs.Limits.{document01}
 use Rattle.definitions.specs.Job.{Edge, Job, runTime, incoming}
 use Rattle.definitions.specs.Plan.{Replica, Line, processorsOf}
 use Rattle.definitions.specs.Times.{Time, tick, never, later, after, Copy, Outcome, outcome, times, ready, stopTime, finish, walk, copiesOf, copies, earlies, lates}
 use Rattle.definitions.specs.Refusals.{doubledTasks, replicasOf, ticksAgree}
-use Rattle.definitions.proofs.Lists.{both, both-true, in-append, append-left, append-right, map-same}
+use Rattle.definitions.proofs.Lists.{both, both-true, in-append, map-same}
 use Rattle.definitions.proofs.Tasks.{copyOf}
 use Rattle.definitions.proofs.Guarantee.{same-times, times-same}
 use Rattle.mirguneth.specs.Layout.{lineAt, rowAt}
 use Rattle.mirguneth.specs.Schedule.{jobIn, neverCell, timeIn, choiceOf, rowOutcomes, placedIn, rowReplicas, linesIn, dataIn, Small, JobHeld, Standing, FedIn}
 use Rattle.mirguneth.specs.Planning.{ClocksHeld}
-use Rattle.mirguneth.specs.Loading.{planIn}
+use Rattle.mirguneth.specs.Loading.{lineIn, planIn}
 use Rattle.mirguneth.specs.Checking.{PlanHeld, ClocksAfter, finishIn, AgreesTo, LineAgrees}
 use Rattle.mirguneth.specs.declared.clocks.Clocks.{Clocks}
-use Rattle.mirguneth.proofs.Held.{last-or-before, equal-or-not, processors-in, sizes}
+use Rattle.mirguneth.proofs.Held.{last-or-before, processors-in, sizes}
 use Rattle.mirguneth.proofs.TimeLaws.{time-tick}
 use Rattle.mirguneth.proofs.Placed.{FedBy, start-placed}
-use Rattle.mirguneth.proofs.DrawLaws.{outcomeOn, walk-apart, Comes}
-use Rattle.mirguneth.proofs.CheckLaws.{lineIn, line-among, line-facts, doubled-in}
+use Rattle.mirguneth.proofs.DrawLaws.{outcomeOn, walk-apart}
+use Rattle.mirguneth.proofs.Drawing.{replicaAt, in-replicas, outcomeOf, outcomes-row, AllCome, placed-come, ready-comes, clock-more}
+use Rattle.mirguneth.proofs.OutsetLaws.{outset-clocks}
+use Rattle.mirguneth.proofs.CheckLaws.{line-among, line-facts, doubled-in}
 
 -- Cells and times ---------------------------------------------------------------------------------------------------
 
@@ -45,11 +47,7 @@ time-cell x y e = by (eqb x neverCell) refl (eqb y neverCell) refl e
 
 -- The replicas of a line --------------------------------------------------------------------------------------------
 
--- Replica c of the line at a.
-abbrev replicaAt : ℕ → ℕ → List ℕ → Replica
-replicaAt a c mem = record { processor = nth mem (a + (1 + 3 * c)); early = nth mem (a + (2 + 3 * c)); late = nth mem (a + (3 + 3 * c)) }
-
--- Its early or late tick.
+-- The early or late tick of a replica.
 abbrev written : Bool → Replica → ℕ
 written late r = if late then r .late else r .early
 
@@ -60,15 +58,6 @@ written-at : (late : Bool) (a c : ℕ) (mem : List ℕ) → written late (replic
 written-at true a c mem = refl
 written-at false a c mem = refl
 
-in-replicas : (a n c : ℕ) (mem : List ℕ) → c < n → In (replicaAt a c mem) (rowReplicas a n mem)
-unfolding rowReplicas
-in-replicas a zero c mem h = absurd (omega arith)
-in-replicas a (suc n) c mem h =
-    ⊎-elim
-    (λ (e : c ≡ n). append-right (replicaAt a c mem) (rowReplicas a n mem) (replicaAt a n mem ∷ []) (rw e (inl refl)))
-    (λ (l : c < n). append-left (replicaAt a c mem) (rowReplicas a n mem) (replicaAt a n mem ∷ []) (in-replicas a n c mem l))
-    (last-or-before n c h)
-
 replicas-in : (a n : ℕ) (mem : List ℕ) (r : Replica) → In r (rowReplicas a n mem) → (c : ℕ) × (c < n) × (replicaAt a c mem ≡ r)
 unfolding rowReplicas
 replicas-in a (suc n) mem r i =
@@ -77,17 +66,8 @@ replicas-in a (suc n) mem r i =
     (⊎-elim (λ e. (n, omega arith, e)) absurd)
     (in-append r (rowReplicas a n mem) (replicaAt a n mem ∷ []) i)
 
--- The outcome of a replica.
-abbrev outcomeOf : Bool → ℕ → Replica → Outcome
-outcomeOf late t r = record { task = t; processor = r .processor; time = timeIn (written late r) }
-
-outcomes-row : (late : Bool) (a c : ℕ) (mem : List ℕ) → map (outcomeOf late (nth mem a)) (rowReplicas a c mem) ≡ reverse (rowOutcomes late a c mem)
-unfolding rowOutcomes rowReplicas
-outcomes-row late a zero mem = refl
-outcomes-row late a (suc c) mem =
-    let f = outcomeOf late (nth mem a) in
-    rw (map-append f (rowReplicas a c mem) (replicaAt a c mem ∷ []), written-at late a c mem, outcomes-row late a c mem)
-    (sym (reverse-cons (record { task = nth mem a; processor = nth mem (a + (1 + 3 * c)); time = timeIn (cellOf late a c mem) }) (rowOutcomes late a c mem)))
+outcomes-line : (late : Bool) (a c : ℕ) (mem : List ℕ) → map (outcomeOf late (nth mem a)) (rowReplicas a c mem) ≡ reverse (rowOutcomes late a c mem)
+outcomes-line late a c mem = sym (ap reverse (outcomes-row late a c mem) ∙ reverse-reverse (map (outcomeOf late (nth mem a)) (rowReplicas a c mem)))
 
 -- A line of a plan that was read ------------------------------------------------------------------------------------
 
@@ -114,7 +94,7 @@ module _ {mem : List ℕ} (h : PlanHeld mem) (k : ℕ) (l : k < nth mem 0) where
   unfolding planIn
   ticks-most late c g =
       let w = nth mem 3 + 1 in
-      let (e, x) = h .facts .ticks-most (lineIn w k mem) (line-among w k (nth mem 0) mem l) (replicaAt (rowAt k) c mem) (in-replicas (rowAt k) w c mem g) in
+      let (e, x) = h .facts .ticks-most (lineIn (rowAt k) mem) (line-among k (nth mem 0) mem l) (replicaAt (rowAt k) c mem) (in-replicas (rowAt k) w c mem g) in
       by late e x
     where
       by : (late : Bool) → nth mem (rowAt k + (2 + 3 * c)) ≤ document01 .tick → nth mem (rowAt k + (3 + 3 * c)) ≤ document01 .tick → cellOf late (rowAt k) c mem ≤ document01 .tick
@@ -126,31 +106,9 @@ module _ {mem : List ℕ} (h : PlanHeld mem) (k : ℕ) (l : k < nth mem 0) where
 
 -- The clocks --------------------------------------------------------------------------------------------------------
 
--- Every outcome comes by a tick that does not pass b.
-abbrev AllCome : ℕ → List Outcome → Type 0
-AllCome b ds = (d : Outcome) → In d ds → Comes b (d .time)
-
-ready-comes : (j : Job) (p b : ℕ) (ds : List Outcome) → AllCome b ds → Comes b (ready j p ds)
-unfolding ready
-ready-comes j p b [] h = (0, refl, omega arith)
-ready-comes j p b (d ∷ ds) h = by (eqb (d .processor) p) (ready-comes j p b ds (λ x i. h x (inr i)))
-  where
-    by : (a : Bool) → Comes b (ready j p ds) → Comes b (if a then d .time else ready j p ds)
-    by true r = h d (inl refl)
-    by false r = r
-
-row-comes : (late : Bool) (a c b : ℕ) (mem : List ℕ) → b < neverCell → ((i : ℕ) → i < c → cellOf late a i mem ≤ b) → AllCome b (rowOutcomes late a c mem)
-unfolding rowOutcomes
-row-comes late a (suc c) b mem g h d (inl e) = rw (← e) (let l = h c (omega arith) in (cellOf late a c mem, time-tick (cellOf late a c mem) (λ n. omega arith), l))
-row-comes late a (suc c) b mem g h d (inr i) = row-comes late a c b mem g (λ i l. h i (omega arith)) d i
-
 module _ {mem : List ℕ} (h : PlanHeld mem) where
   placed-comes : (late : Bool) (k : ℕ) → k ≤ nth mem 0 → AllCome (document01 .tick) (placedIn late (nth mem 3 + 1) k mem)
-  unfolding placedIn
-  placed-comes late (suc k) l d i =
-      let w = nth mem 3 + 1 in
-      ⊎-elim (row-comes late (rowAt k) w (document01 .tick) mem (omega arith) (ticks-most h k (omega arith) late) d) (placed-comes late k (omega arith) d)
-      (in-append d (rowOutcomes late (rowAt k) w mem) (placedIn late w k mem) i)
+  placed-comes late k l = placed-come late (nth mem 3 + 1) k (document01 .tick) mem (omega arith) (λ i c g m. ticks-most h i (omega arith) late c m)
 
   -- A processor's ready tick is in range.
   pub ready-most : (late : Bool) (k p x : ℕ) → k ≤ nth mem 0 → tick x ≡ ready (jobIn mem) p (placedIn late (nth mem 3 + 1) k mem) → x ≤ document01 .tick
@@ -163,25 +121,8 @@ module _ {mem : List ℕ} (h : PlanHeld mem) where
 -- At first all processors are ready at 0.
 pub clocks-new : (clocks : Clocks) (mem : List ℕ) → JobHeld mem → clocks .early ≡ replicate 16 0 → clocks .late ≡ replicate 16 0
     → ClocksAfter 0 mem clocks
-unfolding placedIn ready
-clocks-new clocks mem h e f =
-    let most : (p : ℕ) → p < jobIn mem .processors → p < 16 = λ p l. omega (arith, h .facts .processors-most) in
-    record {
-      early-size = ap length e ∙ length-replicate {A = ℕ} 16 0;
-      late-size = ap length f ∙ length-replicate {A = ℕ} 16 0;
-      early-ready = λ p l. rw e (ap tick (getD-replicate 16 p 0 0 (most p l)));
-      late-ready = λ p l. rw f (ap tick (getD-replicate 16 p 0 0 (most p l)));
-    }
-
--- One replica more on p: its processor's clock is its finish.
-clock-next : (j : Job) (ds : List Outcome) (d : Outcome) (cs : List ℕ) (p x : ℕ) → p < length cs → d .processor ≡ p → d .time ≡ tick x
-    → (q : ℕ) → tick (nth cs q) ≡ ready j q ds → tick (nth (set cs p x) q) ≡ ready j q (d ∷ ds)
-unfolding ready
-clock-next j ds d cs p x l e f q h =
-    ⊎-elim
-    (λ (g : q ≡ p). rw (eq-eqb (d .processor) q (e ∙ sym g), f, g) (ap tick (getD-set-same cs p x 0 l)))
-    (λ (n : q ≡ p → ⊥). rw (ne-eqb (d .processor) q (λ g. n (sym g ∙ e))) (ap tick (getD-set-other cs p q x 0 n) ∙ h))
-    (equal-or-not q p)
+unfolding placedIn
+clocks-new clocks mem h e f = outset-clocks (h .facts .processors-most) e f
 
 module _ {mem : List ℕ} (h : PlanHeld mem) (k : ℕ) (l : k < nth mem 0) where
   abbrev after-row : Bool → ℕ → List Outcome
@@ -208,8 +149,8 @@ module _ {mem : List ℕ} (h : PlanHeld mem) (k : ℕ) (l : k < nth mem 0) where
       (record {
         early-size = ap length e ∙ length-set (clocks .early) p x ∙ s .early-size;
         late-size = ap length f ∙ length-set (clocks .late) p y ∙ s .late-size;
-        early-ready = λ q o. rw e (clock-next (jobIn mem) (after-row false c) _ (clocks .early) p x (omega (arith, s .early-size)) refl (tick-in h k l false c g) q (s .early-ready q o));
-        late-ready = λ q o. rw f (clock-next (jobIn mem) (after-row true c) _ (clocks .late) p y (omega (arith, s .late-size)) refl (tick-in h k l true c g) q (s .late-ready q o));
+        early-ready = λ q o. rw e (clock-more (jobIn mem) (clocks .early) (after-row false c) _ x (s .early-size) (omega arith) (tick-in h k l false c g) q (s .early-ready q o));
+        late-ready = λ q o. rw f (clock-more (jobIn mem) (clocks .late) (after-row true c) _ y (s .late-size) (omega arith) (tick-in h k l true c g) q (s .late-ready q o));
       })
 
   pub clocks-done : (clocks : Clocks) (c : ℕ) → c ≡ nth mem 3 + 1 → ClocksHeld clocks (jobIn mem) (after-row false c) (after-row true c)
@@ -345,7 +286,7 @@ module _ {mem : List ℕ} (h : PlanHeld mem) (one : doubledTasks (planIn mem .li
   wide = nth mem 3 + 1
 
   abbrev line : ℕ → Line
-  line k = lineIn wide k mem
+  line k = lineIn (rowAt k) mem
 
   -- The copies of line k, after the lines before it as they are written.
   abbrev lineWalk : Bool → ℕ → List Outcome
@@ -364,7 +305,7 @@ module _ {mem : List ℕ} (h : PlanHeld mem) (one : doubledTasks (planIn mem .li
     where
       by : (b : Bool) → distinct (processorsOf (line k)) ≡ b → b ≡ true
       by true d = refl
-      by false d = let i : In (line k .task) [] = rw one at (doubled-in (line k) (linesIn wide (nth mem 0) mem) (line-among wide k (nth mem 0) mem l) (rw d refl)) in absurd i
+      by false d = let i : In (line k .task) [] = rw one at (doubled-in (line k) (linesIn wide (nth mem 0) mem) (line-among k (nth mem 0) mem l) (rw d refl)) in absurd i
 
   line-walk : (late : Bool) (k : ℕ) → k < nth mem 0 → lineWalk late k ≡ map (λ r. outcomeOn (jobIn mem) (choiceOf late) (placedIn late wide k mem) (line k .task) (r .processor)) (line k .replicas)
   line-walk late k l =
@@ -378,7 +319,7 @@ module _ {mem : List ℕ} (h : PlanHeld mem) (one : doubledTasks (planIn mem .li
       ∙ map-same (λ r. outcomeOn (jobIn mem) (choiceOf late) (placedIn late wide k mem) (line k .task) (r .processor)) (outcomeOf late (line k .task)) (line k .replicas)
       (λ r i. let (c, g, e) = replicas-in (rowAt k) wide mem r i in
       rw (← e) (ap (outcome (copyOf (jobIn mem) (line k .task) (nth mem (rowAt k + (1 + 3 * c))))) (a late c g ∙ ap timeIn (sym (written-at late (rowAt k) c mem)))))
-      ∙ outcomes-row late (rowAt k) wide mem
+      ∙ outcomes-line late (rowAt k) wide mem
 
   -- Lines whose ticks are the equations' walk to what is written.
   pub agreed-walk : (late : Bool) (k : ℕ) → k ≤ nth mem 0 → ((i : ℕ) → i < k → LineAgrees i mem) → linesWalk late k ≡ reverse (placedIn late wide k mem)

@@ -17,9 +17,10 @@ use Rattle.definitions.proofs.Facts.{Ordered, LineFacts}
 use Rattle.definitions.proofs.Tasks.{lineTasks}
 use Rattle.mirguneth.specs.Layout.{rowAt}
 use Rattle.mirguneth.specs.Schedule.{jobIn, rowReplicas, linesIn}
-use Rattle.mirguneth.specs.Loading.{planIn}
-use Rattle.mirguneth.specs.Checking.{PlanHeld, rowProcessors}
+use Rattle.mirguneth.specs.Loading.{lineIn, planIn}
+use Rattle.mirguneth.specs.Checking.{PlanHeld}
 use Rattle.mirguneth.proofs.Held.{last-or-before}
+use Rattle.mirguneth.proofs.PlanLaws.{in-tasks-row}
 
 -- Numbers that do not descend, and numbers that differ --------------------------------------------------------------
 
@@ -53,6 +54,10 @@ distinct-last (x ∷ xs) y d n =
     head-apart x (xs ++ y ∷ []) (λ i. ⊎-elim m (⊎-elim (λ q. n (inl (sym q))) (λ i. i)) (in-append x xs (y ∷ []) i)) (distinct-last xs y e (λ i. n (inr i)))
 
 -- The processors of a line ------------------------------------------------------------------------------------------
+
+-- The processors of the first c replicas of the line at a.
+unfoldable pub rowProcessors : ℕ → ℕ → List ℕ → List ℕ
+rowProcessors a c mem = map (λ r. r .processor) (rowReplicas a c mem)
 
 module _ (a : ℕ) (mem : List ℕ) where
   abbrev on : ℕ → ℕ
@@ -94,10 +99,11 @@ module _ (a : ℕ) (mem : List ℕ) where
   on-next : (c : ℕ) → nth mem (a + (4 + 3 * c)) ≡ on (suc c)
   on-next c = let e : 4 + 3 * c ≡ 1 + 3 * suc c = omega arith in rw e
 
-  module _ (w c : ℕ) (l : c + 1 < w) where
-    pub rising-next : descends (rowProcessors a w mem) ≡ false → (on c ≡ nth mem (a + (4 + 3 * c)) → ⊥) → Rising c → Rising (c + 1)
+  module _ (c : ℕ) (l : c + 1 < nth mem 3 + 1) where
+    pub rising-next : descends (processorsOf (lineIn a mem)) ≡ false → (on c ≡ nth mem (a + (4 + 3 * c)) → ⊥) → Rising c → Rising (c + 1)
+    unfolding rowProcessors
     rising-next h n r =
-        let up = ascends w c h (omega arith) in
+        let up = ascends (nth mem 3 + 1) c h (omega arith) in
         let q = on-next c in
         let ps = rowProcessors a (suc c) mem in
         let f : Rising (suc c) =
@@ -108,46 +114,41 @@ module _ (a : ℕ) (mem : List ℕ) where
         rw (add-one c) f
 
     -- Two equal neighbours.
-    pub rising-twice : on c ≡ nth mem (a + (4 + 3 * c)) → true ≡ not (distinct (rowProcessors a w mem))
-    rising-twice e = by (distinct (rowProcessors a w mem)) refl
+    pub rising-twice : on c ≡ nth mem (a + (4 + 3 * c)) → true ≡ not (distinct (processorsOf (lineIn a mem)))
+    unfolding rowProcessors
+    rising-twice e = by (distinct (rowProcessors a (nth mem 3 + 1) mem)) refl
       where
-        by : (b : Bool) → distinct (rowProcessors a w mem) ≡ b → true ≡ not b
+        by : (b : Bool) → distinct (rowProcessors a (nth mem 3 + 1) mem) ≡ b → true ≡ not b
         by false d = refl
         by true d =
             let ps = rowProcessors a c mem in
-            let (_, n) = distinct-front (rowProcessors a (suc c) mem) (on (suc c)) (rw (processors-more (suc c)) at (apart-before w (suc (suc c)) (omega arith) d)) in
+            let (_, n) = distinct-front (rowProcessors a (suc c) mem) (on (suc c)) (rw (processors-more (suc c)) at (apart-before (nth mem 3 + 1) (suc (suc c)) (omega arith) d)) in
             absurd (n (rw (processors-more c) (append-right (on (suc c)) ps (on c ∷ []) (inl (e ∙ on-next c)))))
 
-  pub rising-done : (w c : ℕ) → c < w → w ≤ c + 1 → Rising c → false ≡ not (distinct (rowProcessors a w mem))
-  rising-done w c h l r = let e : w ≡ suc c = omega arith in rw (e, r .apart)
+  pub rising-done : (c : ℕ) → c < nth mem 3 + 1 → nth mem 3 + 1 ≤ c + 1 → Rising c → false ≡ not (distinct (processorsOf (lineIn a mem)))
+  unfolding rowProcessors
+  rising-done c h l r =
+      let e : nth mem 3 + 1 ≡ suc c = omega arith in
+      let d : distinct (rowProcessors a (nth mem 3 + 1) mem) ≡ true = rw e (r .apart) in
+      rw d
 
 -- Line by line ------------------------------------------------------------------------------------------------------
 
--- Line k of a plan in memory.
-abbrev pub lineIn : ℕ → ℕ → List ℕ → Line
-lineIn w k mem = record { task = nth mem (rowAt k); replicas = rowReplicas (rowAt k) w mem }
-
-lines-split : (w k v : ℕ) (mem : List ℕ) → k < v → (ys : List Line) × (linesIn w v mem ≡ linesIn w k mem ++ lineIn w k mem ∷ ys)
+lines-split : (k v : ℕ) (mem : List ℕ) → k < v → (ys : List Line) × (linesIn (nth mem 3 + 1) v mem ≡ linesIn (nth mem 3 + 1) k mem ++ lineIn (rowAt k) mem ∷ ys)
 unfolding linesIn
-lines-split w k zero mem l = absurd (omega arith)
-lines-split w k (suc v) mem l =
+lines-split k zero mem l = absurd (omega arith)
+lines-split k (suc v) mem l =
     ⊎-elim
     (λ (e : k ≡ v). rw (← e) ([], refl))
-    (λ (g : k < v). let (ys, e) = lines-split w k v mem g in (ys ++ lineIn w v mem ∷ [], rw e (append-assoc (linesIn w k mem) (lineIn w k mem ∷ ys) (lineIn w v mem ∷ []))))
+    (λ (g : k < v).
+    let (ys, e) = lines-split k v mem g in
+    (ys ++ lineIn (rowAt v) mem ∷ [], rw e (append-assoc (linesIn (nth mem 3 + 1) k mem) (lineIn (rowAt k) mem ∷ ys) (lineIn (rowAt v) mem ∷ []))))
     (last-or-before v k l)
 
-pub line-among : (w k v : ℕ) (mem : List ℕ) → k < v → In (lineIn w k mem) (linesIn w v mem)
-line-among w k v mem l =
-    let (ys, e) = lines-split w k v mem l in
-    rw e (append-right (lineIn w k mem) (linesIn w k mem) (lineIn w k mem ∷ ys) (inl refl))
-
-lines-tasks : (w k : ℕ) (mem : List ℕ) (u : ℕ) → In u (lineTasks (linesIn w k mem)) → (i : ℕ) × (i < k) × (nth mem (rowAt i) ≡ u)
-unfolding linesIn
-lines-tasks w (suc k) mem u i =
-    ⊎-elim
-    (λ m. let (n, l, e) = lines-tasks w k mem u m in (n, omega arith, e))
-    (⊎-elim (λ e. (k, omega arith, e)) absurd)
-    (in-append u (lineTasks (linesIn w k mem)) (nth mem (rowAt k) ∷ []) (rw (map-append (λ n. n .task) (linesIn w k mem) (lineIn w k mem ∷ [])) at i))
+pub line-among : (k v : ℕ) (mem : List ℕ) → k < v → In (lineIn (rowAt k) mem) (linesIn (nth mem 3 + 1) v mem)
+line-among k v mem l =
+    let (ys, e) = lines-split k v mem l in
+    rw e (append-right (lineIn (rowAt k) mem) (linesIn (nth mem 3 + 1) k mem) (lineIn (rowAt k) mem ∷ ys) (inl refl))
 
 -- Tasks with two copies on one processor ----------------------------------------------------------------------------
 
@@ -172,13 +173,13 @@ module _ (mem : List ℕ) (k : ℕ) where
   unfolding doubledTasks keep linesIn
   doubled-none = refl
 
-  pub doubled-next : false ≡ not (distinct (rowProcessors (rowAt k) (nth mem 3 + 1) mem)) → doubledTasks (linesIn (nth mem 3 + 1) k mem) ≡ [] → doubledTasks (linesIn (nth mem 3 + 1) (k + 1) mem) ≡ []
-  unfolding linesIn rowProcessors
-  doubled-next d e = rw (add-one k) (doubled-more (linesIn (nth mem 3 + 1) k mem) (lineIn (nth mem 3 + 1) k mem) (not-false (distinct (processorsOf (lineIn (nth mem 3 + 1) k mem))) (sym d)) ∙ e)
+  pub doubled-next : false ≡ not (distinct (processorsOf (lineIn (rowAt k) mem))) → doubledTasks (linesIn (nth mem 3 + 1) k mem) ≡ [] → doubledTasks (linesIn (nth mem 3 + 1) (k + 1) mem) ≡ []
+  unfolding linesIn
+  doubled-next d e = rw (add-one k) (doubled-more (linesIn (nth mem 3 + 1) k mem) (lineIn (rowAt k) mem) (not-false (distinct (processorsOf (lineIn (rowAt k) mem))) (sym d)) ∙ e)
 
-  pub doubled-here : k < nth mem 0 → true ≡ not (distinct (rowProcessors (rowAt k) (nth mem 3 + 1) mem)) → In (nth mem (rowAt k)) (doubledTasks (planIn mem .lines))
-  unfolding planIn rowProcessors
-  doubled-here l d = let w = nth mem 3 + 1 in doubled-in (lineIn w k mem) (linesIn w (nth mem 0) mem) (line-among w k (nth mem 0) mem l) d
+  pub doubled-here : k < nth mem 0 → true ≡ not (distinct (processorsOf (lineIn (rowAt k) mem))) → In (nth mem (rowAt k)) (doubledTasks (planIn mem .lines))
+  unfolding planIn
+  doubled-here l d = doubled-in (lineIn (rowAt k) mem) (linesIn (nth mem 3 + 1) (nth mem 0) mem) (line-among k (nth mem 0) mem l) d
 
   pub doubled-done : nth mem 0 ≤ k → k ≤ nth mem 0 → doubledTasks (linesIn (nth mem 3 + 1) k mem) ≡ [] → doubledTasks (planIn mem .lines) ≡ []
   unfolding planIn
@@ -195,14 +196,13 @@ ordered-at j seen (m ∷ ms) n ns (o, os) =
     (us, f, λ u i. ⊎-elim (⊎-elim (λ e. inr (inl e)) inl) (λ k. inr (inr k)) (h u i))
 
 module _ {mem : List ℕ} (h : PlanHeld mem) (k : ℕ) (l : k < nth mem 0) where
-  pub line-facts : (us : List ℕ) × LineFacts (jobIn mem) us (lineIn (nth mem 3 + 1) k mem) × ((u : ℕ) → In u us → (i : ℕ) × (i < k) × (nth mem (rowAt i) ≡ u))
+  pub line-facts : (us : List ℕ) × LineFacts (jobIn mem) us (lineIn (rowAt k) mem) × ((u : ℕ) → In u us → (i : ℕ) × (i < k) × (nth mem (rowAt i) ≡ u))
   unfolding planIn
   line-facts =
       let w = nth mem 3 + 1 in
-      let (ns, e) = lines-split w k (nth mem 0) mem l in
-      let (us, f, m) = ordered-at (jobIn mem) [] (linesIn w k mem) (lineIn w k mem) ns (rw e at (h .facts .ordered)) in
-      (us, f, λ u i. lines-tasks w k mem u (⊎-elim absurd (λ k. k) (m u i)))
+      let (ns, e) = lines-split k (nth mem 0) mem l in
+      let (us, f, m) = ordered-at (jobIn mem) [] (linesIn w k mem) (lineIn (rowAt k) mem) ns (rw e at (h .facts .ordered)) in
+      (us, f, λ u i. in-tasks-row w mem k u (⊎-elim absurd (λ k. k) (m u i)))
 
-  pub line-ascends : descends (rowProcessors (rowAt k) (nth mem 3 + 1) mem) ≡ false
-  unfolding rowProcessors
+  pub line-ascends : descends (processorsOf (lineIn (rowAt k) mem)) ≡ false
   line-ascends = let (us, f, m) = line-facts in f .ascends

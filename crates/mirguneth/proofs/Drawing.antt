@@ -69,7 +69,8 @@ outcomes-row late a (suc c) mem =
 
 -- The ticks of lines ------------------------------------------------------------------------------------------------
 
-abbrev AllCome : ℕ → List Outcome → Type 0
+-- Every outcome comes by a tick that does not pass b.
+abbrev pub AllCome : ℕ → List Outcome → Type 0
 AllCome b ds = (d : Outcome) → In d ds → Comes b (d .time)
 
 time-back : (x b : ℕ) → x ≤ b → b < neverCell → Comes b (timeIn x)
@@ -87,13 +88,13 @@ unfolding rowOutcomes
 row-come late a (suc c) b mem g h d (inl e) = rw (← e) (time-back (nth mem (a + ((if late then 3 else 2) + 3 * c))) b (h c (omega arith)) g)
 row-come late a (suc c) b mem g h d (inr i) = row-come late a c b mem g (λ i l. h i (omega arith)) d i
 
-placed-come : (late : Bool) (w k b : ℕ) (mem : List ℕ) → b < neverCell → ((i c : ℕ) → i < k → c < w → nth mem (rowAt i + ((if late then 3 else 2) + 3 * c)) ≤ b) → AllCome b (placedIn late w k mem)
+pub placed-come : (late : Bool) (w k b : ℕ) (mem : List ℕ) → b < neverCell → ((i c : ℕ) → i < k → c < w → nth mem (rowAt i + ((if late then 3 else 2) + 3 * c)) ≤ b) → AllCome b (placedIn late w k mem)
 unfolding placedIn
 placed-come late w (suc k) b mem g h d i =
     ⊎-elim (row-come late (rowAt k) w b mem g (λ c l. h k c (omega arith) l) d) (placed-come late w k b mem g (λ i c l m. h i c (omega arith) m) d)
     (in-append d (rowOutcomes late (rowAt k) w mem) (placedIn late w k mem) i)
 
-ready-comes : (j : Job) (p b : ℕ) (ds : List Outcome) → AllCome b ds → Comes b (ready j p ds)
+pub ready-comes : (j : Job) (p b : ℕ) (ds : List Outcome) → AllCome b ds → Comes b (ready j p ds)
 unfolding ready
 ready-comes j p b [] h = (0, refl, omega arith)
 ready-comes j p b (d ∷ ds) h = by (eqb (d .processor) p) (ready-comes j p b ds (λ x i. h x (inr i)))
@@ -297,7 +298,7 @@ wrote a c p early late d h =
     }
 
 -- A clock that is set.
-clock-more : (j : Job) (ticks : List ℕ) (ds : List Outcome) (o : Outcome) (x : ℕ) → length ticks ≡ 16 → o .processor < 16 → o .time ≡ tick x
+pub clock-more : (j : Job) (ticks : List ℕ) (ds : List Outcome) (o : Outcome) (x : ℕ) → length ticks ≡ 16 → o .processor < 16 → o .time ≡ tick x
     → (q : ℕ) → tick (nth ticks q) ≡ ready j q ds → tick (nth (set ticks (o .processor) x) q) ≡ ready j q (o ∷ ds)
 unfolding ready
 clock-more j ticks ds o x z h e q g = by (eqb (o .processor) q) refl

@@ -1,6 +1,6 @@
--- What the checker's tests speak of: a plan that was read, its lines' processors and their ticks.
+-- What the checker's tests speak of: a plan that was read, and the ticks of its lines.
 use mathlib.Core.Path.{_≡_}
-use mathlib.Core.List.{List, [], map}
+use mathlib.Core.List.{List, []}
 use mathlib.Core.Bool.{Bool, true, false}
 use Prim.Native.Nat.{ℕ, _+_, _*_, _<_}
 use Rattle.definitions.specs.Lists.{if_then_else_, nth}
@@ -9,7 +9,7 @@ use Rattle.definitions.specs.Times.{Time, finish}
 use Rattle.definitions.proofs.Facts.{PlanFacts}
 use Rattle.definitions.proofs.Tasks.{copyOf}
 use Rattle.mirguneth.specs.Layout.{rowAt}
-use Rattle.mirguneth.specs.Schedule.{jobIn, timeIn, choiceOf, placedIn, rowReplicas, Standing}
+use Rattle.mirguneth.specs.Schedule.{jobIn, timeIn, choiceOf, placedIn, Standing}
 use Rattle.mirguneth.specs.Planning.{ClocksHeld}
 use Rattle.mirguneth.specs.Loading.{planIn}
 use Rattle.mirguneth.specs.declared.clocks.Clocks.{Clocks}
@@ -18,10 +18,6 @@ use Rattle.mirguneth.specs.declared.clocks.Clocks.{Clocks}
 pub record PlanHeld (mem : List ℕ) : Type 0 where
   pub standing : Standing (nth mem 0) mem
   pub facts : PlanFacts document01 (jobIn mem) (planIn mem)
-
--- The processors of the first c replicas of the line at a.
-unfoldable pub rowProcessors : ℕ → ℕ → List ℕ → List ℕ
-rowProcessors a c mem = map (λ r. r .processor) (rowReplicas a c mem)
 
 -- The ready ticks of all processors after the first k lines.
 abbrev pub ClocksAfter : ℕ → List ℕ → Clocks → Type 0

@@ -8,14 +8,14 @@ ghost use lib.ListN.{length};
 ghost use Rattle.definitions.specs.Lists.{nth, In, distinct};
 ghost use Rattle.definitions.specs.Limits.{document01};
 ghost use Rattle.definitions.specs.Text.{good};
-ghost use Rattle.definitions.specs.Plan.{descends};
+ghost use Rattle.definitions.specs.Plan.{processorsOf, descends};
 ghost use Rattle.definitions.specs.Refusals.{doubledTasks, ticksAgree, endsAgree};
 ghost use Rattle.definitions.specs.Tools.{verdictFor};
 ghost use Rattle.mirguneth.specs.Layout.{rowAt};
 ghost use Rattle.mirguneth.specs.Schedule.{jobIn, JobHeld, LinkedOut};
-ghost use Rattle.mirguneth.specs.Loading.{planIn};
+ghost use Rattle.mirguneth.specs.Loading.{lineIn, planIn};
 ghost use Rattle.mirguneth.specs.Answers.{Judged};
-ghost use Rattle.mirguneth.specs.Checking.{PlanHeld, rowProcessors, ClocksAfter, LineAgrees};
+ghost use Rattle.mirguneth.specs.Checking.{PlanHeld, ClocksAfter, LineAgrees};
 use crate::Checked;
 use crate::clocks::Clocks;
 use crate::ends;
@@ -29,8 +29,8 @@ const ROWS: usize = 9480;
 
 // In the line at `a` two replicas are on one processor. Processors do not descend.
 fn doubles(mem: &[u64], a: usize) -> bool
-    requires { ⌜ JobHeld (now mem) × (a + 25 ≤ length (now mem)) × (descends (rowProcessors a (nth (now mem) 3 + 1) (now mem)) ≡ false) ⌝ }
-    ensures { λ r. ⌜ r ≡ not (distinct (rowProcessors a (nth (now (mem .entry)) 3 + 1) (now (mem .entry)))) ⌝ }
+    requires { ⌜ JobHeld (now mem) × (a + 25 ≤ length (now mem)) × (descends (processorsOf (lineIn a (now mem))) ≡ false) ⌝ }
+    ensures { λ r. ⌜ r ≡ not (distinct (processorsOf (lineIn a (now (mem .entry))))) ⌝ }
 {
     let w = mem[3] as usize + 1;
     let mut c = 0;

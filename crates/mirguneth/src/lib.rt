@@ -1,5 +1,8 @@
-// Plans for watering rounds: a reader of jobs.
-ghost use Rattle.mirguneth.specs.Answers.{Answered, jobAnswer};
+// Plans for watering rounds: a reader of jobs and a checker of plans.
+ghost use Rattle.definitions.specs.Claims.{Breaks};
+ghost use Rattle.definitions.specs.Limits.{document01};
+ghost use Rattle.definitions.specs.Tools.{verdict};
+ghost use Rattle.mirguneth.specs.Answers.{Answered, jobAnswer, Judged};
 
 mod boxes;
 mod checker;
@@ -52,5 +55,24 @@ pub fn read_job(text: &[u8], cells: &mut [u64]) -> Answer
             Answer::Done(n)
         }
         Step::Refused(x) => Answer::Refusal(x),
+    }
+}
+
+// Checks a plan's text against its job's.
+pub fn check(job: &[u8], plan: &[u8]) -> Checked
+    ensures { λ r. ⌜ Judged (verdict document01 (now (job .entry)) (now (plan .entry))) r ⌝ }
+    ensures { λ r. ⌜ Breaks (now (job .entry)) (now (plan .entry)) ⌝ }
+{
+    let mut mem = [0u64; 15872];
+    let mut pairs = [0u8; 65536];
+    match job::load_job(job, &mut mem, &mut pairs) {
+        Step::Next(_) => {
+            links::link_edges(&mut mem);
+            match plans::load_plan(plan, &mut mem) {
+                Step::Next(_) => checker::judge(&mem),
+                Step::Refused(x) => Checked::Refused(x),
+            }
+        }
+        Step::Refused(x) => Checked::Refused(x),
     }
 }

@@ -1,8 +1,7 @@
 -- The processors passed differ, and the last of them is the greatest.
-use Prim.Native.Nat.{_<_, _-_, _+_}
+use Prim.Native.Nat.{_<_, _-_}
 use native.Mathlib.Omega.{arith}
 use borrow.Author.Needs.{needs}
-use lib.ListN.{getD}
 use Rattle.mirguneth.proofs.Held.{sizes}
 use Rattle.mirguneth.proofs.CheckLaws.{Rising, rising-first, rising-next, rising-twice, rising-done}
 use Rattle.mirguneth.proofs.checker.doubles.Statement.{statement}
@@ -57,7 +56,7 @@ shared-slice-read-if1-2 : tie.Need-shared-slice-read-if1-2 Inv-loop μ-loop
 shared-slice-read-if1-2 c = let s = sizes (c .before .before .before .before .before .pre .0) in omega arith
 
 returns : tie.Need-returns Inv-loop μ-loop
-returns c = rising-twice (c .before .before .before .before .before .before .args .a) (c .before .before .before .before .before .before .args .mem .now) (getD (c .before .before .before .before .before .before .args .mem .now) 3 0 + 1) (c .before .before .before .before .loop .c) (c .before .before .before .loop-test .taken) (c .if1 .taken)
+returns c = rising-twice (c .before .before .before .before .before .before .args .a) (c .before .before .before .before .before .before .args .mem .now) (c .before .before .before .before .loop .c) (c .before .before .before .loop-test .taken) (c .if1 .taken)
 
 add-c : tie.Need-add-c Inv-loop μ-loop
 add-c c = let s = sizes (c .before .before .before .before .before .before .pre .0) in omega arith
@@ -68,10 +67,10 @@ loop-less c = search needs
 loop-again : tie.Need-loop-again Inv-loop μ-loop
 loop-again c =
     let m = c .before .before .before .before .before .before .args .mem .now in let l = c .before .before .before .before .loop in
-    (omega arith, rising-next (c .before .before .before .before .before .before .args .a) m (getD m 3 0 + 1) (l .c) (c .before .before .before .loop-test .taken) (c .before .before .before .before .before .before .pre .2) (c .if1 .left) (l .inv .1))
+    (omega arith, rising-next (c .before .before .before .before .before .before .args .a) m (l .c) (c .before .before .before .loop-test .taken) (c .before .before .before .before .before .before .pre .2) (c .if1 .left) (l .inv .1))
 
 returns-2 : tie.Need-returns-2 Inv-loop μ-loop
-returns-2 c = let m = c .before .before .before .args .mem .now in let l = c .before .loop in rising-done (c .before .before .before .args .a) m (getD m 3 0 + 1) (l .c) (l .inv .0) (c .loop-test .left) (l .inv .1)
+returns-2 c = let m = c .before .before .before .args .mem .now in let l = c .before .loop in rising-done (c .before .before .before .args .a) m (l .c) (l .inv .0) (c .loop-test .left) (l .inv .1)
 
 pub doubles-spec : {M : Type 1} → statement M
 doubles-spec =
