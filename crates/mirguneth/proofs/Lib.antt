@@ -37,3 +37,5 @@ pub mod NextLine
 pub mod Drawing
 pub mod OutsetLaws
 pub mod ReleaseLaws
+pub mod Loads
+pub mod JobAndPlan

@@ -14,6 +14,7 @@ mod job;
 mod levels;
 mod lines;
 mod links;
+mod loading;
 mod planner;
 mod plans;
 mod priority;
