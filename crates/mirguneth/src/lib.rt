@@ -65,15 +65,8 @@ pub fn check(job: &[u8], plan: &[u8]) -> Checked
     ensures { λ r. ⌜ Breaks (now (job .entry)) (now (plan .entry)) ⌝ }
 {
     let mut mem = [0u64; 15872];
-    let mut pairs = [0u8; 65536];
-    match job::load_job(job, &mut mem, &mut pairs) {
-        Step::Next(_) => {
-            links::link_edges(&mut mem);
-            match plans::load_plan(plan, &mut mem) {
-                Step::Next(_) => checker::judge(&mem),
-                Step::Refused(x) => Checked::Refused(x),
-            }
-        }
+    match loading::load_both(job, plan, &mut mem) {
+        Step::Next(_) => checker::judge(&mem),
         Step::Refused(x) => Checked::Refused(x),
     }
 }
