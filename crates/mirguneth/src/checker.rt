@@ -19,13 +19,10 @@ ghost use Rattle.mirguneth.specs.Checking.{PlanHeld, ClocksAfter, LineAg
 use crate::Checked;
 use crate::clocks::Clocks;
 use crate::ends;
+use crate::layout::BEST;
+use crate::layout::ROWS;
+use crate::layout::WORST;
 use crate::times;
-
-const BEST: usize = 8968;
-
-const WORST: usize = 8969;
-
-const ROWS: usize = 9480;
 
 // In the line at `a` two replicas are on one processor. Processors do not descend.
 fn doubles(mem: &[u64], a: usize) -> bool

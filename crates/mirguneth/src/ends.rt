@@ -5,13 +5,10 @@ ghost use Rattle.definitions.specs.Lists.{if_then_else_, nth, empty};
 ghost use Rattle.definitions.specs.Job.{outgoing};
 ghost use Rattle.definitions.specs.Times.{tick, times, ofTask, end};
 ghost use Rattle.mirguneth.specs.Schedule.{jobIn, timeIn, choiceOf, placedIn, Small, LinkedOut, Standing};
+use crate::layout::LINE;
+use crate::layout::OUT_HEAD;
+use crate::layout::ROWS;
 use crate::times;
-
-const OUT_HEAD: usize = 6920;
-
-const LINE: usize = 8712;
-
-const ROWS: usize = 9480;
 
 // The end of t, if no edge leaves it, else 0. What has no volume is there as soon as it is sent.
 fn exit_time(mem: &[u64], late: bool, t: usize) -> u64

@@ -9,10 +9,8 @@ ghost use Rattle.definitions.specs.Planner.{scaledRun, totalDelay};
 ghost use Rattle.mirguneth.specs.Layout.{levelAt, raisedAt, lineAt};
 ghost use Rattle.mirguneth.specs.Schedule.{jobIn, JobHeld, LevelsFilled, KeptOutside};
 ghost use Rattle.mirguneth.specs.Rounds.{levelsIn, roundMost, levelMost, TableMost, SuccessorsFilled, RunsAdded};
-
-const LEVEL: usize = 8200;
-
-const RAISED: usize = 8456;
+use crate::layout::LEVEL;
+use crate::layout::RAISED;
 
 fn greater(x: u64, y: u64) -> u64
     ensures { λ r. ⌜ r ≡ max x y ⌝ }

@@ -11,6 +11,7 @@ mod clocks;
 mod edges;
 mod ends;
 mod job;
+mod layout;
 mod levels;
 mod lines;
 mod links;

@@ -5,14 +5,10 @@ ghost use lib.ListN.{length};
 ghost use Rattle.definitions.specs.Lists.{nth};
 ghost use Rattle.mirguneth.specs.Layout.{memorySize, inHeadAt, outHeadAt, levelAt};
 ghost use Rattle.mirguneth.specs.Schedule.{JobHeld, LinkedIn, LinkedOut, KeptOutside};
-
-const IN_HEAD: usize = 5640;
-
-const IN_NEXT: usize = 5896;
-
-const OUT_HEAD: usize = 6920;
-
-const OUT_NEXT: usize = 7176;
+use crate::layout::IN_HEAD;
+use crate::layout::IN_NEXT;
+use crate::layout::OUT_HEAD;
+use crate::layout::OUT_NEXT;
 
 // No task has an edge yet.
 fn clear_heads(mem: &mut [u64])

@@ -12,24 +12,17 @@ ghost use Rattle.mirguneth.specs.Schedule.{jobIn, timeIn, dataIn, Small,
 ghost use Rattle.mirguneth.specs.Planning.{freeIn, bestOf, earliesIn, latesIn, boxesFor, ClocksHeld, Drawn, Ranked, Tried, Wrote, Begun, Cleared};
 use crate::boxes;
 use crate::clocks::Clocks;
+use crate::layout::BLOCKED;
+use crate::layout::LEVEL;
+use crate::layout::LINE;
+use crate::layout::OUT_HEAD;
+use crate::layout::OUT_NEXT;
+use crate::layout::PRIORITY;
+use crate::layout::ROWS;
 use crate::levels;
 use crate::links;
 use crate::priority;
 use crate::times;
-
-const LINE: usize = 8712;
-
-const LEVEL: usize = 8200;
-
-const BLOCKED: usize = 8968;
-
-const PRIORITY: usize = 9224;
-
-const OUT_HEAD: usize = 6920;
-
-const OUT_NEXT: usize = 7176;
-
-const ROWS: usize = 9480;
 
 // The early finish of a task on each processor.
 pub struct Finishes {

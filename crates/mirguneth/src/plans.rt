@@ -16,20 +16,14 @@ ghost use Rattle.text.specs.declared.Step.the-variants.{Next};
 ghost use Rattle.mirguneth.specs.Layout.{memorySize, lineAt, blockedAt, farAt};
 ghost use Rattle.mirguneth.specs.Schedule.{jobIn, linesIn, JobHeld, RowHeld, LinkedIn, KeptOutside, Standing};
 ghost use Rattle.mirguneth.specs.Loading.{lineIn, PlanLoaded};
+use crate::layout::BEST;
+use crate::layout::IN_HEAD;
+use crate::layout::IN_NEXT;
+use crate::layout::LINE;
+use crate::layout::ROWS;
+use crate::layout::WORST;
 use crate::reader;
 use text::Step;
-
-const BEST: usize = 8968;
-
-const WORST: usize = 8969;
-
-const LINE: usize = 8712;
-
-const IN_HEAD: usize = 5640;
-
-const IN_NEXT: usize = 5896;
-
-const ROWS: usize = 9480;
 
 const LAST_TICK: u64 = 4294967295;
 

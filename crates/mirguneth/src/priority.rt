@@ -10,20 +10,13 @@ ghost use Rattle.definitions.specs.Planner.{tickOf, scale};
 ghost use Rattle.mirguneth.specs.Layout.{memorySize, farAt, rowAt};
 ghost use Rattle.mirguneth.specs.Schedule.{jobIn, topIn, JobHeld, KeptOutside, FarFilled, Standing, FedIn};
 ghost use Rattle.mirguneth.specs.Planning.{isFree, freeIn, bestOf, Sends, spreadIn};
-
-const FAR: usize = 15856;
-
-const LINE: usize = 8712;
-
-const BLOCKED: usize = 8968;
-
-const PRIORITY: usize = 9224;
-
-const IN_HEAD: usize = 5640;
-
-const IN_NEXT: usize = 5896;
-
-const ROWS: usize = 9480;
+use crate::layout::BLOCKED;
+use crate::layout::FAR;
+use crate::layout::IN_HEAD;
+use crate::layout::IN_NEXT;
+use crate::layout::LINE;
+use crate::layout::PRIORITY;
+use crate::layout::ROWS;
 
 // The largest of the m delays from `a` on.
 fn largest_delay(mem: &[u64], a: usize, m: usize) -> u64

@@ -9,13 +9,10 @@ ghost use Rattle.definitions.proofs.Facts.{Ordered};
 ghost use Rattle.mirguneth.specs.Schedule.{jobIn, timeIn, Small, Standing};
 ghost use Rattle.mirguneth.specs.Loading.{planIn};
 ghost use Rattle.mirguneth.specs.Replaying.{Running, FedBefore, LineRun, RisingIn, RoundRun, FirstIn};
+use crate::layout::LINE;
+use crate::layout::NEVER;
+use crate::layout::ROWS;
 use crate::times;
-
-const NEVER: u64 = 18446744073709551615;
-
-const LINE: usize = 8712;
-
-const ROWS: usize = 9480;
 
 // The processors' ready times in the replay.
 pub struct Ready {

@@ -9,11 +9,10 @@ ghost use Rattle.slices.specs.Over.{over};
 ghost use Rattle.mirguneth.specs.Schedule.{jobIn, timeIn, LinkedOut, Standing};
 ghost use Rattle.mirguneth.specs.Replaying.{outcomesIn, RisingIn};
 use crate::ends;
+use crate::layout::NEVER;
 use crate::replay;
 use crate::replay::First;
 use crate::writing;
-
-const NEVER: u64 = 18446744073709551615;
 
 // The bytes that the R line of t takes.
 fn result_length(t: u64, first: First) -> usize

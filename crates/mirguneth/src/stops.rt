@@ -11,10 +11,9 @@ ghost use Rattle.definitions.specs.Stops.{Stop, stopLine, stopRule, readStops};
 ghost use Rattle.definitions.proofs.Facts.{afterLast};
 ghost use Rattle.mirguneth.specs.Schedule.{neverCell};
 ghost use Rattle.mirguneth.specs.Loading.{StopsLoaded};
+use crate::layout::NEVER;
 use crate::reader;
 use text::Step;
-
-const NEVER: u64 = 18446744073709551615;
 
 // Fills `stops`, 16 cells, for m processors; never for those that do not stop.
 pub fn load_stops(s: &[u8], m: u64, stops: &mut [u64]) -> Step

@@ -8,16 +8,11 @@ ghost use Rattle.definitions.specs.Lists.{if_then_else_, nth};
 ghost use Rattle.definitions.specs.Job.{runTime, delay};
 ghost use Rattle.definitions.specs.Times.{later, sooner, after};
 ghost use Rattle.mirguneth.specs.Schedule.{jobIn, timeIn, choiceOf, arrivalIn, dataIn, Small, RowHeld, JobHeld, Standing, FedIn};
-
-const NEVER: u64 = 18446744073709551615;
-
-const LINE: usize = 8712;
-
-const IN_HEAD: usize = 5640;
-
-const IN_NEXT: usize = 5896;
-
-const ROWS: usize = 9480;
+use crate::layout::IN_HEAD;
+use crate::layout::IN_NEXT;
+use crate::layout::LINE;
+use crate::layout::NEVER;
+use crate::layout::ROWS;
 
 // The later of two times, or the sooner.
 pub fn chosen_of(late: bool, x: u64, y: u64) -> u64
