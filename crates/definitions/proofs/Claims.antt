@@ -143,7 +143,7 @@ module _ (l : Limits) (j : Job) (facts : JobFacts l j) where
 
   -- So they are in range, and the plan can be read.
   module _ (roomy : Roomy l) where
-    own-facts : PlanFacts l j own
+    pub own-facts : PlanFacts l j (planFor j (j .losses))
     own-facts =
         record {
           best-most = omega (arith, best-within l j facts own own-ordered own-count own-due);

@@ -346,6 +346,9 @@ module _ (l : Limits) (j : Job) (facts : JobFacts l j) where
   pub placed-ordered : Ordered j [] (planFor j (j .losses) .lines)
   placed-ordered = whole-plan .ordered
 
+  pub placed-apart : doubledTasks (planFor j (j .losses) .lines) ≡ []
+  placed-apart = whole-plan .apart
+
   -- Ticks that are the equations' agree with them, where every copy finishes.
   agrees : (written : Replica → ℕ) (rs : List Replica) (ds : List Outcome) → map written rs ≡ ticks ds → Come ds
       → sameTimes (times ds) (map (λ r. tick (written r)) rs) ≡ true
@@ -370,4 +373,4 @@ module _ (l : Limits) (j : Job) (facts : JobFacts l j) where
 
   pub placed-accepted : planRefusal j (planFor j (j .losses)) ≡ 0
   unfolding planRefusal firstOf
-  placed-accepted = rw (whole-plan .apart, placed-agrees, placed-ends)
+  placed-accepted = rw (placed-apart, placed-agrees, placed-ends)

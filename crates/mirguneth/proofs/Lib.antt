@@ -39,3 +39,6 @@ pub mod OutsetLaws
 pub mod ReleaseLaws
 pub mod Loads
 pub mod JobAndPlan
+pub mod PlanTextLaws
+pub mod PlanAnswer
+pub mod ReplayLaws

@@ -5,10 +5,13 @@ use mathlib.Core.Bool.{false}
 use Prim.Native.Nat.{ℕ, suc, _+_, _*_, _%_, _<_, _≤_}
 use lib.ListN.{length}
 use Rattle.definitions.specs.Lists.{nth, In}
+use Rattle.definitions.specs.Limits.{document01}
+use Rattle.definitions.specs.Text.{Result, andThen}
 use Rattle.definitions.specs.Job.{Edge, Job, incoming}
-use Rattle.definitions.specs.Stops.{Stop}
+use Rattle.definitions.specs.Stops.{Stop, readStops}
 use Rattle.definitions.specs.Times.{least, Copy, Outcome, ready, stopTime, walk, copiesOf}
-use Rattle.definitions.specs.Replay.{replay, firstFinish, firstBox}
+use Rattle.definitions.specs.Replay.{replay, firstFinish, firstBox, replayText}
+use Rattle.definitions.specs.Tools.{fitting}
 use Rattle.definitions.proofs.Bounds.{PlacedWithin}
 use Rattle.mirguneth.specs.Layout.{lineAt, rowAt, farAt}
 use Rattle.mirguneth.specs.Schedule.{jobIn, neverCell, timeIn, rowOutcomes, placedIn, rowReplicas, Small, KeptOutside, Standing}
@@ -77,3 +80,8 @@ pub record RoundRun (stops d e : List ℕ) : Type 0 where
 pub record FirstIn (t time processor : ℕ) (mem : List ℕ) : Type 0 where
   pub finish : timeIn time ≡ firstFinish t (outcomesIn mem)
   pub box : (time ≡ neverCell → ⊥) → processor ≡ firstBox t (timeIn time) (outcomesIn mem)
+
+-- The replay of the plan in a memory under the stops of a text: the stops, then 8.
+unfoldable pub replayIn : List ℕ → List ℕ → ℕ → Result (List ℕ)
+replayIn mem stops room =
+    andThen (readStops document01 (jobIn mem) stops) λ ss. fitting room (replayText document01 (jobIn mem) (replay (jobIn mem) ss (planIn mem .lines)))

@@ -140,7 +140,8 @@ pub fn judge(mem: &[u64]) -> Checked
 {
     let k = doubled_line(mem);
     if k < mem[0] as usize {
-        return Checked::Doubled(mem[ROWS + k * 25] as u8);
+        let t = mem[ROWS + k * 25] as u8;
+        return Checked::Doubled(t);
     }
     if ticks_agree(mem) {
         if ends_agree(mem) {

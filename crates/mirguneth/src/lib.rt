@@ -1,7 +1,7 @@
-// Plans for watering rounds: a reader of jobs and a checker of plans.
-ghost use Rattle.definitions.specs.Claims.{Breaks};
+// Plans for watering rounds: a reader of jobs, a planner, a checker of plans and a replay of stops.
+ghost use Rattle.definitions.specs.Claims.{Bears, Breaks};
 ghost use Rattle.definitions.specs.Limits.{document01};
-ghost use Rattle.definitions.specs.Tools.{verdict};
+ghost use Rattle.definitions.specs.Tools.{planAnswer, verdict, replayAnswer};
 ghost use Rattle.mirguneth.specs.Answers.{Answered, jobAnswer, Judged};
 
 mod boxes;
@@ -16,11 +16,12 @@ mod levels;
 mod lines;
 mod links;
 mod loading;
+mod plan_text;
 mod planner;
 mod plans;
 mod priority;
 mod reader;
-mod replay;
+mod replaying;
 mod results;
 mod rows;
 mod stops;
@@ -60,7 +61,20 @@ pub fn read_job(text: &[u8], cells: &mut [u64]) -> Answer
     }
 }
 
-// Checks a plan's text against its job's.
+// Draws up a plan for a job's text, and writes it into `out`.
+pub fn plan(job: &[u8], out: &mut [u8]) -> Answer
+    ensures { λ r. do ⌜ Answered (planAnswer document01 (now (job .entry)) (← ⟦out.len()⟧ .entry)) (now (out .entry)) (now (out .exit)) r ⌝ }
+{
+    let mut mem = [0u64; 15872];
+    let mut pairs = [0u8; 65536];
+    match job::load_job(job, &mut mem, &mut pairs) {
+        Step::Next(_) => plan_text::put_plan(&mut mem, out),
+        Step::Refused(x) => Answer::Refusal(x),
+    }
+}
+
+// Checks a plan's text against its job's. Where a task has two replicas on one processor, stopping its processors at tick 0 leaves
+// it undone.
 pub fn check(job: &[u8], plan: &[u8]) -> Checked
     ensures { λ r. ⌜ Judged (verdict document01 (now (job .entry)) (now (plan .entry))) r ⌝ }
     ensures { λ r. ⌜ Breaks (now (job .entry)) (now (plan .entry)) ⌝ }
@@ -69,5 +83,18 @@ pub fn check(job: &[u8], plan: &[u8]) -> Checked
     match loading::load_both(job, plan, &mut mem) {
         Step::Next(_) => checker::judge(&mem),
         Step::Refused(x) => Checked::Refused(x),
+    }
+}
+
+// Replays a plan for a job under a list of stops: writes the R lines and the L line into `out`. If the plan is accepted and
+// the stops are at most ε, every R line has a tick, and the L line has one between M* and M.
+pub fn replay(job: &[u8], plan: &[u8], stops: &[u8], out: &mut [u8]) -> Answer
+    ensures { λ r. do ⌜ Answered (replayAnswer document01 (now (job .entry)) (now (plan .entry)) (now (stops .entry)) (← ⟦out.len()⟧ .entry)) (now (out .entry)) (now (out .exit)) r ⌝ }
+    ensures { λ r. ⌜ Bears (now (job .entry)) (now (plan .entry)) (now (stops .entry)) ⌝ }
+{
+    let mut mem = [0u64; 15872];
+    match loading::load_both(job, plan, &mut mem) {
+        Step::Next(_) => results::put_replay(stops, &mut mem, out),
+        Step::Refused(x) => Answer::Refusal(x),
     }
 }

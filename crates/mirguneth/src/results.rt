@@ -7,12 +7,17 @@ ghost use Rattle.definitions.specs.Limits.{document01};
 ghost use Rattle.definitions.specs.Replay.{resultLine, endLine, replayText};
 ghost use Rattle.slices.specs.Over.{over};
 ghost use Rattle.mirguneth.specs.Schedule.{jobIn, timeIn, LinkedOut, Standing};
-ghost use Rattle.mirguneth.specs.Replaying.{outcomesIn, RisingIn};
+ghost use Rattle.mirguneth.specs.Replaying.{outcomesIn, RisingIn, replayIn};
+ghost use Rattle.mirguneth.specs.Answers.{Answered};
+ghost use Rattle.mirguneth.specs.Checking.{PlanHeld};
+use crate::Answer;
 use crate::ends;
 use crate::layout::NEVER;
-use crate::replay;
-use crate::replay::First;
+use crate::replaying;
+use crate::replaying::First;
+use crate::stops;
 use crate::writing;
+use text::Step;
 
 // The bytes that the R line of t takes.
 fn result_length(t: u64, first: First) -> usize
@@ -71,7 +76,7 @@ pub fn replay_length(mem: &[u64]) -> usize
     let mut n = 0;
     let mut t = 0;
     while t < v {
-        let first = replay::first_finish(mem, t);
+        let first = replaying::first_finish(mem, t);
         n += result_length(t as u64, first);
         t += 1;
     }
@@ -87,10 +92,29 @@ pub fn write_replay(out: &mut [u8], mem: &[u64]) -> usize
     let mut at = 0;
     let mut t = 0;
     while t < v {
-        let first = replay::first_finish(mem, t);
+        let first = replaying::first_finish(mem, t);
         at += write_result(&mut out[at..], t as u64, first);
         t += 1;
     }
     let end = ends::end_of(mem, false);
     at + write_end(&mut out[at..], end)
+}
+
+// Replays the plan in memory under the stops of a text, and writes the lines into `out`, if they fit.
+pub fn put_replay(stops: &[u8], mem: &mut [u64], out: &mut [u8]) -> Answer
+    requires { ⌜ PlanHeld (now mem) × LinkedOut (now mem) ⌝ }
+    ensures { λ r. do ⌜ Answered (replayIn (now (mem .entry)) (now (stops .entry)) (← ⟦out.len()⟧ .entry)) (now (out .entry)) (now (out .exit)) r ⌝ }
+{
+    let mut cells = [0u64; 16];
+    let m = mem[1];
+    match stops::load_stops(stops, m, &mut cells) {
+        Step::Next(_) => {
+            replaying::run_round(mem, &cells);
+            if out.len() < replay_length(&mem[..]) {
+                return Answer::Refusal(8);
+            }
+            Answer::Done(write_replay(out, &mem[..]))
+        }
+        Step::Refused(x) => Answer::Refusal(x),
+    }
 }

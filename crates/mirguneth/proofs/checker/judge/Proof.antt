@@ -17,20 +17,20 @@ doubled-line-requires c κs = search needs
 shared-slice-read-if1 : tie.Need-shared-slice-read-if1
 shared-slice-read-if1 c = search needs
 
-mul-t7 : tie.Need-mul-t7
-mul-t7 c = let s = sizes (c .before .before .before .before .pre .0 .standing .job) in omega arith
+mul-t : tie.Need-mul-t
+mul-t c = let s = sizes (c .before .before .before .before .pre .0 .standing .job) in omega arith
 
-add-t8 : tie.Need-add-t8
-add-t8 c = let s = sizes (c .before .before .before .before .pre .0 .standing .job) in omega arith
+add-t : tie.Need-add-t
+add-t c = let s = sizes (c .before .before .before .before .pre .0 .standing .job) in omega arith
 
-mul-t9 : tie.Need-mul-t9
-mul-t9 c = let s = sizes (c .before .before .before .before .pre .0 .standing .job) in omega arith
+mul-t-2 : tie.Need-mul-t-2
+mul-t-2 c = let s = sizes (c .before .before .before .before .pre .0 .standing .job) in omega arith
 
-shared-slice-read-t11 : tie.Need-shared-slice-read-t11
-shared-slice-read-t11 c = let s = sizes (c .before .before .before .before .before .pre .0 .standing .job) in omega arith
+shared-slice-read-t : tie.Need-shared-slice-read-t
+shared-slice-read-t c = let s = sizes (c .before .before .before .before .before .pre .0 .standing .job) in omega arith
 
-cast-t12 : tie.Need-cast-t12
-cast-t12 c = let s = sizes (c .before .before .before .before .before .pre .0 .standing .job) in omega (arith, c .before .before .before .before .before .pre .0 .standing .task-of (c .before .before .before .doubled-line .result) (c .before .if1 .taken))
+cast-t : tie.Need-cast-t
+cast-t c = let s = sizes (c .before .before .before .before .before .pre .0 .standing .job) in omega (arith, c .before .before .before .before .before .pre .0 .standing .task-of (c .before .before .before .doubled-line .result) (c .before .if1 .taken))
 
 returns : tie.Need-returns
 returns c =
@@ -64,11 +64,11 @@ judge-spec =
     (tie.spec
     doubled-line-requires
     shared-slice-read-if1
-    mul-t7
-    add-t8
-    mul-t9
-    shared-slice-read-t11
-    cast-t12
+    mul-t
+    add-t
+    mul-t-2
+    shared-slice-read-t
+    cast-t
     returns
     ticks-agree-requires
     ends-agree-requires

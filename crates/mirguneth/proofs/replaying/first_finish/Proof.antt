@@ -8,8 +8,8 @@ use Rattle.mirguneth.specs.Schedule.{neverCell}
 use Rattle.mirguneth.proofs.Held.{sizes}
 use Rattle.mirguneth.proofs.EndLaws.{all-placed, row-of-task}
 use Rattle.mirguneth.proofs.FirstLaws.{Seen, seen-none, seen-sooner, seen-stays, seen-all}
-use Rattle.mirguneth.proofs.replay.first_finish.Statement.{statement}
-use Rattle.mirguneth.proofs.replay.first_finish.Tie as tie
+use Rattle.mirguneth.proofs.replaying.first_finish.Statement.{statement}
+use Rattle.mirguneth.proofs.replaying.first_finish.Tie as tie
 
 abbrev Inv-loop : tie.InvT-loop
 Inv-loop mem t w a time₀ processor₀ c₀ time processor c = (c ≤ w) × (time ≤ neverCell) × Seen mem t c time processor

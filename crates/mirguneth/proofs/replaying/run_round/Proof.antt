@@ -4,8 +4,8 @@ use native.Mathlib.Omega.{arith}
 use borrow.Author.Needs.{needs}
 use Rattle.mirguneth.proofs.Held.{sizes}
 use Rattle.mirguneth.proofs.RoundLaws.{RoundRuns, round-first, round-asks, round-next, round-done}
-use Rattle.mirguneth.proofs.replay.run_round.Statement.{statement}
-use Rattle.mirguneth.proofs.replay.run_round.Tie as tie
+use Rattle.mirguneth.proofs.replaying.run_round.Statement.{statement}
+use Rattle.mirguneth.proofs.replaying.run_round.Tie as tie
 
 abbrev Inv-loop : tie.InvT-loop
 Inv-loop mem₀ stops v ready₀ k₀ mem ready k = (k ≤ v) × RoundRuns k stops (ready .at) mem₀ mem

@@ -3,8 +3,8 @@ use mathlib.Core.Path.{refl}
 use native.Mathlib.Omega.{arith}
 use mathlib.Core.Logic.{inl}
 use Rattle.mirguneth.proofs.RunLaws.{stopped-late, stopped-by}
-use Rattle.mirguneth.proofs.replay.unless_stopped.Statement.{statement}
-use Rattle.mirguneth.proofs.replay.unless_stopped.Tie as tie
+use Rattle.mirguneth.proofs.replaying.unless_stopped.Statement.{statement}
+use Rattle.mirguneth.proofs.replaying.unless_stopped.Tie as tie
 
 returns : tie.Need-returns
 returns c = (stopped-late (c .before .args .stop) (c .before .args .x) (omega arith) (c .if1 .taken), λ b s. inl refl)

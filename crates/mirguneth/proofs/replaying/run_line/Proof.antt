@@ -4,8 +4,8 @@ use native.Mathlib.Omega.{arith}
 use borrow.Author.Needs.{needs}
 use Rattle.mirguneth.proofs.Held.{sizes}
 use Rattle.mirguneth.proofs.RunLaws.{LineRuns, line-first, line-box, line-asks, line-next, line-done}
-use Rattle.mirguneth.proofs.replay.run_line.Statement.{statement}
-use Rattle.mirguneth.proofs.replay.run_line.Tie as tie
+use Rattle.mirguneth.proofs.replaying.run_line.Statement.{statement}
+use Rattle.mirguneth.proofs.replaying.run_line.Tie as tie
 
 abbrev Inv-loop : tie.InvT-loop
 Inv-loop mem₀ k stops w a t after₀ c₀ mem after c = (c ≤ w) × LineRuns k c stops (after .at) mem₀ mem

@@ -1,0 +1,168 @@
+-- The replay's answer: it does not depend on the order of the outcomes, and what the memory gives is what the texts say.
+use mathlib.Core.Path.{_≡_, refl, ap, ap₂}
+use mathlib.Core.Logic.{⊎-elim}
+use mathlib.Core.List.{List, [], _∷_, _++_, map, reverse}
+use mathlib.Core.Bool.{Bool}
+use Prim.Native.Nat.{ℕ, _<_, _≤_}
+use native.Mathlib.Omega.{arith}
+use borrow.Author.Tests.{lt-ltb, le-ltb}
+use lib.Dec.{eqb}
+use lib.ListN.{length}
+use Rattle.definitions.specs.Lists.{nth, below, keep, In}
+use Rattle.definitions.specs.Limits.{Limits, document01}
+use Rattle.definitions.specs.Text.{Result, good, bad, andThen}
+use Rattle.definitions.specs.Job.{Job, readJob}
+use Rattle.definitions.specs.Plan.{Plan, readPlan}
+use Rattle.definitions.specs.Stops.{Stop, readStops}
+use Rattle.definitions.specs.Times.{Time, same, largest, Outcome, ofTask, exits, end}
+use Rattle.definitions.specs.Replay.{replay, firstFinish, firstBox, roundEnd, resultLines, endLine, replayText}
+use Rattle.definitions.specs.Tools.{fitting, replayed, replayAnswer}
+use Rattle.definitions.proofs.Lists.{map-same, in-map, map-in, in-keep, keep-in, in-reverse, reverse-left}
+use Rattle.slices.specs.Over.{over}
+use Rattle.text.specs.declared.Step.the-variants.{Next, Refused}
+use Rattle.mirguneth.specs.Layout.{levelAt}
+use Rattle.mirguneth.specs.Answers.{Answered}
+use Rattle.mirguneth.specs.Schedule.{jobIn, LinkedOut, Standing}
+use Rattle.mirguneth.specs.Loading.{planIn, readBoth, BothLoaded, StopsLoaded}
+use Rattle.mirguneth.specs.Checking.{PlanHeld}
+use Rattle.mirguneth.specs.Replaying.{StopsIn, outcomesIn, RisingIn, RoundRun, replayIn}
+use Rattle.mirguneth.specs.declared.Answer.{Answer}
+use Rattle.mirguneth.specs.declared.Answer.the-variants.{Done, Refusal}
+use Rattle.mirguneth.proofs.Held.{same-before, job-kept, linked-out-same}
+use Rattle.mirguneth.proofs.JobAndPlan.{both-no, both-next, both-facts}
+use Rattle.mirguneth.proofs.FirstLaws.{least-same, lowest-same}
+
+-- The order of outcomes -------------------------------------------------------------------------------------------------
+
+-- Two lists have the same members.
+record Alike {A : Type 0} (xs ys : List A) : Type 0 where
+  pub there : (x : A) → In x xs → In x ys
+  pub back : (x : A) → In x ys → In x xs
+
+alike-reverse : {A : Type 0} (xs : List A) → Alike (reverse xs) xs
+alike-reverse xs = record { there = λ x i. ⊎-elim (λ k. k) absurd (in-reverse x xs [] i); back = λ x i. reverse-left x xs [] i }
+
+alike-keep : {A : Type 0} {xs ys : List A} → Alike xs ys → (f : A → Bool) → Alike (keep f xs) (keep f ys)
+alike-keep {A} {xs} {ys} a f =
+    record {
+      there = λ x i. let (k, e) = in-keep f x xs i in keep-in f x ys (a .there x k) e;
+      back = λ x i. let (k, e) = in-keep f x ys i in keep-in f x xs (a .back x k) e;
+    }
+
+alike-map : {A B : Type 0} {xs ys : List A} → Alike xs ys → (f : A → B) → Alike (map f xs) (map f ys)
+alike-map {A} {B} {xs} {ys} a f =
+    record {
+      there = λ y i. let (x, k, e) = in-map f y xs i in rw e at (map-in f x ys (a .there x k));
+      back = λ y i. let (x, k, e) = in-map f y ys i in rw e at (map-in f x xs (a .back x k));
+    }
+
+module _ {ds es : List Outcome} (a : Alike ds es) where
+  task-alike : (t : ℕ) → Alike (ofTask t ds) (ofTask t es)
+  unfolding ofTask
+  task-alike t = alike-keep a (λ d. eqb (d .task) t)
+
+  finish-alike : (t : ℕ) → firstFinish t ds ≡ firstFinish t es
+  unfolding firstFinish
+  finish-alike t = let b = alike-map (task-alike t) (λ d. d .time) in least-same _ _ (b .there) (b .back)
+
+  box-alike : (t : ℕ) (x : Time) → firstBox t x ds ≡ firstBox t x es
+  unfolding firstBox
+  box-alike t x = let b = alike-map (alike-keep (task-alike t) (λ d. same (d .time) x)) (λ d. d .processor) in lowest-same _ _ (b .there) (b .back)
+
+  end-alike : (j : Job) → roundEnd j ds ≡ roundEnd j es
+  unfolding roundEnd end firstFinish
+  end-alike j = ap largest (map-same (λ t. firstFinish t ds) (λ t. firstFinish t es) (exits j) (λ t i. finish-alike t))
+
+  lines-alike : (l : Limits) (ts : List ℕ) → resultLines l ts ds ≡ resultLines l ts es
+  unfolding resultLines
+  lines-alike l [] = refl
+  lines-alike l (t ∷ ts) = rw (finish-alike t, box-alike t (firstFinish t es), lines-alike l ts)
+
+  text-alike : (l : Limits) (j : Job) → replayText l j ds ≡ replayText l j es
+  unfolding replayText
+  text-alike l j = ap₂ _++_ (lines-alike l (below (j .tasks))) (ap (endLine l) (end-alike j))
+
+-- A round that has run ----------------------------------------------------------------------------------------------------
+
+-- The stops' text was refused, or gave stops.
+stops-refused : (x : Result (List Stop)) (cells : List ℕ) (n : ℕ) → StopsLoaded x cells (Refused n) → x ≡ bad n
+stops-refused (good ss) cells n ((k, e), _) = absurd (let z : _≡_ {A = ℕ} 0 1 = cc in omega arith)
+stops-refused (bad k) cells n e = cc
+
+stops-read : (x : Result (List Stop)) (cells : List ℕ) (n : ℕ) → StopsLoaded x cells (Next n) → (ss : List Stop) × (x ≡ good ss) × StopsIn ss cells
+stops-read (good ss) cells n (_, f) = (ss, refl, λ p h. f p h .0)
+stops-read (bad k) cells n e = absurd (let z : _≡_ {A = ℕ} 0 1 = cc in omega arith)
+
+-- The plan in d has run under the stops in the cells, and e is the memory after it.
+module _ {d e cells : List ℕ} (h : PlanHeld d) (r : RoundRun cells d e) where
+  pub run-asked : LinkedOut d → Standing (nth e 0) e × RisingIn e × LinkedOut e
+  run-asked l = (r .standing, r .rising, linked-out-same (h .standing .job) (same-before 0 levelAt (r .outside) (omega arith)) l)
+
+  run-text : (ss : List Stop) → StopsIn ss cells
+      → replayText document01 (jobIn e) (outcomesIn e) ≡ replayText document01 (jobIn d) (replay (jobIn d) ss (planIn d .lines))
+  run-text ss i =
+      rw (r .outcomes ss i, job-kept (h .standing .job) (r .outside) (omega arith))
+      (text-alike (alike-reverse (replay (jobIn d) ss (planIn d .lines))) document01 (jobIn d))
+
+  -- Its lines do not fit, or they were written.
+  module _ (stops out : List ℕ) (k n : ℕ) (g : StopsLoaded (readStops document01 (jobIn d) stops) cells (Next k))
+      (q : n ≡ length (replayText document01 (jobIn e) (outcomesIn e))) where
+    pub run-short : length out < n → Answered (replayIn d stops (length out)) out out (Refusal 8)
+    unfolding replayIn
+    run-short l =
+        let (ss, f, i) = stops-read (readStops document01 (jobIn d) stops) cells k g in
+        rw (f, ← run-text ss i, lt-ltb (length out) (length (replayText document01 (jobIn e) (outcomesIn e))) (omega arith)) (refl, refl)
+
+    pub run-done : n ≤ length out → (m : ℕ) (z : List ℕ) → m ≡ length (replayText document01 (jobIn e) (outcomesIn e))
+        → z ≡ over out 0 (replayText document01 (jobIn e) (outcomesIn e)) → Answered (replayIn d stops (length out)) out z (Done m)
+    unfolding replayIn
+    run-done l m z a o =
+        let (ss, f, i) = stops-read (readStops document01 (jobIn d) stops) cells k g in
+        rw (f, ← run-text ss i, le-ltb (length out) (length (replayText document01 (jobIn e) (outcomesIn e))) (omega arith)) (ap Done a, o)
+
+pub run-refused : (d cells stops out : List ℕ) (n : ℕ) → StopsLoaded (readStops document01 (jobIn d) stops) cells (Refused n)
+    → Answered (replayIn d stops (length out)) out out (Refusal n)
+unfolding replayIn
+run-refused d cells stops out n h = rw (stops-refused (readStops document01 (jobIn d) stops) cells n h) (refl, refl)
+
+-- The three texts -----------------------------------------------------------------------------------------------------------
+
+-- What the replay answers to a job and a plan that were read.
+abbrev told : List ℕ → ℕ → Job × Plan → Result (List ℕ)
+told stops room b =
+    andThen (readStops document01 (b .0) stops) λ ss. fitting room (replayText document01 (b .0) (replay (b .0) ss (b .1 .lines)))
+
+answer-told : (job plan stops : List ℕ) (room : ℕ) → replayAnswer document01 job plan stops room ≡ andThen (readBoth job plan) (told stops room)
+unfolding replayAnswer replayed readBoth
+answer-told job plan stops room = by (readJob document01 job)
+  where
+    last : (j : Job) (p : Plan) (x : Result (List Stop))
+        → andThen (andThen x λ ss. good (replayText document01 j (replay j ss (p .lines)))) (fitting room) ≡ andThen x (λ ss. fitting room (replayText document01 j (replay j ss (p .lines))))
+    last j p (good ss) = refl
+    last j p (bad n) = refl
+
+    then : (j : Job) (x : Result Plan)
+        → andThen (andThen x λ p. andThen (readStops document01 j stops) λ ss. good (replayText document01 j (replay j ss (p .lines)))) (fitting room)
+        ≡ andThen (andThen x λ p. good (j, p)) (told stops room)
+    then j (good p) = last j p (readStops document01 j stops)
+    then j (bad n) = refl
+
+    by : (x : Result Job)
+        → andThen (andThen x λ j. andThen (readPlan document01 j plan) λ p. andThen (readStops document01 j stops) λ ss. good (replayText document01 j (replay j ss (p .lines)))) (fitting room)
+        ≡ andThen (andThen x λ j. andThen (readPlan document01 j plan) λ p. good (j, p)) (told stops room)
+    by (good j) = then j (readPlan document01 j plan)
+    by (bad n) = refl
+
+module _ (job plan stops mem out : List ℕ) (n : ℕ) where
+  pub replay-refused : BothLoaded (readBoth job plan) mem (Refused n) → Answered (replayAnswer document01 job plan stops (length out)) out out (Refusal n)
+  replay-refused h = rw (answer-told job plan stops (length out), both-no job plan mem n h) (refl, refl)
+
+  module _ (h : BothLoaded (readBoth job plan) mem (Next n)) where
+    pub replay-asked : PlanHeld mem × LinkedOut mem
+    replay-asked =
+        let (e, s, l) = both-next job plan mem n h in
+        (record { standing = s; facts = both-facts job plan (jobIn mem) (planIn mem) e }, l)
+
+    pub replay-put : (z : List ℕ) (r : Answer) → Answered (replayIn mem stops (length out)) out z r → Answered (replayAnswer document01 job plan stops (length out)) out z r
+    unfolding replayIn
+    replay-put z r a = rw (answer-told job plan stops (length out), both-next job plan mem n h .0) a
