@@ -1,0 +1,52 @@
+use mathlib.Core.Path.{_≡_, refl, sym, ap, _∙_}
+use mathlib.Core.List.{List, [], _∷_, _++_}
+use Prim.Native.Nat.{ℕ, zero, suc, _≤_, _<_, _-_, _+_, _*_, _^_}
+use native.Mathlib.Omega.{arith}
+use borrow.Author.Needs.{needs}
+use lib.ListN.{length, getD, take, drop, set, length-set}
+use mathlib.Core.Path.{_≡_, refl, sym, ap, _∙_}
+use Rattle.definitions.specs.Limits.{document01}
+use Rattle.definitions.specs.Tools.{verdict}
+use Rattle.exports.proofs.ExportLaws.{verdict-accepted, verdict-doubled, verdict-refused}
+use Rattle.exports.proofs.mirguneth_check.Statement.{statement}
+use Rattle.exports.proofs.mirguneth_check.Tie as tie
+use Rattle.exports.proofs.mirguneth_check.Reads as reads
+use Rattle.exports.proofs.mirguneth_check.Lts as lts
+use Rattle.mirguneth.proofs.check.Reads as check-reads
+
+check-requires : tie.Need-check-requires
+check-requires c κs = search needs
+
+enum-told : tie.Need-enum-told
+enum-told c = search needs
+
+enum-known-t : tie.Need-enum-known-t
+enum-known-t c = search needs
+
+cast-task : tie.Need-cast-task
+cast-task c = search needs
+
+enum-known-x : tie.Need-enum-known-x
+enum-known-x c = search needs
+
+returns : tie.Need-returns
+returns c = (verdict-accepted (verdict document01 (c .before .before .before .before .before .args .job .now) (c .before .before .before .before .before .args .plan .now)) (c .before .before .before .before .before .args .task .now) 0 (rw (c .enum-told .given .1) at (c .before .before .check .ensures .0)), c .before .before .check .ensures .1)
+
+returns-2 : tie.Need-returns-2
+returns-2 c = (verdict-doubled (verdict document01 (c .before .before .before .before .before .before .args .job .now) (c .before .before .before .before .before .before .args .plan .now)) (c .before .before .before .before .before .before .args .task .now) (c .before .t .given .0 .0) (rw (c .before .t .given .1) at (c .before .before .before .check .ensures .0)), c .before .before .before .check .ensures .1)
+
+returns-3 : tie.Need-returns-3
+returns-3 c = (verdict-refused (verdict document01 (c .before .before .before .before .before .before .args .job .now) (c .before .before .before .before .before .before .args .plan .now)) (c .before .before .before .before .before .before .args .task .now) (c .before .x .given .0 .0) (rw (c .before .x .given .1) at (c .before .before .before .check .ensures .0)), c .before .before .before .check .ensures .1)
+
+pub mirguneth-check-spec : {M : Type 1} → statement M
+mirguneth-check-spec =
+    tie.close
+    (tie.spec
+    check-requires
+    enum-told
+    enum-known-t
+    cast-task
+    enum-known-x
+    returns
+    returns-2
+    returns-3)
