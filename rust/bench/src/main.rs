@@ -1,0 +1,163 @@
+//! Times planning, checking and replaying in both implementations, in one run:
+//! they take turns, and of several repetitions the best counts.
+//!
+//!     cargo run --release -p bench
+
+use compare::jobs::{self, Job};
+use compare::plans::Plan;
+use compare::rng::Rng;
+use compare::stops;
+use compare::tools::{Second, Tool};
+use std::hint::black_box;
+use std::time::{Duration, Instant};
+
+/// How often the implementations take turns.
+const REPETITIONS: usize = 25;
+/// How long one turn takes, at least.
+const TURN: Duration = Duration::from_millis(4);
+
+const SMALL_HOUSE: &[u8] =
+    b"JOB,2,3,1,1\nC,0,4,6,9\nC,1,5,5,3\nD,0,0,1,2\nD,1,1,0,1\nD,2,2,1,0\nE,0,1,2\n";
+
+/// Tasks, boxes, edges and losses.
+const SIZES: [(usize, usize, usize, usize); 7] = [
+    (8, 3, 12, 1),
+    (16, 4, 32, 1),
+    (32, 8, 80, 2),
+    (64, 8, 200, 3),
+    (128, 12, 400, 5),
+    (255, 16, 512, 7),
+    (255, 16, 1_024, 7),
+];
+
+/// One call of one of the functions.
+type Call<'a> = &'a mut dyn FnMut(&dyn Tool);
+
+struct Texts {
+    name: String,
+    job: Vec<u8>,
+    plan: Vec<u8>,
+    stops: Vec<u8>,
+}
+
+fn main() {
+    let tools = tools();
+    print!("{:<34}{:<9}", "job", "");
+    for (name, _) in &tools {
+        print!("{:>12}", format!("{name}, us"));
+    }
+    println!(
+        "{:>16}",
+        if tools.len() > 1 {
+            "first / second"
+        } else {
+            ""
+        }
+    );
+    let mut rng = Rng::new(1);
+    let mut all = vec![texts("small house".into(), SMALL_HOUSE.to_vec(), &mut rng)];
+    for (tasks, boxes, edges, losses) in SIZES {
+        let job = jobs::of_size(&mut rng, tasks, boxes, edges, losses);
+        all.push(texts(name(&job), job.to_text(), &mut rng));
+    }
+    for texts in &all {
+        let mut out = vec![0; 65_536];
+        let calls: [(&str, Call); 3] = [
+            ("plan", &mut |tool| {
+                let mut written = 0;
+                let number = tool.plan(black_box(&texts.job), &mut out, &mut written);
+                assert_eq!(black_box(number), 0);
+            }),
+            ("check", &mut |tool| {
+                let mut task = 0;
+                let number = tool.check(black_box(&texts.job), &texts.plan, &mut task);
+                assert_eq!(black_box(number), 0);
+            }),
+            ("replay", &mut |tool| {
+                let mut written = 0;
+                let mut out = [0; 8_192];
+                let Texts {
+                    job, plan, stops, ..
+                } = black_box(texts);
+                let number = tool.replay(job, plan, stops, &mut out, &mut written);
+                assert_eq!(black_box(number), 0);
+            }),
+        ];
+        let mut label = texts.name.as_str();
+        for (function, call) in calls {
+            let best = race(&tools, call);
+            print!("{label:<34}{function:<9}");
+            for time in &best {
+                print!("{:>12.2}", time * 1e6);
+            }
+            match best[..] {
+                [first, second] => println!("{:>16.2}", first / second),
+                _ => println!(),
+            }
+            label = "";
+        }
+    }
+}
+
+fn name(job: &Job) -> String {
+    format!(
+        "{} tasks, {} boxes, {} edges, {}",
+        job.tasks(),
+        job.processors(),
+        job.edges.len(),
+        job.failures
+    )
+}
+
+/// The job with its plan and as many stops as it bears.
+fn texts(name: String, job: Vec<u8>, rng: &mut Rng) -> Texts {
+    let mut plan = vec![0; 65_536];
+    let mut written = 0;
+    assert_eq!(Second.plan(&job, &mut plan, &mut written), 0, "{name}");
+    plan.truncate(written as usize);
+    let parsed = Plan::parse(&plan).expect("a plan");
+    let stopped = rng.subset(parsed.processors, parsed.failures);
+    let stops = stops::to_text(&stops::random(rng, &parsed, &stopped));
+    Texts {
+        name,
+        job,
+        plan,
+        stops,
+    }
+}
+
+/// The least seconds of one call, for each implementation.
+fn race(tools: &[(&str, &dyn Tool)], call: Call) -> Vec<f64> {
+    let mut best = vec![f64::INFINITY; tools.len()];
+    let mut counts = vec![1u32; tools.len()];
+    for (&(_, tool), count) in tools.iter().zip(&mut counts) {
+        while time(*count, tool, call) < TURN {
+            *count *= 2;
+        }
+    }
+    for _ in 0..REPETITIONS {
+        for ((&(_, tool), &count), best) in tools.iter().zip(&counts).zip(&mut best) {
+            let seconds = time(count, tool, call).as_secs_f64() / f64::from(count);
+            *best = best.min(seconds);
+        }
+    }
+    best
+}
+
+fn time(count: u32, tool: &dyn Tool, call: Call) -> Duration {
+    let start = Instant::now();
+    for _ in 0..count {
+        call(tool);
+    }
+    start.elapsed()
+}
+
+#[cfg(feature = "first")]
+fn tools() -> Vec<(&'static str, &'static dyn Tool)> {
+    vec![("first", &compare::tools::Raw), ("second", &Second)]
+}
+
+#[cfg(not(feature = "first"))]
+fn tools() -> Vec<(&'static str, &'static dyn Tool)> {
+    vec![("second", &Second)]
+}

@@ -1,0 +1,85 @@
+/*
+ * Replicated plans for watering rounds: draw up a plan that bears the loss of
+ * some boxes, check a plan, and replay one while boxes stop.
+ *
+ * Link with libexports.a. The functions keep nothing between calls, allocate
+ * nothing and do no input or output.
+ *
+ * A text is a pointer to its first byte and its length in bytes; it needs no
+ * closing zero. No pointer may be null, even with a length of 0. `out`,
+ * `written` and `task` must not overlap with each other or with a text.
+ *
+ * Each function returns 0 or the number of a refusal:
+ *
+ *    1  a text is longer than 65,536 bytes
+ *    2  a line is badly formed, out of turn, missing or left over
+ *    3  a number is outside its range
+ *    4  the job has too few boxes for the losses that it is to bear
+ *    5  a box's delay to itself is not 0
+ *    6  an edge goes from a task to itself, or repeats an earlier edge
+ *    7  the edges form a circle
+ *    8  the output is shorter than the answer
+ *    9  the plan is for another number of tasks, boxes or losses
+ *   10  a plan line repeats a task, or precedes a predecessor of its task
+ *   11  the boxes of a plan line descend
+ *   12  a task has two copies on one box
+ *   13  an early or late tick is not that of the equations
+ *   14  a bound of the round's end is not that of the equations
+ *   15  the boxes of the stop list do not ascend
+ *
+ * After a refusal all output is as it was before the call.
+ */
+#ifndef MIRGUNETH_H
+#define MIRGUNETH_H
+
+#include <stddef.h>
+#include <stdint.h>
+
+#ifdef __cplusplus
+extern "C" {
+#endif
+
+/* Outputs of these sizes hold every answer. */
+#define MIRGUNETH_PLAN_BYTES 65536
+#define MIRGUNETH_REPLAY_BYTES 8192
+
+/*
+ * Draws up a plan of the job.
+ *
+ * 0: the plan is in the first *written bytes of out.
+ * 1 to 8: out and *written are as they were.
+ */
+uint64_t mirguneth_plan(const uint8_t *job, size_t job_len,
+                        uint8_t *out, size_t out_len,
+                        uint64_t *written);
+
+/*
+ * Holds the plan against the job.
+ *
+ * 0: the plan is accepted.
+ * 12: *task is a task that has two copies on one box.
+ * 1 to 7, 9 to 11, 13, 14: the plan is refused.
+ * *task is as it was unless the answer is 12.
+ */
+uint64_t mirguneth_check(const uint8_t *job, size_t job_len,
+                         const uint8_t *plan, size_t plan_len,
+                         uint64_t *task);
+
+/*
+ * Replays the plan with the boxes of the stop list stopped. An empty stop
+ * list means that no box stops.
+ *
+ * 0: the first finishes are in the first *written bytes of out.
+ * 1 to 11, 15: out and *written are as they were.
+ */
+uint64_t mirguneth_replay(const uint8_t *job, size_t job_len,
+                          const uint8_t *plan, size_t plan_len,
+                          const uint8_t *stops, size_t stops_len,
+                          uint8_t *out, size_t out_len,
+                          uint64_t *written);
+
+#ifdef __cplusplus
+}
+#endif
+
+#endif

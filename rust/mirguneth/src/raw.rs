@@ -1,0 +1,32 @@
+//! The library's functions as C has them. `include/mirguneth.h` says what
+//! each does; no pointer may be null, even with a length of 0.
+
+unsafe extern "C" {
+    pub fn mirguneth_plan(
+        job: *const u8,
+        job_len: usize,
+        out: *mut u8,
+        out_len: usize,
+        written: *mut u64,
+    ) -> u64;
+
+    pub fn mirguneth_check(
+        job: *const u8,
+        job_len: usize,
+        plan: *const u8,
+        plan_len: usize,
+        task: *mut u64,
+    ) -> u64;
+
+    pub fn mirguneth_replay(
+        job: *const u8,
+        job_len: usize,
+        plan: *const u8,
+        plan_len: usize,
+        stops: *const u8,
+        stops_len: usize,
+        out: *mut u8,
+        out_len: usize,
+        written: *mut u64,
+    ) -> u64;
+}

@@ -1,0 +1,247 @@
+//! The document's worked figures: the small house with its cases, and the
+//! limits that are to be run.
+
+use second::Verdict::{self, Accepted, Doubled, Refused};
+
+const JOB: &str = "JOB,2,3,1,1\n\
+                   C,0,4,6,9\nC,1,5,5,3\n\
+                   D,0,0,1,2\nD,1,1,0,1\nD,2,2,1,0\n\
+                   E,0,1,2\n";
+const PLAN: &str = "PLAN,2,3,1,9,13\nT,0,0,4,4,1,6,6\nT,1,0,9,13,1,11,11\n";
+
+fn plan(job: &str) -> Result<String, u32> {
+    let mut out = [b'#'; 65_536];
+    let length = second::plan(job.as_bytes(), &mut out)?;
+    assert!(out[length..].iter().all(|&byte| byte == b'#'));
+    Ok(String::from_utf8_lossy(&out[..length]).into_owned())
+}
+
+fn check(job: &str, plan: &str) -> Verdict {
+    second::check(job.as_bytes(), plan.as_bytes())
+}
+
+fn replay(job: &str, plan: &str, stops: &str) -> Result<String, u32> {
+    let mut out = [b'#'; 65_536];
+    let texts = [job, plan, stops].map(str::as_bytes);
+    let length = second::replay(texts[0], texts[1], texts[2], &mut out)?;
+    assert!(out[length..].iter().all(|&byte| byte == b'#'));
+    Ok(String::from_utf8_lossy(&out[..length]).into_owned())
+}
+
+#[track_caller]
+fn ends(stops: &str, last_line: &str) {
+    let answer = replay(JOB, PLAN, stops).expect("a good answer");
+    assert_eq!(answer.lines().last(), Some(last_line));
+}
+
+#[test]
+fn case_a_the_plan() {
+    assert_eq!(plan(JOB).as_deref(), Ok(PLAN));
+    assert_eq!(check(JOB, PLAN), Accepted);
+}
+
+// Case b, the scaled bottom levels, is a test of the planner's own.
+
+#[test]
+fn case_c_stop_0_at_3() {
+    let answer = "R,0,1,6\nR,1,1,11\nL,11\n";
+    assert_eq!(replay(JOB, PLAN, "S,0,3\n").as_deref(), Ok(answer));
+}
+
+#[test]
+fn case_d_stop_0_at_8() {
+    ends("S,0,8\n", "L,11");
+}
+
+#[test]
+fn case_e_stop_0_at_9() {
+    ends("S,0,9\n", "L,9");
+}
+
+#[test]
+fn case_f_stop_1_at_5() {
+    ends("S,1,5\n", "L,9");
+}
+
+#[test]
+fn case_g_no_stop() {
+    ends("", "L,9");
+}
+
+#[test]
+fn case_h_both_tasks_undone() {
+    let answer = "R,0,-,-\nR,1,-,-\nL,-\n";
+    assert_eq!(replay(JOB, PLAN, "S,0,0\nS,1,0\n").as_deref(), Ok(answer));
+}
+
+#[test]
+fn case_i_task_0_on_box_0_twice() {
+    let doubled = PLAN.replace("T,0,0,4,4,1,6,6", "T,0,0,4,4,0,8,8");
+    assert_eq!(check(JOB, &doubled), Doubled(vec![0]));
+    let stopped = replay(JOB, &doubled, "S,0,0\n");
+    assert_eq!(stopped.as_deref(), Ok("R,0,-,-\nR,1,-,-\nL,-\n"));
+}
+
+#[test]
+fn case_j_m_given_as_12() {
+    assert_eq!(check(JOB, &PLAN.replace("9,13\nT", "9,12\nT")), Refused(14));
+}
+
+#[test]
+fn losses_up_to_the_boxes() {
+    let two = plan(&JOB.replace("3,1,1\n", "3,1,2\n")).expect("a plan");
+    assert_eq!(check(&JOB.replace("3,1,1\n", "3,1,2\n"), &two), Accepted);
+    assert_eq!(plan(&JOB.replace("3,1,1\n", "3,1,3\n")), Err(4));
+    assert_eq!(plan(&JOB.replace("3,1,1\n", "3,1,7\n")), Err(4));
+    assert_eq!(plan(&JOB.replace("3,1,1\n", "3,1,8\n")), Err(3));
+}
+
+#[test]
+fn run_times_at_their_limits() {
+    assert!(plan(&JOB.replace("C,0,4", "C,0,1000000")).is_ok());
+    assert_eq!(plan(&JOB.replace("C,0,4", "C,0,1000001")), Err(3));
+    assert_eq!(plan(&JOB.replace("C,0,4", "C,0,0")), Err(3));
+}
+
+#[test]
+fn volumes_at_their_limits() {
+    assert!(plan(&JOB.replace("E,0,1,2", "E,0,1,4095")).is_ok());
+    assert_eq!(plan(&JOB.replace("E,0,1,2", "E,0,1,4096")), Err(3));
+}
+
+#[test]
+fn one_box() {
+    let job = "JOB,2,1,1,0\nC,0,4\nC,1,5\nD,0,0\nE,0,1,2\n";
+    let expected = "PLAN,2,1,0,9,9\nT,0,0,4,4\nT,1,0,9,9\n";
+    assert_eq!(plan(job).as_deref(), Ok(expected));
+    assert_eq!(check(job, expected), Accepted);
+    assert_eq!(
+        replay(job, expected, "S,0,4\n").as_deref(),
+        Ok("R,0,0,4\nR,1,-,-\nL,-\n")
+    );
+}
+
+#[test]
+fn no_edges() {
+    // Task 1 is the more urgent: 2 * 15 against 2 * 12.
+    let job = "JOB,2,3,0,1\nC,0,4,4,4\nC,1,5,5,5\nD,0,0,1,1\nD,1,1,0,1\nD,2,1,1,0\n";
+    let expected = "PLAN,2,3,1,5,9\nT,1,0,5,5,1,5,5\nT,0,0,9,9,2,4,4\n";
+    assert_eq!(plan(job).as_deref(), Ok(expected));
+    assert_eq!(check(job, expected), Accepted);
+}
+
+#[test]
+fn empty_job() {
+    assert_eq!(plan(""), Err(2));
+}
+
+#[test]
+fn output_length() {
+    for length in [0, PLAN.len() - 1, PLAN.len()] {
+        let mut out = vec![b'#'; length];
+        let answer = second::plan(JOB.as_bytes(), &mut out);
+        if length == PLAN.len() {
+            assert_eq!(answer, Ok(length));
+            assert_eq!(out, PLAN.as_bytes());
+        } else {
+            assert_eq!(answer, Err(8));
+            assert!(out.iter().all(|&byte| byte == b'#'));
+        }
+    }
+}
+
+#[test]
+fn faults_of_a_line_in_their_order() {
+    // A bad form anywhere in the line goes before any range.
+    assert_eq!(plan(&JOB.replace("C,0,4,6,9", "C,0,0,6,x")), Err(2));
+    assert_eq!(plan(&JOB.replace("C,0,4,6,9", "C,1,0,6,9")), Err(2));
+    assert_eq!(plan(&JOB.replace("C,1,5,5,3", "C,300,5,5,3")), Err(2));
+    assert_eq!(plan(&JOB.replace("D,2,2,1,0", "D,2,2,1,256")), Err(3));
+    assert_eq!(plan(&JOB.replace("D,2,2,1,0", "D,2,2,1,255")), Err(5));
+    assert_eq!(plan(&JOB.replace("E,0,1,2", "E,1,1,2")), Err(6));
+    assert_eq!(plan(&JOB.replace("E,0,1,2", "E,2,2,2")), Err(3));
+    assert_eq!(plan(&JOB.replace("E,0,1,2", "E,0,01,2")), Err(2));
+    assert_eq!(plan(&JOB.replace("E,0,1,2", "E,0,1,10000000000")), Err(2));
+    assert_eq!(plan(&JOB.replace("E,0,1,2", "E,0,1,9999999999")), Err(3));
+    assert_eq!(plan(&JOB.replace("E,0,1,2\n", "E,0,1,2")), Err(2));
+}
+
+#[test]
+fn edges() {
+    let two = |edges: &str| {
+        plan(
+            &JOB.replace("JOB,2,3,1,1", "JOB,2,3,2,1")
+                .replace("E,0,1,2\n", edges),
+        )
+    };
+    assert_eq!(two("E,0,1,2\nE,0,1,3\n"), Err(6));
+    assert_eq!(two("E,0,1,2\nE,1,0,3\n"), Err(7));
+    assert_eq!(two("E,0,1,2\nE,1,0,3\nE"), Err(2));
+    assert_eq!(two("E,0,1,2\n"), Err(2));
+}
+
+#[test]
+fn length_of_a_text() {
+    let padded = |text: &str, length: usize| format!("{text}{}", "x".repeat(length - text.len()));
+    assert_eq!(plan(&padded(JOB, 65_536)), Err(2));
+    assert_eq!(plan(&padded(JOB, 65_537)), Err(1));
+    assert_eq!(check(JOB, &padded(PLAN, 65_537)), Refused(1));
+    assert_eq!(check("JOB", &padded(PLAN, 65_537)), Refused(2));
+    assert_eq!(replay(JOB, PLAN, &padded("", 65_537)), Err(1));
+    assert_eq!(replay(JOB, PLAN, &padded("", 65_536)), Err(2));
+}
+
+#[test]
+fn refusals_of_a_plan() {
+    let with = |old: &str, new: &str| {
+        assert!(PLAN.contains(old));
+        check(JOB, &PLAN.replace(old, new))
+    };
+    assert_eq!(with("PLAN,2", "PLAN,3"), Refused(9));
+    assert_eq!(with("PLAN,2", "PLAN,256"), Refused(3));
+    assert_eq!(with("PLAN,2,3,1", "PLAN,2,3,7"), Refused(9));
+    assert_eq!(with("9,13\n", "9,4294967295\n"), Refused(14));
+    assert_eq!(with("9,13\n", "9,4294967296\n"), Refused(3));
+    assert_eq!(with("T,1", "T,0"), Refused(10));
+    assert_eq!(with("T,1", "T,2"), Refused(3));
+    assert_eq!(with("T,0", "T,1"), Refused(10));
+    assert_eq!(with("1,0,9,13,1,11,11", "1,1,11,11,0,9,13"), Refused(11));
+    assert_eq!(
+        with("T,1,0,9,13,1,11,11", "T,0,1,11,11,0,9,13"),
+        Refused(11)
+    );
+    assert_eq!(with("1,11,11\n", "1,11,12\n"), Refused(13));
+    assert_eq!(with("0,4,4,1,6,6", "1,4,4,1,6,6"), Doubled(vec![0]));
+    assert_eq!(with("T,1,0,9,13,1,11,11\n", ""), Refused(2));
+    assert_eq!(with("1,11,11\n", "1,11,11\n\n"), Refused(2));
+}
+
+#[test]
+fn refusals_of_a_stop_list() {
+    assert_eq!(replay(JOB, PLAN, "\n"), Err(2));
+    assert_eq!(replay(JOB, PLAN, "S,0,3"), Err(2));
+    assert_eq!(replay(JOB, PLAN, "S,3,3\n"), Err(3));
+    assert_eq!(replay(JOB, PLAN, "S,0,4294967296\n"), Err(3));
+    assert_eq!(replay(JOB, PLAN, "S,0,4294967295\nS,0,1\n"), Err(15));
+    assert_eq!(replay(JOB, PLAN, "S,1,3\nS,0,1\n"), Err(15));
+    // Wrong ticks and a wrong makespan are no matter of the replay.
+    let other = PLAN.replace("9,13", "0,0");
+    assert_eq!(replay(JOB, &other, "S,0,3\n"), replay(JOB, PLAN, "S,0,3\n"));
+}
+
+#[test]
+fn a_barred_box_skips_nothing() {
+    // Box 1 does not stop, but task 1 lacks its data; task 2 needs none.
+    let job = "JOB,3,2,1,0\nC,0,4,6\nC,1,5,5\nC,2,1,1\nD,0,0,1\nD,1,1,0\nE,0,1,2\n";
+    let plan = "PLAN,3,2,0,12,12\nT,0,0,4,4\nT,1,1,11,11\nT,2,1,12,12\n";
+    assert_eq!(check(job, plan), Accepted);
+    let answer = "R,0,-,-\nR,1,-,-\nR,2,-,-\nL,-\n";
+    assert_eq!(replay(job, plan, "S,0,3\n").as_deref(), Ok(answer));
+}
+
+#[test]
+fn a_doubled_plan_runs_in_written_order() {
+    let doubled = PLAN.replace("T,0,0,4,4,1,6,6", "T,0,0,1,1,0,1,1");
+    let answer = "R,0,0,4\nR,1,1,11\nL,11\n";
+    assert_eq!(replay(JOB, &doubled, "").as_deref(), Ok(answer));
+}
