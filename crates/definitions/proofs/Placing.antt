@@ -39,7 +39,7 @@ map-reverse-right f u xs ys i = let (x, k, e) = in-map f u ys i in rw e at (map-
 
 -- The critical task is one of the free tasks ------------------------------------------------------------------
 
-greatest-in : (x : ℕ × ℕ) (ys : List (ℕ × ℕ)) → In (greatestOf x ys) (map (λ y. y .0) (x ∷ ys))
+pub greatest-in : (x : ℕ × ℕ) (ys : List (ℕ × ℕ)) → In (greatestOf x ys) (map (λ y. y .0) (x ∷ ys))
 unfolding greatestOf
 greatest-in x [] = inl refl
 greatest-in x (y ∷ ys) = by (ltb (x .1) (y .1)) (greatest-in y ys) (greatest-in x ys)

@@ -305,7 +305,7 @@ module _ (l : Limits) where
       let (d, f) = neither (not (ltb (e .from) tasks)) (not (ltb (e .to) tasks)) b in
       (ltb-true _ _ (not-false _ d), ltb-true _ _ (not-false _ f), inside 0 (l .volume) (e .volume) c .1)
 
-  job-head-parts : (h : JobHead) → jobHeadRule l h ≡ 0
+  pub job-head-parts : (h : JobHead) → jobHeadRule l h ≡ 0
       → (1 ≤ h .tasks) × (h .tasks ≤ l .tasks) × (1 ≤ h .processors) × (h .processors ≤ l .processors) × (h .edges ≤ l .edges) × (h .losses ≤ l .losses)
       × (h .losses + 1 ≤ h .processors)
   unfolding jobHeadRule

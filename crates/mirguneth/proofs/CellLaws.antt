@@ -18,7 +18,8 @@ use Rattle.mirguneth.specs.Memory.{edgeCell, edgeIn, numbered, jobCells,
 use Rattle.mirguneth.specs.Stages.{jobOf, delaysAt, edgesAt, Headed, RunsIn, DelaysIn}
 use Rattle.mirguneth.specs.declared.rows.Kind.{Kind}
 use Rattle.mirguneth.specs.declared.rows.Kind.the-variants.{Runs, Delays}
-use Rattle.mirguneth.proofs.EdgeLaws.{cell-of-edge, drop-lent}
+use Rattle.mirguneth.proofs.EdgeLaws.{cell-of-edge}
+use Rattle.mirguneth.proofs.RowLaws.{drop-lent}
 
 -- Edges ---------------------------------------------------------------------------------------------------------
 

@@ -16,6 +16,7 @@ use Rattle.definitions.specs.Planner.{tickOf, greatestOf, Waiting, waitingFrom,
 use Rattle.definitions.proofs.Lists.{map-same, apart-head, in-below, nth-below}
 use Rattle.definitions.proofs.Tasks.{copyOf}
 use Rattle.definitions.proofs.Chosen.{chosen-count}
+use Rattle.definitions.proofs.Placing.{greatest-in}
 use Rattle.mirguneth.specs.Schedule.{choiceOf}
 use Rattle.mirguneth.specs.Planning.{bestOf}
 use Rattle.mirguneth.proofs.Upward.{count-yes, count-no}
@@ -99,17 +100,6 @@ each-more P xs n x h g e i l = by (eqb i n) refl
     by false t = let q = eqb-false i n t in rw (getD-set-other xs n i x 0 q) (g i (omega arith))
 
 -- The greatest is one of them ---------------------------------------------------------------------------------------
-
-greatest-in : (x : ℕ × ℕ) (ys : List (ℕ × ℕ)) → In (greatestOf x ys) (map (λ y. y .0) (x ∷ ys))
-unfolding greatestOf
-greatest-in x [] = inl refl
-greatest-in x (y ∷ ys) = by (ltb (x .1) (y .1)) (greatest-in y ys) (greatest-in x ys)
-  where
-    by : (b : Bool) → In (greatestOf y ys) (map (λ z. z .0) (y ∷ ys)) → In (greatestOf x ys) (map (λ z. z .0) (x ∷ ys))
-        → In (greatestOf (if b then y else x) ys) (map (λ z. z .0) (x ∷ y ∷ ys))
-    by true i k = inr i
-    by false i (inl e) = inl e
-    by false i (inr k) = inr (inr k)
 
 pub best-in : (d : ℕ) (xs : List (ℕ × ℕ)) → 0 < length xs → In (bestOf d xs) (map (λ y. y .0) xs)
 best-in d [] h = absurd (omega arith)

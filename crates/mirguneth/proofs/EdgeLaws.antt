@@ -18,6 +18,7 @@ use Rattle.definitions.proofs.Lists.{both, both-true, either-right}
 use Rattle.mirguneth.specs.Memory.{edgeCell, edgeIn, Pairs}
 use Rattle.mirguneth.proofs.LineLaws.{take-more}
 use Rattle.mirguneth.proofs.MarkLaws.{any-last}
+use Rattle.mirguneth.proofs.RowLaws.{drop-lent}
 
 -- An edge in a cell, and back.
 pub edge-of-cell : (e : Edge) → e .from < 256 → e .to < 256 → edgeIn (edgeCell e) ≡ e
@@ -109,12 +110,6 @@ module _ (v : ℕ) (seen : List Edge) (e : Edge) where
       edge-new q =
           let k : any (joins (e .from) (e .to)) seen ≡ false = unmarked _ _ (p .holds (e .from) (e .to) (omega arith) (omega arith)) q in
           rw (ranges, ne-eqb _ _ n, k)
-
--- The rest of a memory was lent, `&mut d[a..]`, and holds ys since.
-pub drop-lent : (a : ℕ) (d ys : List ℕ) → a ≤ length d → drop a (putMid a (length d - a) d ys) ≡ ys
-drop-lent a d ys h =
-    let p : postOf a (length d - a) d ≡ [] = drop-of-length-le (drop a d) {i = length d - a} (simp length-drop (omega arith)) in
-    drop-at (take a d) (ys ++ postOf a (length d - a) d) a (length-take-le a d h) ∙ rw (p, append-nil)
 
 -- The cells of i edges stand in front of the memory d; the numbers of one more were read, `&mut d[i..]`, and are in ys.
 module _ (d ys : List ℕ) (i : ℕ) (g : i ≤ length d) where

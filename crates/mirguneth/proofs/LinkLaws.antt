@@ -15,27 +15,13 @@ use Rattle.definitions.specs.Job.{Edge, Job, incoming, outgoing}
 use Rattle.mirguneth.specs.Memory.{edgeIn}
 use Rattle.mirguneth.specs.Layout.{memorySize, jobSize, inHeadAt, inNextAt, outHeadAt, outNextAt, levelAt}
 use Rattle.mirguneth.specs.Schedule.{edgeAt, jobIn, chain, Chained, KeptOutside, JobHeld, LinkedIn, LinkedOut}
+use Rattle.mirguneth.proofs.Upward.{count-last, keep-last}
 use Rattle.mirguneth.proofs.Held.{equal-or-not, last-or-before, Same, same-before, same-behind, Sizes, sizes, edge-same, edge-below, edges-in, kept-all, kept-set, kept-then, kept-wider, held-kept, job-kept, chain-more, chain-fuel, chain-same}
 
 -- Lists ---------------------------------------------------------------------------------------------------------
 
-count-last : (k n : ℕ) → countFrom k (suc n) ≡ countFrom k n ++ (k + n) ∷ []
-unfolding countFrom
-count-last k zero = let e : k ≡ k + 0 = omega arith in ap (λ (x : ℕ). x ∷ []) e
-count-last k (suc n) = let e : suc k + n ≡ k + suc n = omega arith in ap (k ∷_) (count-last (suc k) n ∙ ap (λ (x : ℕ). countFrom (suc k) n ++ x ∷ []) e)
-
 pub below-last : (n : ℕ) → below (suc n) ≡ below n ++ n ∷ []
 below-last n = let e : 0 + n ≡ n = omega arith in count-last 0 n ∙ ap (λ (x : ℕ). below n ++ x ∷ []) e
-
-keep-last : {A : Type 0} (f : A → Bool) (xs : List A) (y : A) → keep f (xs ++ y ∷ []) ≡ keep f xs ++ (if f y then y ∷ [] else [])
-unfolding keep
-keep-last f [] y = refl
-keep-last f (x ∷ xs) y = by (f x) (keep-last f xs y)
-  where
-    by : (b : Bool) → keep f (xs ++ y ∷ []) ≡ keep f xs ++ (if f y then y ∷ [] else [])
-        → (if b then x ∷ keep f (xs ++ y ∷ []) else keep f (xs ++ y ∷ [])) ≡ (if b then x ∷ keep f xs else keep f xs) ++ (if f y then y ∷ [] else [])
-    by true e = ap (x ∷_) e
-    by false e = e
 
 -- Of one edge more, the newest first.
 module _ (f : Edge → Bool) (edge : ℕ → Edge) (i : ℕ) where

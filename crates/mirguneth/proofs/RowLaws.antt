@@ -94,6 +94,12 @@ length-rows k (suc n) d = length-append (rows k n d) (take k (drop (n * k) d) �
 pub row-ends : (i n k : ℕ) → i < n → i * k + k ≤ n * k
 row-ends i n k h = omega (arith, suc-mul i k, mul-le-mul-right {m = suc i} {n = n} k h)
 
+-- The rest of a memory was lent, `&mut d[a..]`, and holds ys since.
+pub drop-lent : (a : ℕ) (d ys : List ℕ) → a ≤ length d → drop a (putMid a (length d - a) d ys) ≡ ys
+drop-lent a d ys h =
+    let p : postOf a (length d - a) d ≡ [] = drop-of-length-le (drop a d) {i = length d - a} (simp length-drop (omega arith)) in
+    drop-at (take a d) (ys ++ postOf a (length d - a) d) a (length-take-le a d h) ∙ rw (p, append-nil)
+
 -- The memory from row i on was lent, `&mut d[a..]`, and holds ys now.
 module _ (k i : ℕ) (d ys : List ℕ) (h : i * k ≤ length d) where
   abbrev new : List ℕ
@@ -102,13 +108,8 @@ module _ (k i : ℕ) (d ys : List ℕ) (h : i * k ≤ length d) where
   pub lent-rows : rows k i new ≡ rows k i d
   lent-rows = rows-same k i new d (take-put (i * k) (length d - i * k) d ys h)
 
-  pub lent-from : drop (i * k) new ≡ ys
-  lent-from =
-      let p : postOf (i * k) (length d - i * k) d ≡ [] = drop-of-length-le (drop (i * k) d) {i = length d - i * k} (simp length-drop (omega arith)) in
-      drop-at (take (i * k) d) (ys ++ postOf (i * k) (length d - i * k) d) (i * k) (length-take-le (i * k) d h) ∙ rw (p, append-nil)
-
   pub lent-row : take (i * k + k - i * k) (drop (i * k) new) ≡ take k ys
-  lent-row = let m : i * k + k - i * k ≡ k = omega arith in rw (m, lent-from)
+  lent-row = let m : i * k + k - i * k ≡ k = omega arith in rw (m, drop-lent (i * k) d ys h)
 
   pub lent-more : rows k (i + 1) new ≡ rows k i d ++ take k ys ∷ []
-  lent-more = rows-more k i new ∙ rw (lent-rows, lent-from)
+  lent-more = rows-more k i new ∙ rw (lent-rows, drop-lent (i * k) d ys h)

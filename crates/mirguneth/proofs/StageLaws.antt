@@ -12,7 +12,8 @@ use Rattle.definitions.specs.Lists.{bytes, nth, below, empty}
 use Rattle.definitions.specs.Limits.{document01}
 use Rattle.definitions.specs.Text.{found, refused, next, due, firstOf, line, lines, whole}
 use Rattle.definitions.specs.Job.{Edge, JobHead, jobHeadOf, jobHead, jobHeadRule, outside, runRule, delayRule, edgeLine, edgeRule, remaining, circular, jobLines, readJob}
-use Rattle.definitions.proofs.Lists.{neither, either-right, inside, passed}
+use Rattle.definitions.proofs.Lists.{either-right}
+use Rattle.definitions.proofs.Reading.{job-head-parts}
 use Rattle.text.specs.declared.Step.{Step}
 use Rattle.text.specs.declared.Step.the-variants.{Next, Refused}
 use Rattle.mirguneth.specs.Memory.{jobCells}
@@ -63,20 +64,13 @@ module _ (v m e x : ℕ) where
 
 -- A memory with a head that passed its rule.
 pub headed : (mem : List ℕ) → jobHeadRule document01 (jobHeadOf mem) ≡ 0 → 5640 ≤ length mem → Headed mem
-unfolding jobHeadRule
 headed mem z room =
-    let v = outside 1 255 (nth mem 0) in
-    let m = outside 1 16 (nth mem 1) in
-    let e = outside 0 1024 (nth mem 2) in
-    let (a1, _) = neither (v || m || e) (outside 0 7 (nth mem 3)) (passed _ _ _ z .0) in
-    let (a2, ee) = neither (v || m) e a1 in
-    let (vv, mm) = neither v m a2 in
-    let (v1, v2) = inside 1 255 (nth mem 0) vv in
+    let (v1, v2, _, m2, e2, _, _) = job-head-parts document01 (jobHeadOf mem) z in
     record {
       some-task = v1;
       tasks-most = v2;
-      processors-most = inside 1 16 (nth mem 1) mm .1;
-      edges-most = inside 0 1024 (nth mem 2) ee .1;
+      processors-most = m2;
+      edges-most = e2;
       room = room;
     }
 

@@ -12,7 +12,7 @@ use lib.Seq.{getD-set-same, getD-set-other}
 use borrow.Author.Tests.{eqb-true, eqb-false, eq-eqb, ne-eqb}
 use Rattle.definitions.specs.Lists.{if_then_else_, nth, countFrom, below, keep, sum, greatest, sameNumbers}
 
-count-last : (k n : ℕ) → countFrom k (suc n) ≡ countFrom k n ++ (k + n) ∷ []
+pub count-last : (k n : ℕ) → countFrom k (suc n) ≡ countFrom k n ++ (k + n) ∷ []
 unfolding countFrom
 count-last k zero = let e : k ≡ k + 0 = omega arith in ap (λ (x : ℕ). x ∷ []) e
 count-last k (suc n) = let e : suc k + n ≡ k + suc n = omega arith in ap (k ∷_) (count-last (suc k) n ∙ ap (λ (x : ℕ). countFrom (suc k) n ++ x ∷ []) e)
