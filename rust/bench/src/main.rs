@@ -42,7 +42,7 @@ struct Texts {
 
 fn main() {
     let tools = tools();
-    print!("{:<34}{:<9}", "job", "");
+    print!("{:<42}{:<9}", "job", "");
     for (name, _) in &tools {
         print!("{:>12}", format!("{name}, us"));
     }
@@ -86,7 +86,7 @@ fn main() {
         let mut label = texts.name.as_str();
         for (function, call) in calls {
             let best = race(&tools, call);
-            print!("{label:<34}{function:<9}");
+            print!("{label:<42}{function:<9}");
             for time in &best {
                 print!("{:>12.2}", time * 1e6);
             }
@@ -101,7 +101,7 @@ fn main() {
 
 fn name(job: &Job) -> String {
     format!(
-        "{} tasks, {} boxes, {} edges, {}",
+        "{} tasks, {} boxes, {} edges, {} lost",
         job.tasks(),
         job.processors(),
         job.edges.len(),

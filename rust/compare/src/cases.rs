@@ -708,11 +708,7 @@ impl Cases<'_> {
             }
         };
         if !same {
-            let task = if task == UNTOUCHED {
-                "left as it was".into()
-            } else {
-                task.to_string()
-            };
+            let task = seen(task);
             let what = format!("second: {verdict:?}\nfirst: {number}, task {task}");
             return Err(self.difference(&what, texts));
         }
@@ -785,8 +781,11 @@ impl Cases<'_> {
                     continue;
                 }
                 let mut what = format!("output of {length} bytes lent ({kind})\n");
-                let _ = writeln!(what, "right: number {number}, written {expected_written}");
-                let _ = writeln!(what, "{name}: number {got}, written {written}");
+                for (name, number, written) in
+                    [("right", number, expected_written), (name, got, written)]
+                {
+                    let _ = writeln!(what, "{name}: number {number}, length {}", seen(written));
+                }
                 let _ = writeln!(what, "right output:\n{}", shown(bytes));
                 for (place, (right, byte)) in expected.iter().zip(&lent).enumerate() {
                     if right != byte {
@@ -877,6 +876,14 @@ fn full<'a>(job: &'a [u8], plan: &'a [u8], stops: &'a [u8]) -> Texts<'a> {
         job,
         plan: Some(plan),
         stops: Some(stops),
+    }
+}
+
+/// What stands behind a pointer after the call.
+fn seen(value: u64) -> String {
+    match value {
+        UNTOUCHED => "left as it was".into(),
+        value => value.to_string(),
     }
 }
 

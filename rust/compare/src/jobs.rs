@@ -236,27 +236,43 @@ pub fn of_size(
     }
 }
 
-/// A chain with every number as large as may be.
+/// A chain with every number as large as may be, or some chains side by side
+/// with numbers that are nearly so.
 pub fn heaviest(rng: &mut Rng) -> Job {
     let tasks = if rng.one_in(2) {
         MAX_TASKS
     } else {
         rng.size(200..=MAX_TASKS)
     };
+    let chains = rng.pick(&[1, 1, 2, 3, 8]);
+    let less = if chains == 1 {
+        0
+    } else {
+        rng.pick(&[0, 1, 100])
+    };
     let mut numbers: Vec<usize> = (0..tasks).collect();
     rng.shuffle(&mut numbers);
-    let edge = |pair: &[usize]| Edge {
-        from: pair[0],
-        to: pair[1],
-        volume: MAX_VOLUME,
+    let mut edges = Vec::new();
+    for to in chains..tasks {
+        edges.push(Edge {
+            from: numbers[to - chains],
+            to: numbers[to],
+            volume: MAX_VOLUME - rng.within(0..=less),
+        });
+    }
+    let mut row = |_| -> Vec<u64> {
+        (0..MAX_PROCESSORS)
+            .map(|_| MAX_RUN_TIME - rng.within(0..=less))
+            .collect()
     };
+    let run_times = (0..tasks).map(&mut row).collect();
     let mut delays = vec![vec![MAX_DELAY; MAX_PROCESSORS]; MAX_PROCESSORS];
     clear_own_delays(&mut delays);
     Job {
         failures: MAX_FAILURES,
-        run_times: vec![vec![MAX_RUN_TIME; MAX_PROCESSORS]; tasks],
+        run_times,
         delays,
-        edges: numbers.windows(2).map(edge).collect(),
+        edges,
     }
 }
 

@@ -57,6 +57,7 @@ fn run(seed: u64, count: u64) -> ExitCode {
     }
     let seconds = start.elapsed().as_secs_f64();
     println!("{count} cases, {calls} calls of each in {seconds:.1} s: no difference");
+    println!("met: {}", tally.summary());
     if missing.is_empty() {
         ExitCode::SUCCESS
     } else {

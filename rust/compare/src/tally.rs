@@ -53,6 +53,29 @@ impl Tally {
         *self.counts.entry((group, kind, number)).or_default() += 1;
     }
 
+    /// One line: good answers, each refusal number, and output lengths.
+    pub fn summary(&self) -> String {
+        let sum = |kept: &dyn Fn(&Key) -> bool| -> u64 {
+            let kept = self.counts.iter().filter(|(key, _)| kept(key));
+            kept.map(|(_, count)| count).sum()
+        };
+        let answers = [Group::Plan, Group::Check, Group::Replay];
+        let mut parts = Vec::new();
+        for (group, name) in answers.iter().zip(["plans", "accepted", "replays"]) {
+            let count = sum(&|key| key.0 == *group && key.2 == 0);
+            parts.push(format!("{name} {count}"));
+        }
+        for number in 1..=15 {
+            let count = sum(&|key| answers.contains(&key.0) && key.2 == number);
+            parts.push(format!("{number}: {count}"));
+        }
+        for length in LENGTHS {
+            let count = sum(&|key| key.0 == Group::Length && key.1 == length);
+            parts.push(format!("{length} {count}"));
+        }
+        parts.join(", ")
+    }
+
     /// The kinds that have to be met and were not.
     pub fn never_met(&self) -> Vec<String> {
         let met = |key: &Key| self.counts.contains_key(key);
@@ -107,15 +130,8 @@ fn required() -> Vec<Key> {
     add(Group::Replay, "plan", &[1, 2, 3, 9, 10, 11]);
     add(Group::Replay, "stops", &[1, 2, 3, 15]);
     add(Group::Replay, "output", &[8]);
-    for kind in [
-        "exact",
-        "longer",
-        "much longer",
-        "one short",
-        "zero",
-        "refused before 8",
-    ] {
-        add(Group::Length, kind, &[0]);
+    for length in LENGTHS {
+        add(Group::Length, length, &[0]);
     }
     for kind in [
         "none",
@@ -141,6 +157,15 @@ fn required() -> Vec<Key> {
     }
     keys
 }
+
+const LENGTHS: [&str; 6] = [
+    "exact",
+    "longer",
+    "much longer",
+    "one short",
+    "zero",
+    "refused before 8",
+];
 
 pub const LIMITS: [&str; 11] = [
     "1 task",
