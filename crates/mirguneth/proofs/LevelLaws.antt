@@ -15,10 +15,10 @@ use Rattle.definitions.specs.Job.{Edge, Job, runTime, outgoing}
 use Rattle.definitions.specs.Planner.{scaledRun, totalDelay, scaledMessage, raised, settled, bottomLevels}
 use Rattle.definitions.proofs.Lists.{map-same, same-numbers, nth-below, greatest-most}
 use Rattle.definitions.proofs.Tasks.{in-outgoing}
-use Rattle.mirguneth.specs.Layout.{levelAt, raisedAt, lineAt}
+use Rattle.mirguneth.specs.Layout.{jobSize, levelAt, raisedAt, lineAt, runAt}
 use Rattle.mirguneth.specs.Memory.{edgeIn}
 use Rattle.mirguneth.specs.Schedule.{edgeAt, jobIn, KeptOutside, JobHeld, LevelsFilled}
-use Rattle.mirguneth.specs.Rounds.{levelsIn, roundMost, levelMost, TableMost, sent, SuccessorsFilled, RunsAdded}
+use Rattle.mirguneth.specs.Rounds.{levelsIn, roundMost, levelMost, TableMost, sent, SuccessorsFilled, RunsFilled, RunsAdded}
 use Rattle.mirguneth.proofs.Held.{below-same, tasks-in, edge-in, sizes, edge-below, kept-all, kept-then, kept-wider, kept-set, job-kept, held-kept}
 use Rattle.mirguneth.proofs.RowSums.{sum-least, total-in, total-most, scaled-most}
 use Rattle.mirguneth.proofs.Upward.{map-more, keep-yes, keep-no, greatest-last, table-more, table-other}
@@ -230,6 +230,12 @@ pub levels-filled : (mem : List ℕ) → levelsIn mem ≡ bottomLevels (jobIn me
 unfolding levelsIn
 levels-filled mem e t h = sym (nth-below (λ t. nth mem (levelAt + t)) (nth mem 0) t h) ∙ ap (λ (xs : List ℕ). nth xs t) e
 
+-- A change before the table of scaled run times leaves it filled.
+pub runs-kept : {low high : ℕ} {d e : List ℕ} → JobHeld d → KeptOutside low high d e → jobSize ≤ low → high ≤ runAt → RunsFilled d → RunsFilled e
+runs-kept {d = d} {e = e} held k a b r t h =
+    let g : t < nth d 0 = omega (arith, k .before 0 (omega arith)) in
+    k .behind (runAt + t) (omega arith) ∙ r t g ∙ ap (λ (j : Job). scaledRun j t) (sym (job-kept held k a))
+
 -- Run times are added ----------------------------------------------------------------------------------------
 
 -- The level of task u after the pass that adds the run times.
@@ -257,6 +263,9 @@ adding-none d =
 module _ {d mem : List ℕ} (held : JobHeld d) {t : ℕ} (a : Adding d mem t) (h : t < nth d 0) where
   pub adding-held : JobHeld mem
   adding-held = held-kept held (a .kept) (omega arith)
+
+  pub adding-run : RunsFilled d → nth mem (runAt + t) ≡ scaledRun (jobIn mem) t
+  adding-run r = runs-kept held (a .kept) (omega arith) (omega arith) r t (omega (arith, a .kept .before 0 (omega arith)))
 
   module _ (r : ℕ) (e : r ≡ scaledRun (jobIn mem) t) where
     pub adding-level : r + nth mem (raisedAt + t) ≡ newLevel d t

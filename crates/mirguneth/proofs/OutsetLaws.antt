@@ -205,7 +205,7 @@ outset-clocks h e l =
 
 -- Links, levels, largest delays, cleared tasks and counted edges, one after the other.
 module _ {d a b c e f : List ℕ} (h : JobHeld d) (linked : KeptOutside inHeadAt levelAt d a × LinkedIn a × LinkedOut a)
-    (levelled : KeptOutside levelAt lineAt a b × LevelsFilled b) (spread : KeptOutside farAt memorySize b c × FarFilled c)
+    (levelled : KeptOutside levelAt (rowAt 0) a b × LevelsFilled b) (spread : KeptOutside farAt memorySize b c × FarFilled c)
     (cleared : KeptOutside lineAt (rowAt 0) c e × Cleared (nth e 0) e)
     (counted : KeptOutside blockedAt priorityAt e f × ((t : ℕ) → t < nth f 0 → nth f (blockedAt + t) ≡ length (incoming (jobIn f) t))) where
   held-a : JobHeld a

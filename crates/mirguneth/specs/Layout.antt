@@ -42,6 +42,10 @@ blockedAt = 8_968
 abbrev pub priorityAt : ℕ
 priorityAt = 9_224
 
+-- For each task its scaled run time while bottom levels are settled, where the priorities will stand.
+abbrev pub runAt : ℕ
+runAt = 9_224
+
 -- The plan's lines, 25 cells each: the task, then processor, early and late for each replica.
 abbrev pub rowAt : ℕ → ℕ
 rowAt i = 9_480 + i * 25

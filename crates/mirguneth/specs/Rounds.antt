@@ -5,7 +5,7 @@ use Prim.Native.Nat.{ℕ, _+_, _*_, _<_, _≤_}
 use Rattle.definitions.specs.Lists.{nth, below, greatest}
 use Rattle.definitions.specs.Job.{Edge, outgoing}
 use Rattle.definitions.specs.Planner.{scaledRun, totalDelay}
-use Rattle.mirguneth.specs.Layout.{levelAt, raisedAt}
+use Rattle.mirguneth.specs.Layout.{levelAt, raisedAt, runAt}
 use Rattle.mirguneth.specs.Schedule.{jobIn}
 
 -- The levels of all tasks.
@@ -30,6 +30,10 @@ sent mem e = e .volume * totalDelay (jobIn mem) + nth mem (levelAt + e .to)
 -- The table of the next round in e has, for each task, the largest of these in d.
 abbrev pub SuccessorsFilled : List ℕ → List ℕ → Type 0
 SuccessorsFilled d e = (t : ℕ) → t < nth d 0 → nth e (raisedAt + t) ≡ greatest (map (sent d) (outgoing (jobIn d) t))
+
+-- Scaled run times are filled.
+abbrev pub RunsFilled : List ℕ → Type 0
+RunsFilled mem = (t : ℕ) → t < nth mem 0 → nth mem (runAt + t) ≡ scaledRun (jobIn mem) t
 
 -- The levels in e are the scaled run times and what the table of the next round has in d.
 abbrev pub RunsAdded : List ℕ → List ℕ → Type 0

@@ -33,6 +33,9 @@ pub const WORST: usize = 8969;
 // While a plan is drawn up: the priority of each free task.
 pub const PRIORITY: usize = 9224;
 
+// While bottom levels are settled: the scaled run time of each task.
+pub const RUN: usize = 9224;
+
 // The lines of the plan, 25 cells each: the task, then a processor and two ticks for each replica.
 pub const ROWS: usize = 9480;
 

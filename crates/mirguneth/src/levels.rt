@@ -6,11 +6,12 @@ ghost use lib.ListN.{length};
 ghost use Rattle.definitions.specs.Lists.{nth, below, sum, sameNumbers};
 ghost use Rattle.definitions.specs.Limits.{document01};
 ghost use Rattle.definitions.specs.Planner.{scaledRun, totalDelay};
-ghost use Rattle.mirguneth.specs.Layout.{levelAt, raisedAt, lineAt};
+ghost use Rattle.mirguneth.specs.Layout.{levelAt, raisedAt, lineAt, runAt, rowAt};
 ghost use Rattle.mirguneth.specs.Schedule.{jobIn, JobHeld, LevelsFilled, KeptOutside};
-ghost use Rattle.mirguneth.specs.Rounds.{levelsIn, roundMost, levelMost, TableMost, SuccessorsFilled, RunsAdded};
+ghost use Rattle.mirguneth.specs.Rounds.{levelsIn, roundMost, levelMost, TableMost, SuccessorsFilled, RunsFilled, RunsAdded};
 use crate::layout::LEVEL;
 use crate::layout::RAISED;
+use crate::layout::RUN;
 
 fn greater(x: u64, y: u64) -> u64
     ensures { λ r. ⌜ r ≡ max x y ⌝ }
@@ -62,6 +63,20 @@ fn total_delay(mem: &[u64]) -> u64
     x
 }
 
+// Fills the table of scaled run times.
+fn fill_runs(mem: &mut [u64])
+    requires { ⌜ JobHeld (now mem) ⌝ }
+    ensures { λ _. ⌜ KeptOutside runAt (rowAt 0) (now (mem .entry)) (now (mem .exit)) × RunsFilled (now (mem .exit)) ⌝ }
+{
+    let v = mem[0] as usize;
+    let mut t = 0;
+    while t < v {
+        let x = scaled_run(&mem[..], t);
+        mem[RUN + t] = x;
+        t += 1;
+    }
+}
+
 // Clears the tables of levels.
 fn clear_levels(mem: &mut [u64])
     requires { ⌜ JobHeld (now mem) ⌝ }
@@ -96,14 +111,14 @@ fn fill_successors(mem: &mut [u64], total: u64)
 
 // Adds the run times to the next round's table: these are the new levels. Clears that table, and says whether no level changed.
 fn add_runs(mem: &mut [u64]) -> bool
-    requires { ⌜ JobHeld (now mem) × TableMost raisedAt (roundMost + levelMost) (now mem) ⌝ }
+    requires { ⌜ JobHeld (now mem) × RunsFilled (now mem) × TableMost raisedAt (roundMost + levelMost) (now mem) ⌝ }
     ensures { λ r. ⌜ KeptOutside levelAt lineAt (now (mem .entry)) (now (mem .exit)) × RunsAdded (now (mem .entry)) (now (mem .exit)) × TableMost raisedAt 0 (now (mem .exit)) × (r ≡ sameNumbers (levelsIn (now (mem .exit))) (levelsIn (now (mem .entry)))) ⌝ }
 {
     let v = mem[0] as usize;
     let mut same = true;
     let mut t = 0;
     while t < v {
-        let x = scaled_run(&mem[..], t) + mem[RAISED + t];
+        let x = mem[RUN + t] + mem[RAISED + t];
         if mem[LEVEL + t] != x {
             same = false;
         }
@@ -114,9 +129,9 @@ fn add_runs(mem: &mut [u64]) -> bool
     same
 }
 
-// Fills the table of bottom levels.
-pub fn settle_levels(mem: &mut [u64])
-    requires { ⌜ JobHeld (now mem) ⌝ }
+// Rounds until no level changes.
+fn settle_rounds(mem: &mut [u64])
+    requires { ⌜ JobHeld (now mem) × RunsFilled (now mem) ⌝ }
     ensures { λ _. ⌜ KeptOutside levelAt lineAt (now (mem .entry)) (now (mem .exit)) × LevelsFilled (now (mem .exit)) ⌝ }
 {
     clear_levels(mem);
@@ -130,4 +145,13 @@ pub fn settle_levels(mem: &mut [u64])
         }
         n += 1;
     }
+}
+
+// Fills the table of bottom levels.
+pub fn settle_levels(mem: &mut [u64])
+    requires { ⌜ JobHeld (now mem) ⌝ }
+    ensures { λ _. ⌜ KeptOutside levelAt (rowAt 0) (now (mem .entry)) (now (mem .exit)) × LevelsFilled (now (mem .exit)) ⌝ }
+{
+    fill_runs(mem);
+    settle_rounds(mem);
 }

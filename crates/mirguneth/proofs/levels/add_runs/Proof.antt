@@ -7,11 +7,11 @@ use lib.ListN.{length, length-set}
 use mathlib.Core.List.{map}
 use mathlib.Core.Logic.{⊎-elim}
 use Rattle.definitions.specs.Lists.{nth, countFrom, below, sameNumbers}
-use Rattle.mirguneth.specs.Layout.{memorySize, levelAt}
+use Rattle.mirguneth.specs.Layout.{memorySize, levelAt, runAt}
 use Rattle.mirguneth.specs.Rounds.{levelsIn}
 use Rattle.mirguneth.proofs.Held.{sizes}
 use Rattle.mirguneth.proofs.Upward.{same-yes, same-no}
-use Rattle.mirguneth.proofs.LevelLaws.{newLevel, Adding, adding-none, adding-held, adding-most, adding-more, adding-same, adding-other, adding-clear, adding-levels}
+use Rattle.mirguneth.proofs.LevelLaws.{newLevel, Adding, adding-none, adding-run, adding-most, adding-more, adding-same, adding-other, adding-clear, adding-levels}
 use Rattle.mirguneth.proofs.levels.add_runs.Statement.{statement}
 use Rattle.mirguneth.proofs.levels.add_runs.Tie as tie
 
@@ -23,14 +23,11 @@ abbrev μ-loop : tie.MeasureT-loop
 μ-loop mem₀ v same₀ t₀ mem same t = v - t
 
 slice-read-v : tie.Need-slice-read-v Inv-loop μ-loop
-slice-read-v c = let s = sizes (c .before .before .pre .0) in omega arith
+slice-read-v c = let s = sizes (c .before .pre .0) in omega arith
 
 loop-holds : tie.Need-loop-holds Inv-loop μ-loop
 unfolding sameNumbers countFrom
-loop-holds c = let s = sizes (c .before .before .pre .0) in (search needs, s .tasks-most, s .size, adding-none _, refl)
-
-scaled-run-requires : tie.Need-scaled-run-requires Inv-loop μ-loop
-scaled-run-requires c κs = (adding-held (c .before .before .before .before .before .pre .0) (c .before .before .loop .inv .3) (c .before .loop-test .taken), omega (arith, c .before .before .loop .inv .3 .kept .before 0 (omega arith), c .before .loop-test .taken))
+loop-holds c = let s = sizes (c .before .pre .0) in (search needs, s .tasks-most, s .size, adding-none _, refl)
 
 add-x : tie.Need-add-x Inv-loop μ-loop
 add-x c = search needs
@@ -42,7 +39,18 @@ slice-read-x : tie.Need-slice-read-x Inv-loop μ-loop
 slice-read-x c = search needs
 
 add-x-2 : tie.Need-add-x-2 Inv-loop μ-loop
-add-x-2 c = let s = c .before .scaled-run in omega (arith, adding-most (c .before .before .before .before .before .before .before .pre .0) (c .before .before .before .before .loop .inv .3) (c .before .before .before .loop-test .taken) (s .result) (s .ensures) (c .before .before .before .before .before .before .before .pre .1))
+add-x-2 c = search needs
+
+mul-x-2 : tie.Need-mul-x-2 Inv-loop μ-loop
+mul-x-2 c = search needs
+
+slice-read-x-2 : tie.Need-slice-read-x-2 Inv-loop μ-loop
+slice-read-x-2 c = search needs
+
+add-x-3 : tie.Need-add-x-3 Inv-loop μ-loop
+add-x-3 c =
+    let l = c .before .before .before .loop in let h = c .before .before .loop-test .taken in
+    omega (arith, adding-most (c .before .before .before .before .before .pre .0) (l .inv .3) h (nth (l .mem) (runAt + l .t)) (adding-run (c .before .before .before .before .before .pre .0) (l .inv .3) h (c .before .before .before .before .before .pre .1)) (c .before .before .before .before .before .pre .2))
 
 add-if1 : tie.Need-add-if1 Inv-loop μ-loop
 add-if1 c = search needs
@@ -79,14 +87,15 @@ loop-less c = search needs
 
 loop-again : tie.Need-loop-again Inv-loop μ-loop
 loop-again c =
-    let d = c .before .before .before .before .before .before .before .before .before .args .mem .now in let l = c .before .before .before .before .before .before .loop in let h = c .before .before .before .before .before .loop-test .taken in let s = c .before .before .before .scaled-run in (
+    let d = c .before .before .before .before .before .before .before .args .mem .now in let l = c .before .before .before .before .before .loop in let h = c .before .before .before .before .loop-test .taken in let x = nth (l .mem) (runAt + l .t) in
+    let e = adding-run (c .before .before .before .before .before .before .before .pre .0) (l .inv .3) h (c .before .before .before .before .before .before .before .pre .1) in (
       search needs,
       search needs,
       search needs,
-      adding-more (c .before .before .before .before .before .before .before .before .before .pre .0) (l .inv .3) h (s .result) (s .ensures),
+      adding-more (c .before .before .before .before .before .before .before .pre .0) (l .inv .3) h x e,
       ⊎-elim
-          (λ w. w .1 ∙ sym (same-no (newLevel d) (λ u. nth d (levelAt + u)) (l .t) (adding-other (c .before .before .before .before .before .before .before .before .before .pre .0) (l .inv .3) h (s .result) (s .ensures) (w .0 .taken))))
-          (λ w. w .1 ∙ l .inv .4 ∙ sym (same-yes (newLevel d) (λ u. nth d (levelAt + u)) (l .t) (adding-same (c .before .before .before .before .before .before .before .before .before .pre .0) (l .inv .3) h (s .result) (s .ensures) (w .0 .left))))
+          (λ w. w .1 ∙ sym (same-no (newLevel d) (λ u. nth d (levelAt + u)) (l .t) (adding-other (c .before .before .before .before .before .before .before .pre .0) (l .inv .3) h x e (w .0 .taken))))
+          (λ w. w .1 ∙ l .inv .4 ∙ sym (same-yes (newLevel d) (λ u. nth d (levelAt + u)) (l .t) (adding-same (c .before .before .before .before .before .before .before .pre .0) (l .inv .3) h x e (w .0 .left))))
           (c .if1 .came),
     )
 
@@ -96,7 +105,7 @@ same-length c = c .before .loop .inv .3 .kept .size
 returns : tie.Need-returns Inv-loop μ-loop
 unfolding levelsIn
 returns c =
-    let d = c .before .before .before .before .args .mem .now in let l = c .before .loop in let a = l .inv .3 in
+    let d = c .before .before .before .args .mem .now in let l = c .before .loop in let a = l .inv .3 in
     let e : l .t ≡ nth d 0 = omega arith in (
       a .kept,
       λ t h. a .added t (omega arith),
@@ -112,11 +121,13 @@ add-runs-spec =
     μ-loop
     slice-read-v
     loop-holds
-    scaled-run-requires
     add-x
     mul-x
     slice-read-x
     add-x-2
+    mul-x-2
+    slice-read-x-2
+    add-x-3
     add-if1
     mul-if1
     slice-read-if1
