@@ -108,10 +108,7 @@ fn is_free(mem: &[u64], t: usize) -> bool
     requires { ⌜ JobHeld (now mem) × (t < nth (now mem) 0) ⌝ }
     ensures { λ r. ⌜ r ≡ isFree (now (mem .entry)) t ⌝ }
 {
-    if mem[LINE + t] != 0 {
-        return false;
-    }
-    mem[BLOCKED + t] == 0
+    (mem[LINE + t] == 0) & (mem[BLOCKED + t] == 0)
 }
 
 // The free task of greatest priority, the lowest of those; the number of tasks if none is free.
