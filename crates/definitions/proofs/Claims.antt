@@ -15,7 +15,7 @@ use Rattle.definitions.specs.Text.{widthFrom, width, good}
 use Rattle.definitions.specs.Job.{Job, readJob}
 use Rattle.definitions.specs.Plan.{Line, Plan, readPlan}
 use Rattle.definitions.specs.Stops.{stopsText}
-use Rattle.definitions.specs.Times.{same, least, earlies}
+use Rattle.definitions.specs.Times.{least, earlies}
 use Rattle.definitions.specs.Refusals.{doubledTasks, planRefusal}
 use Rattle.definitions.specs.Planner.{Waiting, waitingFrom, bottomLevels, ranked, trial, planFor}
 use Rattle.definitions.specs.Replay.{replay, roundEnd}

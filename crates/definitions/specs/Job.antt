@@ -1,11 +1,11 @@
 -- A job: what its text says, and the numbers 1 to 7.
-use Prim.Native.Nat.{ℕ, zero, suc, _+_, _*_}
+use Prim.Native.Nat.{ℕ, zero, suc, _+_}
 use mathlib.Core.Path.{_≡_}
 use mathlib.Core.List.{List, [], _∷_, map}
-use mathlib.Core.Bool.{Bool, true, false, not, _&&_, _||_}
-use lib.Dec.{leb, ltb, eqb}
+use mathlib.Core.Bool.{Bool, not, _&&_, _||_}
+use lib.Dec.{ltb, eqb}
 use lib.ListN.{length, getD, drop}
-use Rattle.definitions.specs.Lists.{if_then_else_, bytes, nth, below, keep, any, In, has, empty}
+use Rattle.definitions.specs.Lists.{bytes, nth, below, keep, any, In, has, empty}
 use Rattle.definitions.specs.Limits.{Limits}
 use Rattle.definitions.specs.Text.{Reader, _>>=_, _>>_, return, firstOf, due, line, lines, Result, andThen, unless, whole}
 

@@ -1,13 +1,13 @@
 -- A plan: what its text says, read (1, 2, 3, 9, 11, 10) and printed.
-use Prim.Native.Nat.{ℕ, zero, suc, _+_, _*_}
+use Prim.Native.Nat.{ℕ, _+_, _*_}
 use mathlib.Core.List.{List, [], _∷_, _++_, map}
-use mathlib.Core.Bool.{Bool, true, false, not, _&&_, _||_}
-use lib.Dec.{leb, ltb, eqb}
+use mathlib.Core.Bool.{Bool, false, not, _&&_, _||_}
+use lib.Dec.{ltb, eqb}
 use lib.ListN.{drop}
-use Rattle.definitions.specs.Lists.{if_then_else_, bytes, nth, any, all, has}
+use Rattle.definitions.specs.Lists.{bytes, nth, any, all, has}
 use Rattle.definitions.specs.Limits.{Limits}
 use Rattle.definitions.specs.Text.{Reader, _>>=_, _>>_, return, firstOf, due, line, lines, lineText, Result, whole}
-use Rattle.definitions.specs.Job.{Edge, Job, incoming, outside}
+use Rattle.definitions.specs.Job.{Job, incoming, outside}
 
 -- A replica ("copy") of a line's task: its processor and its early and late finish ticks.
 pub record Replica : Type 0 where

@@ -1,13 +1,13 @@
 -- "The planner": scaled levels, the choice of the task and of its boxes.
 use Prim.Native.Nat.{ℕ, zero, suc, _+_, _*_, _-_}
 use mathlib.Core.List.{List, [], _∷_, map, reverseAux}
-use mathlib.Core.Bool.{Bool, true, false, not, _&&_, _||_}
+use mathlib.Core.Bool.{Bool, not, _&&_, _||_}
 use lib.Dec.{ltb, eqb}
-use lib.ListN.{length, getD}
+use lib.ListN.{length}
 use Rattle.definitions.specs.Lists.{if_then_else_, nth, below, keep, all, has, sameNumbers, sum, greatest}
 use Rattle.definitions.specs.Job.{Edge, Job, runTime, delay, incoming, outgoing}
 use Rattle.definitions.specs.Plan.{Replica, Line, Plan}
-use Rattle.definitions.specs.Times.{Time, tick, never, after, least, largest, Copy, Outcome, ofTask, finish, walk, copiesOf, bestEnd, worstEnd}
+use Rattle.definitions.specs.Times.{Time, tick, never, after, least, largest, Outcome, ofTask, finish, walk, copiesOf, bestEnd, worstEnd}
 
 -- The number of a tick. Where the planner asks, the time is a tick.
 abbrev pub tickOf : Time → ℕ

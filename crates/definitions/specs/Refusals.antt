@@ -1,7 +1,7 @@
 -- "What is refused", after a plan's last line: 12 over all lines, then 13, then 14.
 use Prim.Native.Nat.{ℕ}
 use mathlib.Core.List.{List, [], _∷_, _++_, map}
-use mathlib.Core.Bool.{Bool, true, false, not, _&&_, _||_}
+use mathlib.Core.Bool.{Bool, true, false, not, _&&_}
 use Rattle.definitions.specs.Lists.{keep, distinct, empty}
 use Rattle.definitions.specs.Text.{firstOf}
 use Rattle.definitions.specs.Job.{Job}

@@ -1,7 +1,6 @@
 -- "The replay": what each copy does under a stop list, and the R and L lines.
-use Prim.Native.Nat.{ℕ, zero, suc, min}
+use Prim.Native.Nat.{ℕ, min}
 use mathlib.Core.List.{List, [], _∷_, _++_, map}
-use mathlib.Core.Bool.{Bool, true, false}
 use Rattle.definitions.specs.Lists.{bytes, below, keep}
 use Rattle.definitions.specs.Limits.{Limits}
 use Rattle.definitions.specs.Text.{decimal, lineText}

@@ -1,5 +1,5 @@
 -- "Times": the four equations, M* and M. The replay is the same walk, with stops.
-use Prim.Native.Nat.{ℕ, zero, suc, _+_, _*_, max, min}
+use Prim.Native.Nat.{ℕ, _+_, _*_, max, min}
 use mathlib.Core.List.{List, [], _∷_, _++_, map}
 use mathlib.Core.Bool.{Bool, true, false}
 use lib.Dec.{leb, eqb}

@@ -1,15 +1,14 @@
 -- What the three tools answer to given bytes, and what the three programs print.
 use Prim.Native.Nat.{ℕ}
-use mathlib.Core.List.{List, [], _∷_, _++_}
-use mathlib.Core.Bool.{Bool, true, false}
+use mathlib.Core.List.{List, [], _∷_}
 use lib.Dec.{ltb, eqb}
 use lib.ListN.{length}
 use Rattle.definitions.specs.Lists.{if_then_else_, bytes, countFrom, keep, any, all, sameNumbers, distinct, sum, greatest}
 use Rattle.definitions.specs.Limits.{Limits, document01}
-use Rattle.definitions.specs.Text.{firstOf, digits, exactly, number, numbers, line, widthFrom, width, lowDigits, decimal, numbersText, lineText, lines, linesToEnd, Result, good, bad, andThen, unless}
+use Rattle.definitions.specs.Text.{firstOf, digits, exactly, number, numbers, line, widthFrom, width, lowDigits, decimal, numbersText, lineText, lines, linesToEnd, Result, good, bad, andThen}
 use Rattle.definitions.specs.Job.{Job, runTime, delay, incoming, outgoing, edgeOrder, preceded, remaining, circular, jobHead, jobHeadRule, runRule, delayRule, edgeLine, edgeRule, jobLines, readJob}
 use Rattle.definitions.specs.Plan.{Line, Plan, triples, descends, planHead, planHeadRule, strays, planLine, planLineRule, planLines, readPlan, replicaNumbers, planLinesText, planText}
-use Rattle.definitions.specs.Stops.{Stop, stopLine, stopRule, readStops}
+use Rattle.definitions.specs.Stops.{stopLine, stopRule, readStops}
 use Rattle.definitions.specs.Times.{least, largest, ofTask, ready, arrival, dataReady, start, stopTime, finish, walk, copies, earlies, lates, exits, end, bestEnd, worstEnd}
 use Rattle.definitions.specs.Refusals.{doubledTasks, replicasOf, sameTimes, ticksAgree, endsAgree, planRefusal}
 use Rattle.definitions.specs.Planner.{greatestOf, waitingFrom, scaledRun, totalDelay, raised, settled, bottomLevels, largestDelay, topLevel, freeTasks, ranked, criticalTask, trial, chosen, replicas, place, planFor}

@@ -4,7 +4,6 @@ use mathlib.Core.List.{List}
 use Prim.Native.Nat.{ℕ}
 use native.Mathlib.Omega.{arith}
 use lib.ListN.{length}
-use Rattle.definitions.specs.Lists.{In}
 use Rattle.definitions.specs.Text.{Result, good, bad}
 use Rattle.definitions.specs.Tools.{Verdict, accepted, doubled, rejected}
 use Rattle.mirguneth.specs.Answers.{Answered, Judged}

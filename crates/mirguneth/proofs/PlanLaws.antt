@@ -1,25 +1,23 @@
 -- The rules of a plan's head and of its lines, with the job and the lines before in a memory.
 use mathlib.Core.Path.{_≡_, refl, ap, sym, _∙_}
 use mathlib.Core.Logic.{_⊎_, inl, inr, ⊎-elim}
-use mathlib.Core.List.{List, [], _∷_, _++_, map, map-append, reverse, reverseAux}
-use mathlib.Core.Bool.{Bool, true, false, not, _&&_, _||_, and-false, and-true, or-true, or-false, or-assoc}
+use mathlib.Core.List.{List, [], _∷_, _++_, map, map-append, reverseAux}
+use mathlib.Core.Bool.{Bool, true, false, not, _&&_, _||_, and-true, or-true, or-false, or-assoc}
 use Prim.Native.Nat.{ℕ, zero, suc, _+_, _-_, _*_, _%_, _<_, _≤_}
 use native.Mathlib.Omega.{arith}
 use native.Mathlib.Numerals.{add-one}
-use borrow.Author.Tests.{eqb-true, eqb-false, ltb-true, ltb-false, lt-ltb, le-ltb, eq-eqb, ne-eqb, not-false}
+use borrow.Author.Tests.{ltb-true, lt-ltb, le-ltb, eq-eqb, ne-eqb, not-false}
 use lib.Dec.{eqb, ltb}
-use lib.ListN.{length}
-use Rattle.definitions.specs.Lists.{if_then_else_, nth, In, any, all, has}
+use Rattle.definitions.specs.Lists.{nth, In, any, all, has}
 use Rattle.definitions.specs.Limits.{document01}
 use Rattle.definitions.specs.Text.{firstOf}
-use Rattle.definitions.specs.Job.{Edge, Job, incoming, outside}
+use Rattle.definitions.specs.Job.{incoming, outside}
 use Rattle.definitions.specs.Plan.{Replica, Line, processorsOf, descends, PlanHead, planHeadRule, strays, planLineRule}
-use Rattle.definitions.proofs.Lists.{neither, inside, not-outside, either-right, in-append, append-left, append-right, in-map, map-in, in-has, has-not, in-keep}
+use Rattle.definitions.proofs.Lists.{neither, inside, not-outside, either-right, in-append, append-left, append-right, in-has, has-not, in-keep}
 use Rattle.mirguneth.specs.Layout.{inHeadAt, inNextAt, lineAt, rowAt}
-use Rattle.mirguneth.specs.Schedule.{edgeAt, jobIn, rowReplicas, linesIn, chain, LinkedIn, RowHeld, JobHeld, Standing}
+use Rattle.mirguneth.specs.Schedule.{edgeAt, jobIn, rowReplicas, linesIn, chain, LinkedIn, RowHeld, Standing}
 use Rattle.mirguneth.specs.Loading.{lineIn}
-use Rattle.mirguneth.specs.Memory.{edgeIn}
-use Rattle.mirguneth.proofs.Held.{equal-or-not, last-or-before, chain-step, chain-end, tasks-in}
+use Rattle.mirguneth.proofs.Held.{last-or-before, chain-step, chain-end, tasks-in}
 
 -- The head --------------------------------------------------------------------------------------------------------
 

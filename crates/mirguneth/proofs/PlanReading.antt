@@ -1,29 +1,24 @@
 -- A plan's lines, read into rows.
 use mathlib.Core.Path.{_≡_, refl, ap, sym, _∙_}
 use mathlib.Core.Logic.{_⊎_, inl, inr, ⊎-elim}
-use mathlib.Core.List.{List, [], _∷_, _++_, append-assoc}
-use mathlib.Core.Bool.{Bool, true, false}
+use mathlib.Core.List.{List, [], _∷_, _++_}
 use Prim.Native.Nat.{ℕ, zero, suc, _+_, _-_, _*_, _<_, _≤_}
 use native.Mathlib.Omega.{arith}
 use native.Mathlib.Nat.{add-zero, sub-zero}
 use native.Mathlib.Numerals.{add-one}
-use borrow.Author.Tests.{lt-ltb, le-ltb}
 use borrow.Rule.Slice.PartMut.{midOf, postOf, putMid, take-put, drop-put, same-len-mid, mid-len}
-use lib.ListN.{length, getD, set, take, drop, length-set, length-take, length-drop, length-append, List·getD-append}
-use lib.Seq.{drop-at, length-take-le, take-all, take-add, drop-drop, drop-cons, getD-take, getD-drop, getD-set-same, getD-set-other}
+use lib.ListN.{length, set, take, drop, length-drop, List·getD-append}
+use lib.Seq.{drop-at, length-take-le, take-all, take-add, drop-cons, getD-take, getD-drop, getD-set-same, getD-set-other}
 use Rattle.definitions.specs.Lists.{bytes, nth}
 use Rattle.definitions.specs.Limits.{document01}
-use Rattle.definitions.specs.Text.{Reading, Reader, found, refused, next, line, lines, Result, good, bad, ended}
+use Rattle.definitions.specs.Text.{Reading, Reader, found, refused, line, lines}
 use Rattle.definitions.specs.Job.{Job}
-use Rattle.definitions.specs.Plan.{Replica, Line, Plan, triples, lineOf, planHeadOf, planHead, planHeadRule, planLine, planLineRule, planLines, readPlan}
-use Rattle.text.specs.Told.{told}
-use Rattle.text.specs.declared.Step.{Step}
-use Rattle.text.specs.declared.Step.the-variants.{Next, Refused}
-use Rattle.mirguneth.specs.Layout.{memorySize, jobSize, inHeadAt, inNextAt, levelAt, lineAt, blockedAt, rowAt, farAt, bestAt, worstAt}
+use Rattle.definitions.specs.Plan.{Replica, Line, triples, lineOf, planLine, planLineRule}
+use Rattle.mirguneth.specs.Layout.{jobSize, inHeadAt, inNextAt, levelAt, lineAt, blockedAt, rowAt, farAt}
 use Rattle.mirguneth.specs.Schedule.{jobIn, rowReplicas, linesIn, LinkedIn, KeptOutside, RowHeld, JobHeld, Standing}
-use Rattle.mirguneth.specs.Loading.{lineIn, planIn, PlanLoaded}
+use Rattle.mirguneth.specs.Loading.{lineIn}
 use Rattle.mirguneth.proofs.LineLaws.{lines-end, lines-bad, lines-no, lines-next}
-use Rattle.mirguneth.proofs.Held.{equal-or-not, last-or-before, Same, same-part, same-before, same-behind, Sizes, sizes, job-same, job-kept, held-kept, kept-all, kept-then, kept-wider, kept-set, replicas-same, lines-same, chained-same, row-held-same, standing-behind, standing-choice, tasks-in, losses-in}
+use Rattle.mirguneth.proofs.Held.{equal-or-not, last-or-before, Same, same-part, same-before, same-behind, Sizes, sizes, job-same, job-kept, held-kept, kept-all, kept-then, kept-wider, kept-set, lines-same, chained-same, row-held-same, standing-behind, losses-in}
 
 -- The table of lines, emptied -------------------------------------------------------------------------------------------
 

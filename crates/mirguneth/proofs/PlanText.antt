@@ -1,22 +1,20 @@
 -- A plan's text as a whole: the head, the lines, and what is left over.
-use mathlib.Core.Path.{_≡_, refl, ap, sym, _∙_}
-use mathlib.Core.List.{List, [], _∷_}
+use mathlib.Core.Path.{_≡_, refl, _∙_}
+use mathlib.Core.List.{List}
 use Prim.Native.Nat.{ℕ, zero, suc, _+_, _<_, _≤_}
 use native.Mathlib.Omega.{arith}
 use borrow.Author.Tests.{lt-ltb, le-ltb}
-use lib.ListN.{length, set, take, drop, length-set, length-drop, drop-of-length-le}
+use lib.ListN.{length, set, take, drop, length-set, drop-of-length-le}
 use lib.Seq.{drop-cons, getD-take, getD-set-same, getD-set-other}
 use Rattle.definitions.specs.Lists.{bytes, nth}
 use Rattle.definitions.specs.Limits.{document01}
-use Rattle.definitions.specs.Text.{Reading, found, refused, next, return, line, lines, Result, good, bad, ended}
-use Rattle.definitions.specs.Job.{Job}
-use Rattle.definitions.specs.Plan.{Line, Plan, planHeadOf, planHead, planHeadRule, planLine, planLineRule, planLines, readPlan}
-use Rattle.text.specs.declared.Step.{Step}
+use Rattle.definitions.specs.Text.{found, refused, next, return, line, lines, ended}
+use Rattle.definitions.specs.Plan.{Line, Plan, planHeadOf, planHead, planHeadRule, planLines, readPlan}
 use Rattle.text.specs.declared.Step.the-variants.{Next, Refused}
-use Rattle.mirguneth.specs.Layout.{levelAt, lineAt, blockedAt, rowAt, farAt, bestAt, worstAt}
+use Rattle.mirguneth.specs.Layout.{levelAt, lineAt, blockedAt, rowAt, bestAt, worstAt}
 use Rattle.mirguneth.specs.Schedule.{jobIn, linesIn, LinkedIn, KeptOutside, JobHeld, Standing}
 use Rattle.mirguneth.specs.Loading.{planIn, PlanLoaded}
-use Rattle.mirguneth.proofs.Held.{Sizes, sizes, same-before, same-behind, job-kept, held-kept, kept-all, kept-set, lines-same, standing-choice, tasks-in}
+use Rattle.mirguneth.proofs.Held.{sizes, same-before, same-behind, job-kept, held-kept, kept-all, kept-set, lines-same, standing-choice, tasks-in}
 use Rattle.mirguneth.proofs.PlanReading.{allLines, linked-in-same, standing-none}
 
 module _ (d s : List ℕ) where

@@ -11,7 +11,7 @@ use borrow.Rule.Slice.PartMut.{postOf, putMid, take-put}
 use lib.Dec.{ltb, eqb}
 use lib.ListN.{length, getD, take, drop, length-drop, length-append, drop-of-length-le}
 use lib.Seq.{drop-cons, drop-at, take-take, take-nil, length-take-le}
-use Rattle.definitions.specs.Lists.{if_then_else_, nth, any}
+use Rattle.definitions.specs.Lists.{nth, any}
 use Rattle.definitions.specs.Text.{firstOf}
 use Rattle.definitions.specs.Job.{outside, runRule, delayRule}
 use Rattle.definitions.proofs.Lists.{either-right}

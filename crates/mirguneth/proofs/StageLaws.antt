@@ -8,9 +8,9 @@ use borrow.Author.Tests.{lt-ltb, le-ltb}
 use lib.Dec.{ltb}
 use lib.ListN.{length, take, drop, drop-of-length-le}
 use lib.Seq.{drop-cons, getD-take, length-take-le}
-use Rattle.definitions.specs.Lists.{bytes, nth, below, empty}
+use Rattle.definitions.specs.Lists.{bytes, below, empty}
 use Rattle.definitions.specs.Limits.{document01}
-use Rattle.definitions.specs.Text.{found, refused, next, due, firstOf, line, lines, whole}
+use Rattle.definitions.specs.Text.{found, refused, next, due, firstOf, line, lines}
 use Rattle.definitions.specs.Job.{Edge, JobHead, jobHeadOf, jobHead, jobHeadRule, outside, runRule, delayRule, edgeLine, edgeRule, remaining, circular, jobLines, readJob}
 use Rattle.definitions.proofs.Lists.{either-right}
 use Rattle.definitions.proofs.Reading.{job-head-parts}

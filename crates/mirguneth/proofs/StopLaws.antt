@@ -1,21 +1,21 @@
 -- Stop lists: lines to the end of a text, the rule of a stop line, and stop ticks in cells.
-use mathlib.Core.Path.{_≡_, refl, ap, sym, _∙_}
+use mathlib.Core.Path.{_≡_, refl, sym, _∙_}
 use mathlib.Core.Logic.{_⊎_, inl, inr, ⊎-elim}
 use mathlib.Core.List.{List, [], _∷_, _++_, getLast?}
 use mathlib.Core.Option.{Option, none, some}
 use mathlib.Core.Bool.{Bool, true, false}
 use Prim.Native.Nat.{ℕ, zero, suc, _+_, _-_, _*_, _<_, _≤_}
 use native.Mathlib.Omega.{arith}
-use borrow.Author.Tests.{eqb-true, eqb-false, ltb-true, ltb-false, lt-ltb, le-ltb, lt-leb, le-leb, eq-eqb, ne-eqb}
+use borrow.Author.Tests.{ltb-true, ltb-false, lt-ltb, le-ltb, lt-leb, le-leb, eq-eqb, ne-eqb}
 use lib.Dec.{eqb, ltb, leb}
-use lib.ListN.{length, getD, set, take, drop, length-set, length-drop, drop-of-length-le}
-use lib.Seq.{drop-cons, getD-take, getD-set-same, getD-set-other}
+use lib.ListN.{length, set, take, drop, length-set, length-drop, drop-of-length-le}
+use lib.Seq.{getD-take, getD-set-same, getD-set-other}
 use Rattle.definitions.specs.Lists.{if_then_else_, bytes, nth}
 use Rattle.definitions.specs.Limits.{Limits, document01}
-use Rattle.definitions.specs.Text.{Reading, Reader, found, refused, next, return, due, firstOf, isDigit, digits, number, exactly, mark, numbers, line, linesToEnd, Result, good, bad, ended, whole}
+use Rattle.definitions.specs.Text.{Reader, found, refused, next, return, due, firstOf, isDigit, digits, number, exactly, mark, numbers, line, linesToEnd, Result, ended}
 use Rattle.definitions.specs.Job.{Job}
-use Rattle.definitions.specs.Stops.{Stop, stopOf, notAfter, stopLine, stopRule, readStops}
-use Rattle.definitions.specs.Times.{Time, tick, never, stopTime}
+use Rattle.definitions.specs.Stops.{Stop, notAfter, stopLine, stopRule, readStops}
+use Rattle.definitions.specs.Times.{tick, never, stopTime}
 use Rattle.definitions.proofs.Facts.{afterLast}
 use Rattle.definitions.proofs.Lists.{last-of}
 use Rattle.definitions.proofs.Reading.{next-found}

@@ -6,11 +6,11 @@ use mathlib.Core.Bool.{Bool, true, false}
 use Prim.Native.Nat.{ℕ, zero, suc, _+_, _*_, _-_, _<_, _≤_}
 use lib.Dec.{eqb}
 use lib.ListN.{length}
-use Rattle.definitions.specs.Lists.{if_then_else_, nth, below, keep, In}
+use Rattle.definitions.specs.Lists.{if_then_else_, nth, below, In}
 use Rattle.definitions.specs.Limits.{document01}
 use Rattle.definitions.specs.Job.{Edge, Job, delay, incoming, outgoing}
 use Rattle.definitions.specs.Plan.{Replica, Line}
-use Rattle.definitions.specs.Times.{Time, tick, never, later, after, least, largest, Outcome}
+use Rattle.definitions.specs.Times.{Time, tick, never, after, least, largest, Outcome}
 use Rattle.definitions.specs.Planner.{largestDelay, bottomLevels}
 use Rattle.definitions.proofs.Facts.{JobFacts}
 use Rattle.mirguneth.specs.Memory.{edgeIn}

@@ -1,11 +1,11 @@
 -- A list written over another from a place on, and a part of a `&mut` slice that a callee wrote and gave back. Assumes nothing.
-use mathlib.Core.Path.{_≡_, refl, ap, _∙_, sym}
+use mathlib.Core.Path.{_≡_, ap, _∙_, sym}
 use mathlib.Core.List.{List, [], _∷_, _++_, append-assoc, append-nil}
-use Prim.Native.Nat.{ℕ, zero, suc, _+_, _-_, _*_, _<_, _≤_}
+use Prim.Native.Nat.{ℕ, suc, _+_, _-_, _<_, _≤_}
 use native.Mathlib.Omega.{arith}
 use native.Mathlib.Nat.{add-zero, zero-add, add-assoc}
 use native.Mathlib.Numerals.{add-one}
-use lib.ListN.{length, getD, set, length-set, take, drop, take-append-drop, length-append, length-take, length-drop, drop-of-length-le}
+use lib.ListN.{length, getD, set, length-set, take, drop, take-append-drop, length-append, length-drop, drop-of-length-le}
 use lib.Seq.{take-set-le, drop-cons, getD-set-same, take-suc-set, drop-set-lt, take-take, getD-take, take-all, drop-drop, length-take-le, take-append-le, drop-append-le, take-at, drop-at}
 use borrow.Rule.Slice.PartMut.{midOf, postOf, putMid}
 use Rattle.slices.specs.Over.{over}

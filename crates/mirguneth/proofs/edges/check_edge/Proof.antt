@@ -1,9 +1,6 @@
-use mathlib.Core.Path.{_≡_, refl, sym, ap, _∙_}
-use mathlib.Core.List.{List, [], _∷_, _++_}
-use Prim.Native.Nat.{ℕ, zero, suc, _≤_, _<_, _-_, _+_, _*_, _^_}
+use Prim.Native.Nat.{_-_}
 use native.Mathlib.Omega.{arith}
 use borrow.Author.Needs.{needs}
-use lib.ListN.{length, getD, take, drop, set, length-set}
 use Rattle.mirguneth.proofs.EdgeLaws.{edge-from, edge-to, edge-volume, edge-self, edge-twice, edge-new}
 use Rattle.mirguneth.proofs.edges.check_edge.Statement.{statement}
 use Rattle.mirguneth.proofs.edges.check_edge.Tie as tie

@@ -1,9 +1,5 @@
-use mathlib.Core.Path.{_≡_, refl, sym, ap, _∙_}
-use mathlib.Core.List.{List, [], _∷_, _++_}
-use Prim.Native.Nat.{ℕ, zero, suc, _≤_, _<_, _-_, _+_, _*_, _^_}
-use native.Mathlib.Omega.{arith}
+use Prim.Native.Nat.{_-_}
 use borrow.Author.Needs.{needs}
-use lib.ListN.{length, getD, take, drop, set, length-set}
 use Rattle.mirguneth.proofs.LineLaws.{byte-end, byte-no, byte-yes}
 use Rattle.mirguneth.proofs.lines.read_byte.Statement.{statement}
 use Rattle.mirguneth.proofs.lines.read_byte.Tie as tie

@@ -1,10 +1,8 @@
-use mathlib.Core.Path.{_≡_, refl, sym, ap, _∙_}
-use mathlib.Core.List.{List, [], _∷_, _++_}
-use Prim.Native.Nat.{ℕ, zero, suc, _≤_, _<_, _-_, _+_, _*_, _^_}
+use mathlib.Core.Path.{sym, _∙_}
+use Prim.Native.Nat.{_-_}
 use native.Mathlib.Omega.{arith}
 use borrow.Author.Needs.{needs}
-use lib.ListN.{length, getD, take, drop, set, length-set}
-use Rattle.mirguneth.proofs.Held.{Sizes, sizes}
+use Rattle.mirguneth.proofs.Held.{sizes}
 use Rattle.mirguneth.proofs.PlanLaws.{strays-not, line-strays, line-descends, line-again, line-unfed, line-good}
 use Rattle.mirguneth.proofs.plans.check_line.Statement.{statement}
 use Rattle.mirguneth.proofs.plans.check_line.Tie as tie

@@ -1,9 +1,8 @@
-use mathlib.Core.Path.{_≡_, refl, sym, ap, _∙_}
-use mathlib.Core.List.{List, [], _∷_, _++_}
-use Prim.Native.Nat.{ℕ, zero, suc, _≤_, _<_, _-_, _+_, _*_, _^_}
+use mathlib.Core.Path.{_≡_, refl, _∙_}
+use Prim.Native.Nat.{_≤_, _-_, _+_}
 use native.Mathlib.Omega.{arith}
 use borrow.Author.Needs.{needs}
-use lib.ListN.{length, getD, take, drop, set, length-set}
+use lib.ListN.{getD}
 use Rattle.mirguneth.specs.Layout.{inHeadAt}
 use Rattle.mirguneth.proofs.Held.{Sizes, sizes}
 use Rattle.mirguneth.proofs.PlanLaws.{linedFrom, lined-all, lined-end, lined-no, lined-next, link-falls}

@@ -1,9 +1,5 @@
-use mathlib.Core.Path.{_≡_, refl, sym, ap, _∙_}
-use mathlib.Core.List.{List, [], _∷_, _++_}
-use Prim.Native.Nat.{ℕ, zero, suc, _≤_, _<_, _-_, _+_, _*_, _^_}
+use Prim.Native.Nat.{_-_}
 use native.Mathlib.Omega.{arith}
-use borrow.Author.Needs.{needs}
-use lib.ListN.{length, getD, take, drop, set, length-set}
 use Rattle.mirguneth.proofs.PlanLaws.{head-tasks-low, head-tasks-high, head-processors-low, head-processors-high, head-losses, head-best, head-worst}
 use Rattle.mirguneth.proofs.plans.head_strays.Statement.{statement}
 use Rattle.mirguneth.proofs.plans.head_strays.Tie as tie

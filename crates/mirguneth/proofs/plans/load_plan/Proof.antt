@@ -1,11 +1,9 @@
-use mathlib.Core.Path.{_≡_, refl, sym, ap, _∙_}
-use mathlib.Core.List.{List, [], _∷_, _++_}
-use Prim.Native.Nat.{ℕ, zero, suc, _≤_, _<_, _-_, _+_, _*_, _^_}
+use mathlib.Core.Path.{_≡_, sym, ap, _∙_}
+use Prim.Native.Nat.{_-_, _+_}
 use native.Mathlib.Omega.{arith}
 use borrow.Author.Needs.{needs}
-use lib.ListN.{length, getD, take, drop, set, length-set}
+use lib.ListN.{take, length-set}
 use Rattle.definitions.specs.Lists.{nth}
-use Rattle.definitions.specs.Text.{found}
 use Rattle.text.specs.Told.{told}
 use Rattle.mirguneth.specs.Layout.{lineAt, farAt}
 use Rattle.mirguneth.specs.Schedule.{linesIn}

@@ -1,13 +1,11 @@
 use mathlib.Core.Path.{_≡_, refl, sym, ap, _∙_}
-use mathlib.Core.List.{List, [], _∷_, _++_}
-use Prim.Native.Nat.{ℕ, zero, suc, _≤_, _<_, _-_, _+_, _*_, _^_}
+use Prim.Native.Nat.{ℕ, _≤_, _-_, _+_, _*_}
 use native.Mathlib.Omega.{arith}
 use borrow.Author.Needs.{needs}
-use lib.ListN.{length, getD, take, drop, set, length-set}
-use Rattle.definitions.specs.Text.{found}
+use lib.ListN.{length, getD, take}
 use Rattle.text.specs.Told.{told}
-use Rattle.mirguneth.specs.Layout.{rowAt, lineAt, memorySize}
-use Rattle.mirguneth.proofs.Held.{Sizes, sizes}
+use Rattle.mirguneth.specs.Layout.{memorySize}
+use Rattle.mirguneth.proofs.Held.{sizes}
 use Rattle.mirguneth.proofs.PlanReading.{LinesUpTo, upto-none, upto-end, upto-bad, upto-kept, upto-standing, upto-no, upto-next}
 use Rattle.mirguneth.proofs.plans.read_plan_lines.Statement.{statement}
 use Rattle.mirguneth.proofs.plans.read_plan_lines.Tie as tie

@@ -1,10 +1,9 @@
-use mathlib.Core.Path.{_≡_, refl, sym, ap, _∙_}
-use mathlib.Core.List.{List, [], _∷_, _++_}
-use Prim.Native.Nat.{ℕ, zero, suc, _≤_, _<_, _-_, _+_, _*_, _^_}
+use mathlib.Core.Path.{_≡_, refl, _∙_}
+use Prim.Native.Nat.{_≤_, _-_, _+_}
 use native.Mathlib.Omega.{arith}
 use borrow.Author.Needs.{needs}
-use lib.ListN.{length, getD, take, drop, set, length-set}
-use Rattle.mirguneth.proofs.Held.{Sizes, sizes}
+use lib.ListN.{getD}
+use Rattle.mirguneth.proofs.Held.{sizes}
 use Rattle.mirguneth.proofs.PlanLaws.{rowStrays, stray-processor, stray-early, stray-late, stray-none, strays-none, strays-task, strays-row}
 use Rattle.mirguneth.proofs.plans.strays.Statement.{statement}
 use Rattle.mirguneth.proofs.plans.strays.Tie as tie

@@ -1,9 +1,6 @@
-use mathlib.Core.Path.{_≡_, refl, sym, ap, _∙_}
-use mathlib.Core.List.{List, [], _∷_, _++_}
-use Prim.Native.Nat.{ℕ, zero, suc, _≤_, _<_, _-_, _+_, _*_, _^_}
+use Prim.Native.Nat.{_-_}
 use native.Mathlib.Omega.{arith}
 use borrow.Author.Needs.{needs}
-use lib.ListN.{length, getD, take, drop, set, length-set}
 use Rattle.mirguneth.proofs.StopLaws.{stop-processor, stop-tick, stop-order, stop-good}
 use Rattle.mirguneth.proofs.stops.check_stop.Statement.{statement}
 use Rattle.mirguneth.proofs.stops.check_stop.Tie as tie

@@ -1,10 +1,8 @@
-use mathlib.Core.Path.{_≡_, refl, sym, ap, _∙_}
-use mathlib.Core.List.{List, [], _∷_, _++_}
-use Prim.Native.Nat.{ℕ, zero, suc, _≤_, _<_, _-_, _+_, _*_, _^_}
+use mathlib.Core.Path.{_≡_, sym, ap, _∙_}
+use Prim.Native.Nat.{_-_}
 use native.Mathlib.Omega.{arith}
 use borrow.Author.Needs.{needs}
-use lib.ListN.{length, getD, take, drop, set, length-set}
-use lib.ListN.{length-replicate, length-take, length-drop}
+use lib.ListN.{length, take}
 use Rattle.text.specs.Told.{told}
 use Rattle.mirguneth.proofs.StopLaws.{StopsUpTo, stops-none, stops-end, stops-bad, stops-no, stops-shorter, stops-next}
 use Rattle.mirguneth.proofs.stops.read_stop_lines.Statement.{statement}
