@@ -3,6 +3,8 @@
 //!
 //!     cargo run --release -p bench
 
+mod plain;
+
 use compare::jobs::{self, Job};
 use compare::plans::Plan;
 use compare::rng::Rng;
@@ -94,6 +96,17 @@ fn main() {
                 [first, second] => println!("{:>16.2}", first / second),
                 _ => println!(),
             }
+            if function == "plan" {
+                let plain = plain_plan(texts);
+                println!(
+                    "{:<42}{:<9}{:>12}{:>12.2}{:>16.2}",
+                    "",
+                    "  plain",
+                    "",
+                    plain * 1e6,
+                    best[0] / plain
+                );
+            }
             label = "";
         }
     }
@@ -124,6 +137,18 @@ fn texts(name: String, job: Vec<u8>, rng: &mut Rng) -> Texts {
         plan,
         stops,
     }
+}
+
+/// The least seconds of one call of the plain planner, which gives the same plan.
+fn plain_plan(texts: &Texts) -> f64 {
+    let mut best = f64::INFINITY;
+    for _ in 0..REPETITIONS {
+        let start = Instant::now();
+        let plan = plain::plan(black_box(&texts.job)).expect("a plan");
+        best = best.min(start.elapsed().as_secs_f64());
+        assert_eq!(plan.as_bytes(), texts.plan);
+    }
+    best
 }
 
 /// The least seconds of one call, for each implementation.
