@@ -169,15 +169,15 @@ fn range_1() {
         b"JOB,2,3,1,1\nC,0,1000001,6,9\nC,1,5,5,3\nD,0,0,1,2\nD,1,1,0,1\nD,2,2,1,0\nE,0,1,2\n",
         &mut cells,
     );
+}
+
+fn range_2() {
+    let mut cells = [0u64; 64];
     show(
         b"delay 256",
         b"JOB,2,3,1,1\nC,0,4,6,9\nC,1,5,5,3\nD,0,0,1,256\nD,1,1,0,1\nD,2,2,1,0\nE,0,1,2\n",
         &mut cells,
     );
-}
-
-fn range_2() {
-    let mut cells = [0u64; 64];
     show(
         b"volume 4096",
         b"JOB,2,3,1,1\nC,0,4,6,9\nC,1,5,5,3\nD,0,0,1,2\nD,1,1,0,1\nD,2,2,1,0\nE,0,1,4096\n",
@@ -232,15 +232,15 @@ fn rules() {
         b"JOB,2,3,2,1\nC,0,4,6,9\nC,1,5,5,3\nD,0,0,1,2\nD,1,1,0,1\nD,2,2,1,0\nE,0,1,2\nE,1,0,2\n",
         &mut cells,
     );
+}
+
+fn order_1() {
+    let mut cells = [0u64; 64];
     show(
         b"a circle of three",
         b"JOB,3,1,3,0\nC,0,1\nC,1,1\nC,2,1\nD,0,0\nE,0,1,0\nE,1,2,0\nE,2,0,0\n",
         &mut cells,
     );
-}
-
-fn order() {
-    let mut cells = [0u64; 64];
     show(
         b"3 and 4 in the head: 3",
         b"JOB,256,3,1,3\nC,0,4,6,9\nC,1,5,5,3\nD,0,0,1,2\nD,1,1,0,1\nD,2,2,1,0\nE,0,1,2\n",
@@ -271,6 +271,10 @@ fn order() {
         b"JOB,2,3,1,1\nC,0,4,6,9\nC,1,5,5,3\nD,0,1,1,2\nD,1,1,0,1\nD,2,2,1,0\nX,0,1,2\n",
         &mut cells,
     );
+}
+
+fn order_2() {
+    let mut cells = [0u64; 64];
     show(
         b"task 2 to itself, of 2 tasks: 3",
         b"JOB,2,3,1,1\nC,0,4,6,9\nC,1,5,5,3\nD,0,0,1,2\nD,1,1,0,1\nD,2,2,1,0\nE,2,2,2\n",
@@ -309,6 +313,7 @@ fn main() {
     range_1();
     range_2();
     rules();
-    order();
+    order_1();
+    order_2();
     length_and_room();
 }
