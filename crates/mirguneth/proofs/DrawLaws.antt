@@ -19,6 +19,7 @@ use Rattle.definitions.proofs.Chosen.{chosen-count}
 use Rattle.definitions.proofs.Placing.{greatest-in}
 use Rattle.mirguneth.specs.Schedule.{choiceOf}
 use Rattle.mirguneth.specs.Planning.{bestOf}
+use Rattle.mirguneth.proofs.MarkLaws.{keep-keep}
 use Rattle.mirguneth.proofs.Upward.{count-yes, count-no}
 
 -- Lists -----------------------------------------------------------------------------------------------------------
@@ -27,16 +28,6 @@ pub keep-same : {A : Type 0} (f g : A → Bool) (xs : List A) → ((x : A) → I
 unfolding keep
 keep-same f g [] h = refl
 keep-same f g (x ∷ xs) h = rw (h x (inl refl), keep-same f g xs (λ y i. h y (inr i)))
-
-pub keep-keep : {A : Type 0} (f g : A → Bool) (xs : List A) → keep f (keep g xs) ≡ keep (λ x. g x && f x) xs
-unfolding keep
-keep-keep f g [] = refl
-keep-keep f g (x ∷ xs) = by (g x) (keep-keep f g xs)
-  where
-    by : (b : Bool) → keep f (keep g xs) ≡ keep (λ x. g x && f x) xs
-        → keep f (if b then x ∷ keep g xs else keep g xs) ≡ (if b && f x then x ∷ keep (λ x. g x && f x) xs else keep (λ x. g x && f x) xs)
-    by true e = rw e
-    by false e = e
 
 and-comm : (a b : Bool) → (a && b) ≡ (b && a)
 and-comm true true = refl

@@ -29,7 +29,8 @@ use Rattle.mirguneth.proofs.Held.{zero-or-more, tasks-in, processors-in
 use Rattle.mirguneth.proofs.Upward.{below-more, keep-yes, keep-no}
 use Rattle.mirguneth.proofs.TimeLaws.{time-tick}
 use Rattle.mirguneth.proofs.Placed.{has-placed, feeding-line, fed-all, data-placed, level-placed}
-use Rattle.mirguneth.proofs.DrawLaws.{isChosen, chosen-room, chosen-same, trial-nth, keep-same, keep-keep, none-kept, all-same, some-free, best-in, waiting-from, Comes, comes-wider, comes-after, comes-later, comes-largest, comes-choice}
+use Rattle.mirguneth.proofs.MarkLaws.{keep-keep}
+use Rattle.mirguneth.proofs.DrawLaws.{isChosen, chosen-room, chosen-same, trial-nth, keep-same, none-kept, all-same, some-free, best-in, waiting-from, Comes, comes-wider, comes-after, comes-later, comes-largest, comes-choice}
 
 -- The cells of a line -----------------------------------------------------------------------------------------------
 

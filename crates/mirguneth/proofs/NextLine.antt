@@ -27,7 +27,8 @@ use Rattle.mirguneth.specs.Planning.{isFree, freeIn, bestOf, waitingIn, 
 use Rattle.mirguneth.proofs.Held.{last-or-before, tasks-in, processors-in, Same, same-part, Sizes, sizes, job-same, placed-same, lines-same, row-held-same, chained-same, linked-out-same, levels-same, far-same, kept-set, kept-wider}
 use Rattle.mirguneth.proofs.TimeLaws.{time-tick}
 use Rattle.mirguneth.proofs.Placed.{ofTask-append, row-none, fed-all, level-placed}
-use Rattle.mirguneth.proofs.DrawLaws.{keep-same, keep-keep, keep-swap, count-split, count-reverse, place-turn, outcomeOn, walk-apart, replicas-map, Comes, tick-back, tick-most}
+use Rattle.mirguneth.proofs.MarkLaws.{keep-keep}
+use Rattle.mirguneth.proofs.DrawLaws.{keep-same, keep-swap, count-split, count-reverse, place-turn, outcomeOn, walk-apart, replicas-map, Comes, tick-back, tick-most}
 use Rattle.mirguneth.proofs.Drawing.{free-ranked, replicaAt, in-replicas, outcomeOf, outcomes-row, clock-most, finish-comes, finish-cell, waitingAt, waiting-map, free-fed, top-here, lines-left, rest-here, task-below, task-waits, task-fed}
 
 -- The replicas of a line do not speak of its first cell.

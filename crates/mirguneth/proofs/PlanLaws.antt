@@ -17,6 +17,8 @@ use Rattle.definitions.proofs.Lists.{neither, inside, not-outside, either-right
 use Rattle.mirguneth.specs.Layout.{inHeadAt, inNextAt, lineAt, rowAt}
 use Rattle.mirguneth.specs.Schedule.{edgeAt, jobIn, rowReplicas, linesIn, chain, LinkedIn, RowHeld, Standing}
 use Rattle.mirguneth.specs.Loading.{lineIn}
+use Rattle.mirguneth.proofs.DrawLaws.{all-same}
+use Rattle.mirguneth.proofs.MarkLaws.{any-last}
 use Rattle.mirguneth.proofs.Held.{last-or-before, chain-step, chain-end, tasks-in}
 
 -- The head --------------------------------------------------------------------------------------------------------
@@ -87,11 +89,6 @@ module _ (mem : List ℕ) (h : PlanHead) where
     head-good t p l = rw (← e, eq-eqb _ _ t, eq-eqb _ _ p, eq-eqb _ _ l)
 
 -- The processors and ticks of a line --------------------------------------------------------------------------------
-
-any-last : {A : Type 0} (f : A → Bool) (xs : List A) (x : A) → any f (xs ++ x ∷ []) ≡ (any f xs || f x)
-unfolding any
-any-last f [] x = or-false (f x)
-any-last f (y ∷ xs) x = rw (any-last f xs x) (sym (or-assoc (f y) (any f xs) (f x)))
 
 -- A replica is on no processor of the job, or has a tick outside its range.
 abbrev strayed : List ℕ → Replica → Bool
@@ -205,11 +202,6 @@ module _ (mem : List ℕ) (a : ℕ) where
   descends-row = refl
 
 -- Lines of predecessors -----------------------------------------------------------------------------------------------
-
-all-same : {A : Type 0} (f g : A → Bool) (xs : List A) → ((x : A) → In x xs → f x ≡ g x) → all f xs ≡ all g xs
-unfolding all
-all-same f g [] h = refl
-all-same f g (x ∷ xs) h = rw (h x (inl refl), all-same f g xs (λ y i. h y (inr i)))
 
 all-reverse : {A : Type 0} (f : A → Bool) (xs ys : List A) → all f (reverseAux xs ys) ≡ (all f xs && all f ys)
 unfolding all
