@@ -26,7 +26,7 @@ isFree mem t = eqb (nth mem (lineAt + t)) 0 && eqb (nth mem (blockedAt + t)) 0
 unfoldable pub freeIn : List ℕ → List (ℕ × ℕ)
 freeIn mem = map (λ t. (t, nth mem (priorityAt + t))) (keep (isFree mem) (below (nth mem 0)))
 
--- The task of greatest priority among the first n free ones; ties go to the first; d if there is none.
+-- The task of greatest priority among these, which ascend, so that ties go to the lowest; d if there is none.
 abbrev pub bestOf : ℕ → List (ℕ × ℕ) → ℕ
 bestOf d [] = d
 bestOf d (x ∷ xs) = greatestOf x xs

@@ -1,12 +1,12 @@
 // Where each table stands in the working memory: specs/Layout.antt, in the code.
 
-// The first edge that enters each task, counted from 1; 0 for none.
+// The newest edge that enters each task, counted from 1; 0 for none.
 pub const IN_HEAD: usize = 5640;
 
 // For each edge the next one that enters the same task.
 pub const IN_NEXT: usize = 5896;
 
-// The first edge that leaves each task.
+// The newest edge that leaves each task.
 pub const OUT_HEAD: usize = 6920;
 
 // For each edge the next one that leaves the same task.
