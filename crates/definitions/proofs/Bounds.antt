@@ -59,7 +59,7 @@ unfolding least
 least-within b [] h = tt
 least-within b (x ∷ xs) h = sooner-within b x (least xs) (h x (inl refl)) (least-within b xs (λ y i. h y (inr i)))
 
-largest-within : Bounded largest
+pub largest-within : Bounded largest
 unfolding largest
 largest-within b [] h = omega arith
 largest-within b (x ∷ xs) h = later-within b x (largest xs) (h x (inl refl)) (largest-within b xs (λ y i. h y (inr i)))
@@ -180,6 +180,15 @@ module _ (l : Limits) (j : Job) (jf : JobFacts l j) (choose : List Time → Time
       let there = dataReady j choose ds t p in
       copy-within c n (runTime j t p) (l .runTime) (stopTime stops p) (ready j p ds) there (jf .run-most t p ht hp) a
       (weaker (after (n + l .runTime) there) h (after-within (b + l .volume * l .delay) (n + l .runTime) there (data-within l j jf choose k b seen ds t p s f hp)))
+
+  -- A copy's finish after what is placed: a run and a message later at most.
+  pub finish-most : (b : ℕ) (ds : List Outcome) (t p : ℕ) → t < j .tasks → p < j .processors → PlacedWithin j b ds
+      → Within (b + (l .runTime + l .volume * l .delay)) (finish j choose stops ds (copyOf j t p))
+  finish-most b ds t p ht hp h =
+      let c = b + (l .runTime + l .volume * l .delay) in
+      let soon = weaker {c = c} (after (0 + l .runTime) (ready j p ds)) (omega arith) (after-within b (0 + l .runTime) (ready j p ds) (ready-within j b p ds h)) in
+      before-within c 0 (finish j choose stops ds (copyOf j t p))
+      (finish-within b c 0 (map (λ e. e .from) (incoming j t)) ds t p (λ d i. let (u, v) = h d i in (u, λ _. v)) (λ e i. map-in (λ e. e .from) e (incoming j t) i) ht hp (omega arith) soon)
 
   -- A line's copies, with the runs that are still to come, and what follows them.
   line-runs : (b c g : ℕ) (seen : List ℕ) (t : ℕ) → t < j .tasks → (In t seen → ⊥) → Fed j t seen
@@ -432,22 +441,7 @@ module _ (l : Limits) (j : Job) (jf : JobFacts l j) where
   trial-most b placed t ht h x i =
       let (c, o, e) = in-map (λ c. tickOf (finish j least [] placed c)) x (copiesOf j t (below (j .processors))) i in
       let (p, q, r) = in-map (copyOf j t) c (below (j .processors)) o in
-      rw (← e, ← r) (on-box p (in-below (j .processors) p q))
-    where
-      on-box : (p : ℕ) → p < j .processors
-          → tickOf (finish j least [] placed (copyOf j t p)) ≤ b + (l .runTime + l .volume * l .delay)
-      on-box p g =
-          let c = b + (l .runTime + l .volume * l .delay) in
-          let x = finish j least [] placed (copyOf j t p) in
-          let ready-soon = weaker {c = c} (after (0 + l .runTime) (ready j p placed)) (omega arith) (after-within b (0 + l .runTime) (ready j p placed) (ready-within j b p placed h)) in
-          let a = finish-within l j jf least least-within [] b c 0 (map (λ e. e .from) (incoming j t)) placed t p
-          (λ d i. let (u, v) = h d i in (u, λ _. v))
-          (λ e i. map-in (λ e. e .from) e (incoming j t) i)
-          ht
-          g
-          (omega arith)
-          ready-soon in
-          tickOf-most c x (before-within c 0 x a)
+      rw (← e, ← r) (tickOf-most (b + (l .runTime + l .volume * l .delay)) (finish j least [] placed (copyOf j t p)) (finish-most l j jf least least-within [] b placed t p ht (in-below (j .processors) p q) h))
 
   -- A waiting task's bottom level is one of those given.
   in-waiting : (k : ℕ) (w : Waiting) (xs : List ℕ) → In w (waitingFrom k xs) → In (w .bottom) xs

@@ -3,47 +3,36 @@ use mathlib.Core.Path.{_≡_, refl, ap, _∙_, sym}
 use mathlib.Core.Logic.{inl, inr, ⊎-elim}
 use mathlib.Core.List.{List, [], _∷_, _++_, map, map-append, map-map, append-assoc, append-nil, reverse, reverseAux, reverse-append, reverse-reverse}
 use mathlib.Core.Bool.{Bool, true, false}
-use Prim.Native.Nat.{ℕ, zero, suc, _+_, _*_, _<_, _≤_}
+use Prim.Native.Nat.{ℕ, zero, suc, _+_, _*_, _-_, _<_, _≤_}
 use native.Mathlib.Omega.{arith}
 use native.Mathlib.Numerals.{add-one}
-use borrow.Author.Tests.{eqb-true}
-use lib.Dec.{eqb}
 use lib.ListN.{length, length-append, length-map, take, drop, set, length-set, replicate}
 use lib.Seq.{take-at, drop-at}
 use Rattle.definitions.specs.Lists.{if_then_else_, nth, In, distinct}
 use Rattle.definitions.specs.Limits.{document01}
 use Rattle.definitions.specs.Job.{Edge, Job, runTime, incoming}
 use Rattle.definitions.specs.Plan.{Replica, Line, processorsOf}
-use Rattle.definitions.specs.Times.{Time, tick, never, later, after, Copy, Outcome, outcome, times, ready, stopTime, finish, walk, copiesOf, copies, earlies, lates}
+use Rattle.definitions.specs.Times.{Time, tick, later, after, Copy, Outcome, outcome, times, ready, stopTime, finish, walk, copiesOf, copies, earlies, lates}
+use Rattle.definitions.specs.Planner.{tickOf}
 use Rattle.definitions.specs.Refusals.{doubledTasks, replicasOf, ticksAgree}
 use Rattle.definitions.proofs.Lists.{both, both-true, in-append, map-same}
 use Rattle.definitions.proofs.Tasks.{copyOf}
+use Rattle.definitions.proofs.Bounds.{Bounded, PlacedWithin, least-within, largest-within, finish-most}
 use Rattle.definitions.proofs.Guarantee.{same-times, times-same}
 use Rattle.mirguneth.specs.Layout.{lineAt, rowAt}
-use Rattle.mirguneth.specs.Schedule.{jobIn, neverCell, timeIn, choiceOf, rowOutcomes, placedIn, rowReplicas, linesIn, dataIn, Small, JobHeld, Standing, FedIn}
-use Rattle.mirguneth.specs.Planning.{ClocksHeld}
+use Rattle.mirguneth.specs.Schedule.{jobIn, timeIn, choiceOf, rowOutcomes, placedIn, rowReplicas, linesIn, dataIn, JobHeld, Standing, lineTicks}
+use Rattle.mirguneth.specs.Arrivals.{lastShort, DelayTable, BothFed, ShortClocks, BothFinish}
+use Rattle.mirguneth.specs.Planning.{ClocksHeld, finishOn}
 use Rattle.mirguneth.specs.Loading.{lineIn, planIn}
-use Rattle.mirguneth.specs.Checking.{PlanHeld, ClocksAfter, finishIn, AgreesTo, LineAgrees}
+use Rattle.mirguneth.specs.Checking.{PlanHeld, ClocksAfter, finishIn, AgreesTo, LineAgrees, ShortTo}
 use Rattle.mirguneth.specs.declared.clocks.Clocks.{Clocks}
-use Rattle.mirguneth.proofs.Held.{last-or-before, processors-in, sizes}
+use Rattle.mirguneth.proofs.Held.{last-or-before, tasks-in, processors-in, sizes}
 use Rattle.mirguneth.proofs.TimeLaws.{time-tick}
 use Rattle.mirguneth.proofs.Placed.{FedBy, start-placed}
 use Rattle.mirguneth.proofs.DrawLaws.{outcomeOn, walk-apart}
-use Rattle.mirguneth.proofs.Drawing.{replicaAt, in-replicas, outcomeOf, outcomes-row, AllCome, placed-come, ready-comes, clock-more}
+use Rattle.mirguneth.proofs.Drawing.{replicaAt, in-replicas, outcomeOf, outcomes-row, AllCome, placed-come, ready-comes, row-on, clock-more}
 use Rattle.mirguneth.proofs.OutsetLaws.{outset-clocks}
 use Rattle.mirguneth.proofs.CheckLaws.{line-among, line-facts, doubled-in}
-
--- Cells and times ---------------------------------------------------------------------------------------------------
-
--- A time stands in one cell only.
-pub time-cell : (x y : ℕ) → timeIn x ≡ timeIn y → x ≡ y
-time-cell x y e = by (eqb x neverCell) refl (eqb y neverCell) refl e
-  where
-    by : (a : Bool) → eqb x neverCell ≡ a → (b : Bool) → eqb y neverCell ≡ b → (if a then never else tick x) ≡ (if b then never else tick y) → x ≡ y
-    by true p true q e = eqb-true x neverCell p ∙ sym (eqb-true y neverCell q)
-    by true p false q e = absurd (let z : _≡_ {A = ℕ} 0 1 = cc in omega arith)
-    by false p true q e = absurd (let z : _≡_ {A = ℕ} 0 1 = cc in omega arith)
-    by false p false q e = cc
 
 -- The replicas of a line --------------------------------------------------------------------------------------------
 
@@ -90,7 +79,7 @@ module _ {mem : List ℕ} (h : PlanHeld mem) (k : ℕ) (l : k < nth mem 0) where
       omega arith
 
   -- Its ticks are in range.
-  pub ticks-most : (late : Bool) (c : ℕ) → c < nth mem 3 + 1 → cellOf late (rowAt k) c mem ≤ document01 .tick
+  ticks-most : (late : Bool) (c : ℕ) → c < nth mem 3 + 1 → cellOf late (rowAt k) c mem ≤ document01 .tick
   unfolding planIn
   ticks-most late c g =
       let w = nth mem 3 + 1 in
@@ -104,19 +93,83 @@ module _ {mem : List ℕ} (h : PlanHeld mem) (k : ℕ) (l : k < nth mem 0) where
   tick-in : (late : Bool) (c : ℕ) → c < nth mem 3 + 1 → timeIn (cellOf late (rowAt k) c mem) ≡ tick (cellOf late (rowAt k) c mem)
   tick-in late c g = let m = ticks-most late c g in time-tick (cellOf late (rowAt k) c mem) (λ e. omega arith)
 
+-- Short ticks -------------------------------------------------------------------------------------------------------
+
+module _ {mem : List ℕ} (h : PlanHeld mem) (k : ℕ) (l : k ≤ nth mem 0) (s : ShortTo k mem) where
+  -- They fit in 32 bits, with a message and a run.
+  short-most : k * lineTicks ≤ lastShort
+  short-most = omega (arith, sizes (h .standing .job) .tasks-most)
+
+  short-come : (late : Bool) → AllCome (k * lineTicks) (placedIn late (nth mem 3 + 1) k mem)
+  short-come late = placed-come late (nth mem 3 + 1) k (k * lineTicks) mem (omega (arith, short-most)) (by late)
+    where
+      by : (late : Bool) (i c : ℕ) → i < k → c < nth mem 3 + 1 → cellOf late (rowAt i) c mem ≤ k * lineTicks
+      by true i c g m = s i c g m .1
+      by false i c g m = s i c g m .0
+
+  -- A processor's ready tick is short.
+  ready-short : (late : Bool) (p x : ℕ) → tick x ≡ ready (jobIn mem) p (placedIn late (nth mem 3 + 1) k mem) → x ≤ lastShort
+  ready-short late p x e =
+      let (y, f, m) = ready-comes (jobIn mem) p (k * lineTicks) (placedIn late (nth mem 3 + 1) k mem) (short-come late) in
+      let q : x ≡ y = ap tickOf (e ∙ f) in
+      omega (arith, short-most)
+
+  clocks-short : (clocks : Clocks) → ClocksAfter k mem clocks → ShortClocks clocks mem
+  clocks-short clocks c =
+      record {
+        early-size = c .early-size;
+        late-size = c .late-size;
+        early-short = λ p g. ready-short false p (nth (clocks .early) p) (c .early-ready p (rw (processors-in mem) g));
+        late-short = λ p g. ready-short true p (nth (clocks .late) p) (c .late-ready p (rw (processors-in mem) g));
+      }
+
+  placed-on : (late : Bool) (i : ℕ) → i ≤ nth mem 0 → (d : Outcome) → In d (placedIn late (nth mem 3 + 1) i mem) → d .processor < nth mem 1
+  unfolding placedIn
+  placed-on late (suc i) g d m =
+      ⊎-elim
+      (row-on late (rowAt i) (nth mem 3 + 1) (nth mem 1) mem (h .standing .row i (omega arith) .processor-of) d)
+      (placed-on late i (omega arith) d)
+      (in-append d (rowOutcomes late (rowAt i) (nth mem 3 + 1) mem) (placedIn late (nth mem 3 + 1) i mem) m)
+
+  placed-short : (late : Bool) → PlacedWithin (jobIn mem) (k * lineTicks) (placedIn late (nth mem 3 + 1) k mem)
+  placed-short late d i = let (y, e, m) = short-come late d i in (rw (processors-in mem) (placed-on late k l d i), rw e m)
+
+module _ {mem : List ℕ} (h : PlanHeld mem) (k : ℕ) (l : k < nth mem 0) (s : ShortTo k mem) where
+  -- What the code asks for, to compute the finishes of line k.
+  pub finishes-asked : (delays : List ℕ) (clocks : Clocks) → DelayTable delays mem → ClocksAfter k mem clocks
+      → ((n : ℕ) × Standing n mem) × DelayTable delays mem × (nth mem (rowAt k) < nth mem 0) × BothFed (nth mem (rowAt k)) mem × ShortClocks clocks mem
+  finishes-asked delays clocks d c = (
+    (nth mem 0, h .standing),
+    d,
+    h .standing .task-of k l,
+    λ e i.
+        let (g, m) = line-fed h k l e i in
+        let b = short-most h k (omega arith) s in
+        (g, λ c o. let (x, y) = s (nth mem (lineAt + e .from) - 1) c (omega arith) o in (omega arith, omega arith)),
+    clocks-short h k (omega arith) s clocks c,
+  )
+
+  -- If the ticks of line k are the equations', they are short too.
+  short-here : (late : Bool) (c : ℕ) → c < nth mem 3 + 1 → LineAgrees k mem → cellOf late (rowAt k) c mem ≤ k * lineTicks + lineTicks
+  unfolding finishOn
+  short-here late c g a =
+      let p = nth mem (rowAt k + (1 + 3 * c)) in
+      rw (a late c g ∙ tick-in h k l late c g) at
+      (finish-most document01 (jobIn mem) (h .standing .job .facts) (choiceOf late) (by late) [] (k * lineTicks) (placedIn late (nth mem 3 + 1) k mem) (nth mem (rowAt k)) p
+      (rw (tasks-in mem) (h .standing .task-of k l)) (rw (processors-in mem) (h .standing .row k l .processor-of c g)) (placed-short h k (omega arith) s late))
+    where
+      by : (late : Bool) → Bounded (choiceOf late)
+      by true = largest-within
+      by false = least-within
+
+  pub short-next : LineAgrees k mem → ShortTo (k + 1) mem
+  short-next a i c g m =
+      ⊎-elim
+      (λ (e : i ≡ k). rw e (let x = short-here false c m a in let y = short-here true c m a in (omega arith, omega arith)))
+      (λ (o : i < k). let (x, y) = s i c o m in (omega arith, omega arith))
+      (last-or-before k i (omega arith))
+
 -- The clocks --------------------------------------------------------------------------------------------------------
-
-module _ {mem : List ℕ} (h : PlanHeld mem) where
-  placed-comes : (late : Bool) (k : ℕ) → k ≤ nth mem 0 → AllCome (document01 .tick) (placedIn late (nth mem 3 + 1) k mem)
-  placed-comes late k l = placed-come late (nth mem 3 + 1) k (document01 .tick) mem (omega arith) (λ i c g m. ticks-most h i (omega arith) late c m)
-
-  -- A processor's ready tick is in range.
-  pub ready-most : (late : Bool) (k p x : ℕ) → k ≤ nth mem 0 → tick x ≡ ready (jobIn mem) p (placedIn late (nth mem 3 + 1) k mem) → x ≤ document01 .tick
-  ready-most late k p x l e =
-      let (y, f, m) = ready-comes (jobIn mem) p (document01 .tick) (placedIn late (nth mem 3 + 1) k mem) (placed-comes late k l) in
-      let q : tick x ≡ tick y = e ∙ f in
-      let z : x ≡ y = cc in
-      omega arith
 
 -- At first all processors are ready at 0.
 pub clocks-new : (clocks : Clocks) (mem : List ℕ) → JobHeld mem → clocks .early ≡ replicate 16 0 → clocks .late ≡ replicate 16 0
@@ -165,55 +218,43 @@ module _ {mem : List ℕ} (h : PlanHeld mem) (k : ℕ) (l : k < nth mem 0) (c : 
   here = nth mem (rowAt k + (1 + 3 * c))
 
   -- The processor of replica c.
-  pub box-below : nth mem (rowAt k + (1 + 3 * c)) < nth mem 1
+  box-below : nth mem (rowAt k + (1 + 3 * c)) < nth mem 1
   box-below = h .standing .row k l .processor-of c g
 
   pub box-most : nth mem (rowAt k + (1 + 3 * c)) < 16
   box-most = omega (arith, box-below, sizes (h .standing .job) .processors-most)
 
-  -- It is ready at x, what the code asks for is there, and what it computes is the finish by the equations.
-  module _ (late : Bool) (x : ℕ) (e : tick x ≡ ready (jobIn mem) here (placedIn late (nth mem 3 + 1) k mem)) where
-    finish-asked : ((n : ℕ) × Standing n mem) × (nth mem (rowAt k) < nth mem 0) × (here < nth mem 1) × FedIn (nth mem (rowAt k)) mem × Small 4294967295 x
-    finish-asked = ((nth mem 0, h .standing), h .standing .task-of k l, box-below, λ e i. line-fed h k l e i .0, inr (ready-most h late k here x (omega arith) e))
+  -- It is ready at x, and what the code computes is the finish by the equations.
+  finish-found : (late : Bool) (x : ℕ) → tick x ≡ ready (jobIn mem) here (placedIn late (nth mem 3 + 1) k mem)
+      → (r : ℕ) → tick r ≡ after (runTime (jobIn mem) (nth mem (rowAt k)) here) (later (tick x) (dataIn late (nth mem (rowAt k)) here mem)) → tick r ≡ finishIn late k c mem
+  unfolding finishOn finish stopTime
+  finish-found late x e r f = f ∙ rw (e, start-placed (h .standing) k (nth mem (rowAt k)) (omega arith) (line-fed h k l) late here)
 
-    finish-found : (r : ℕ) → timeIn r ≡ after (runTime (jobIn mem) (nth mem (rowAt k)) here) (later (timeIn x) (dataIn late (nth mem (rowAt k)) here mem)) → timeIn r ≡ finishIn late k c mem
-    unfolding finishIn finish stopTime
-    finish-found r f =
-        let m = ready-most h late k here x (omega arith) e in
-        f ∙ rw (time-tick x (λ n. omega arith), e, start-placed (h .standing) k (nth mem (rowAt k)) (omega arith) (line-fed h k l) late here)
+  module _ (clocks : Clocks) (s : ClocksAfter k mem clocks) (es ls : List ℕ) (b : BothFinish (nth mem (rowAt k)) clocks mem es ls) where
+    early-found : tick (nth es here) ≡ finishIn false k c mem
+    early-found = finish-found false (nth (clocks .early) here) (s .early-ready here (rw (processors-in mem) box-below)) (nth es here) (b .early-finish here box-below)
 
-  module _ (clocks : Clocks) (s : ClocksAfter k mem clocks) where
-    pub early-asked : ((n : ℕ) × Standing n mem) × (nth mem (rowAt k) < nth mem 0) × (nth mem (rowAt k + (1 + 3 * c)) < nth mem 1) × FedIn (nth mem (rowAt k)) mem
-        × Small 4294967295 (nth (clocks .early) (nth mem (rowAt k + (1 + 3 * c))))
-    early-asked = finish-asked false (nth (clocks .early) here) (s .early-ready here (rw (processors-in mem) box-below))
+    late-found : tick (nth ls here) ≡ finishIn true k c mem
+    late-found = finish-found true (nth (clocks .late) here) (s .late-ready here (rw (processors-in mem) box-below)) (nth ls here) (b .late-finish here box-below)
 
-    pub late-asked : ((n : ℕ) × Standing n mem) × (nth mem (rowAt k) < nth mem 0) × (nth mem (rowAt k + (1 + 3 * c)) < nth mem 1) × FedIn (nth mem (rowAt k)) mem
-        × Small 4294967295 (nth (clocks .late) (nth mem (rowAt k + (1 + 3 * c))))
-    late-asked = finish-asked true (nth (clocks .late) here) (s .late-ready here (rw (processors-in mem) box-below))
+    pub agrees-next : nth es (nth mem (rowAt k + (1 + 3 * c))) ≡ nth mem (rowAt k + (2 + 3 * c)) → nth ls (nth mem (rowAt k + (1 + 3 * c))) ≡ nth mem (rowAt k + (3 + 3 * c))
+        → AgreesTo k c mem → AgreesTo k (c + 1) mem
+    agrees-next p q a late i m =
+        ⊎-elim (λ (o : i ≡ c). rw o (by late)) (λ (o : i < c). a late i o) (last-or-before c i (omega arith))
+      where
+        by : (late : Bool) → finishIn late k c mem ≡ timeIn (cellOf late (rowAt k) c mem)
+        by true = sym late-found ∙ ap tick q ∙ sym (tick-in h k l true c g)
+        by false = sym early-found ∙ ap tick p ∙ sym (tick-in h k l false c g)
 
-    pub early-found : (r : ℕ) → timeIn r ≡ after (runTime (jobIn mem) (nth mem (rowAt k)) here) (later (timeIn (nth (clocks .early) here)) (dataIn false (nth mem (rowAt k)) here mem))
-        → timeIn r ≡ finishIn false k c mem
-    early-found = finish-found false (nth (clocks .early) here) (s .early-ready here (rw (processors-in mem) box-below))
+    -- A tick that differs from the equations'.
+    pub early-not : (nth es (nth mem (rowAt k + (1 + 3 * c))) ≡ nth mem (rowAt k + (2 + 3 * c)) → ⊥) → LineAgrees k mem → ⊥
+    early-not n a = n (ap tickOf (early-found ∙ a false c g ∙ tick-in h k l false c g))
 
-    pub late-found : (r : ℕ) → timeIn r ≡ after (runTime (jobIn mem) (nth mem (rowAt k)) here) (later (timeIn (nth (clocks .late) here)) (dataIn true (nth mem (rowAt k)) here mem))
-        → timeIn r ≡ finishIn true k c mem
-    late-found = finish-found true (nth (clocks .late) here) (s .late-ready here (rw (processors-in mem) box-below))
+    pub late-not : (nth ls (nth mem (rowAt k + (1 + 3 * c))) ≡ nth mem (rowAt k + (3 + 3 * c)) → ⊥) → LineAgrees k mem → ⊥
+    late-not n a = n (ap tickOf (late-found ∙ a true c g ∙ tick-in h k l true c g))
 
 pub agrees-none : (k : ℕ) (mem : List ℕ) → AgreesTo k 0 mem
 agrees-none k mem late i g = absurd (omega arith)
-
-pub agrees-next : (k c x y : ℕ) (mem : List ℕ) → timeIn x ≡ finishIn false k c mem → timeIn y ≡ finishIn true k c mem
-    → x ≡ nth mem (rowAt k + (2 + 3 * c)) → y ≡ nth mem (rowAt k + (3 + 3 * c)) → AgreesTo k c mem → AgreesTo k (c + 1) mem
-agrees-next k c x y mem e f p q a late i g =
-    ⊎-elim (λ (o : i ≡ c). rw o (by late)) (λ (o : i < c). a late i o) (last-or-before c i (omega arith))
-  where
-    by : (late : Bool) → finishIn late k c mem ≡ timeIn (cellOf late (rowAt k) c mem)
-    by true = sym f ∙ ap timeIn q
-    by false = sym e ∙ ap timeIn p
-
--- A tick that differs from the equations'.
-pub agrees-not : (late : Bool) (k c x : ℕ) (mem : List ℕ) → c < nth mem 3 + 1 → timeIn x ≡ finishIn late k c mem → (x ≡ cellOf late (rowAt k) c mem → ⊥) → LineAgrees k mem → ⊥
-agrees-not late k c x mem g e n a = n (time-cell x (cellOf late (rowAt k) c mem) (e ∙ a late c g))
 
 -- One line more.
 pub agreed-next : (mem : List ℕ) (k : ℕ) → LineAgrees k mem → ((i : ℕ) → i < k → LineAgrees i mem) → (i : ℕ) → i < k + 1 → LineAgrees i mem
@@ -296,8 +337,8 @@ module _ {mem : List ℕ} (h : PlanHeld mem) (one : doubledTasks (planIn mem .li
   abbrev linesWalk : Bool → ℕ → List Outcome
   linesWalk late k = walk (jobIn mem) (choiceOf late) [] [] (copies (jobIn mem) (linesIn wide k mem))
 
-  abbrev finishOn : Bool → ℕ → Replica → Time
-  finishOn late k r = finish (jobIn mem) (choiceOf late) [] (placedIn late wide k mem) (copyOf (jobIn mem) (line k .task) (r .processor))
+  abbrev finishBy : Bool → ℕ → Replica → Time
+  finishBy late k r = finishOn late k mem (line k .task) (r .processor)
 
   line-distinct : (k : ℕ) → k < nth mem 0 → distinct (processorsOf (line k)) ≡ true
   unfolding planIn
@@ -313,7 +354,7 @@ module _ {mem : List ℕ} (h : PlanHeld mem) (one : doubledTasks (planIn mem .li
       ∙ map-map (outcomeOn (jobIn mem) (choiceOf late) (placedIn late wide k mem) (line k .task)) (λ r. r .processor) (line k .replicas)
 
   line-agreed : (late : Bool) (k : ℕ) → k < nth mem 0 → LineAgrees k mem → lineWalk late k ≡ reverse (rowOutcomes late (rowAt k) wide mem)
-  unfolding finishIn
+  unfolding finishOn
   line-agreed late k l a =
       line-walk late k l
       ∙ map-same (λ r. outcomeOn (jobIn mem) (choiceOf late) (placedIn late wide k mem) (line k .task) (r .processor)) (outcomeOf late (line k .task)) (line k .replicas)
@@ -334,23 +375,22 @@ module _ {mem : List ℕ} (h : PlanHeld mem) (one : doubledTasks (planIn mem .li
   abbrev tell : Bool → Replica → Time
   tell late r = tick (written late r)
 
-  line-times : (late : Bool) (k : ℕ) → k < nth mem 0 → times (lineWalk late k) ≡ map (finishOn late k) (line k .replicas)
+  line-times : (late : Bool) (k : ℕ) → k < nth mem 0 → times (lineWalk late k) ≡ map (finishBy late k) (line k .replicas)
+  unfolding finishOn
   line-times late k l =
       ap times (line-walk late k l)
       ∙ map-map (λ d. d .time) (λ r. outcomeOn (jobIn mem) (choiceOf late) (placedIn late wide k mem) (line k .task) (r .processor)) (line k .replicas)
 
   line-told : (late : Bool) (k : ℕ) → k < nth mem 0 → LineAgrees k mem → times (lineWalk late k) ≡ map (tell late) (line k .replicas)
-  unfolding finishIn
   line-told late k l a =
       line-times late k l
-      ∙ map-same (finishOn late k) (tell late) (line k .replicas)
+      ∙ map-same (finishBy late k) (tell late) (line k .replicas)
       (λ r i. let (c, g, e) = replicas-in (rowAt k) wide mem r i in
       rw (← e) (a late c g ∙ tick-in h k l late c g ∙ ap tick (sym (written-at late (rowAt k) c mem))))
 
   told-line : (k : ℕ) → k < nth mem 0 → ((late : Bool) → times (lineWalk late k) ≡ map (tell late) (line k .replicas)) → LineAgrees k mem
-  unfolding finishIn
   told-line k l t late c g =
-      map-at (finishOn late k) (tell late) (line k .replicas) (sym (line-times late k l) ∙ t late) (replicaAt (rowAt k) c mem) (in-replicas (rowAt k) wide c mem g)
+      map-at (finishBy late k) (tell late) (line k .replicas) (sym (line-times late k l) ∙ t late) (replicaAt (rowAt k) c mem) (in-replicas (rowAt k) wide c mem g)
       ∙ ap tick (written-at late (rowAt k) c mem) ∙ sym (tick-in h k l late c g)
 
   -- The times of the first k lines are the written ones exactly if their ticks are the equations'.

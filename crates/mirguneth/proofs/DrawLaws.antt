@@ -19,15 +19,10 @@ use Rattle.definitions.proofs.Chosen.{chosen-count}
 use Rattle.definitions.proofs.Placing.{greatest-in}
 use Rattle.mirguneth.specs.Schedule.{choiceOf}
 use Rattle.mirguneth.specs.Planning.{bestOf}
-use Rattle.mirguneth.proofs.MarkLaws.{keep-keep}
+use Rattle.mirguneth.proofs.MarkLaws.{keep-same, keep-keep}
 use Rattle.mirguneth.proofs.Upward.{count-yes, count-no}
 
 -- Lists -----------------------------------------------------------------------------------------------------------
-
-pub keep-same : {A : Type 0} (f g : A → Bool) (xs : List A) → ((x : A) → In x xs → f x ≡ g x) → keep f xs ≡ keep g xs
-unfolding keep
-keep-same f g [] h = refl
-keep-same f g (x ∷ xs) h = rw (h x (inl refl), keep-same f g xs (λ y i. h y (inr i)))
 
 and-comm : (a b : Bool) → (a && b) ≡ (b && a)
 and-comm true true = refl
@@ -113,24 +108,21 @@ module _ (j : Job) (losses n : ℕ) (waiting : List Waiting) (es ls : List Outco
       by [] e = absurd (omega (arith, rw (e, place) at h))
       by (w ∷ ws) e = omega arith
 
-  -- The task of greatest rank among the free ones is placed, and the others wait.
-  pub place-turn : (d : ℕ)
-      → let t = bestOf d (map (ranked j es) (freeTasks j es waiting)) in
+  -- The task of greatest rank among these is placed, and the others wait.
+  abbrev Turn : ℕ → List Waiting → Type 0
+  Turn d fs =
+      let t = bestOf d (map (ranked j es) fs) in
       let cs = copiesOf j t (chosen j (losses + 1) (trial j es t)) in
       let e = walk j least [] es cs in
       let x = walk j largest [] ls cs in
       place j losses (suc n) waiting es ls
       ≡ record { task = t; replicas = replicas e x } ∷ place j losses n (keep (λ w. not (eqb (w .task) t)) waiting) (reverseAux e es) (reverseAux x ls)
+
+  pub place-turn : (d : ℕ) → Turn d (freeTasks j es waiting)
   unfolding place criticalTask
   place-turn d = by (freeTasks j es waiting) refl some-free
     where
-      by : (fs : List Waiting) → freeTasks j es waiting ≡ fs → 0 < length fs
-          → let t = bestOf d (map (ranked j es) fs) in
-          let cs = copiesOf j t (chosen j (losses + 1) (trial j es t)) in
-          let e = walk j least [] es cs in
-          let x = walk j largest [] ls cs in
-          place j losses (suc n) waiting es ls
-          ≡ record { task = t; replicas = replicas e x } ∷ place j losses n (keep (λ w. not (eqb (w .task) t)) waiting) (reverseAux e es) (reverseAux x ls)
+      by : (fs : List Waiting) → freeTasks j es waiting ≡ fs → 0 < length fs → Turn d fs
       by [] e g = absurd (omega arith)
       by (w ∷ ws) e g = rw (e, place)
 

@@ -15,22 +15,22 @@ use Rattle.definitions.specs.Lists.{if_then_else_, In, nth, keep, all, has, bel
 use Rattle.definitions.specs.Limits.{document01}
 use Rattle.definitions.specs.Job.{Edge, Job, runTime, delay, incoming}
 use Rattle.definitions.specs.Plan.{Replica}
-use Rattle.definitions.specs.Times as Times
-use Rattle.definitions.specs.Times.{tick, never, later, after, Outcome, ready, arrival, dataReady, start, stopTime, finish}
+use Rattle.definitions.specs.Times.{tick, later, after, Outcome, ready, arrival, dataReady, start, stopTime, finish}
 use Rattle.definitions.specs.Planner.{tickOf, Waiting, freeTasks, ranked, scale, topLevel, trial, replicas, place, planFor}
 use Rattle.definitions.proofs.Lists.{both, in-map, in-keep, map-same, map-keep, in-append, append-left, append-right, in-below, all-in}
 use Rattle.definitions.proofs.Tasks.{copyOf, in-incoming}
 use Rattle.definitions.proofs.Placing.{placed-count}
 use Rattle.mirguneth.specs.Layout.{memorySize, jobSize, levelAt, raisedAt, lineAt, blockedAt, priorityAt, rowAt, farAt}
-use Rattle.mirguneth.specs.Schedule.{jobIn, neverCell, timeIn, choiceOf, rowOutcomes, placedIn, rowReplicas, linesIn, rowOf, dataIn, topIn, KeptOutside, Small, Standing, FedIn}
+use Rattle.mirguneth.specs.Schedule.{jobIn, neverCell, timeIn, choiceOf, rowOutcomes, placedIn, rowReplicas, linesIn, rowOf, dataIn, topIn, KeptOutside, FedIn, lineTicks}
+use Rattle.mirguneth.specs.Arrivals.{lastShort, BothFed, ShortClocks}
 use Rattle.mirguneth.specs.declared.clocks.Clocks.{Clocks}
-use Rattle.mirguneth.specs.Planning.{isFree, freeIn, bestOf, waitingIn, earliesIn, latesIn, earlyOn, lateOn, replicaOn, earlyOutcome, lateOutcome, ClocksHeld, lineTicks, Drawn, Ranked, Tried, boxesFor, Wrote, Begun}
+use Rattle.mirguneth.specs.Planning.{isFree, freeIn, bestOf, FreeList, waitingIn, earliesIn, latesIn, finishOn, replicaOn, earlyOutcome, lateOutcome, ClocksHeld, Drawn, Ranked, Tried, boxesFor, Wrote, Begun}
 use Rattle.mirguneth.proofs.Held.{zero-or-more, tasks-in, processors-in, Same, same-part, same-before, same-behind, Sizes, sizes, job-same, placed-same, replicas-same, lines-same, standing-same, linked-out-same, levels-same, far-same, kept-all, kept-set, kept-then, kept-wider}
 use Rattle.mirguneth.proofs.Upward.{below-more, keep-yes, keep-no}
 use Rattle.mirguneth.proofs.TimeLaws.{time-tick}
-use Rattle.mirguneth.proofs.Placed.{has-placed, feeding-line, fed-all, data-placed, level-placed}
-use Rattle.mirguneth.proofs.MarkLaws.{keep-keep}
-use Rattle.mirguneth.proofs.DrawLaws.{isChosen, chosen-room, chosen-same, trial-nth, keep-same, none-kept, all-same, some-free, best-in, waiting-from, Comes, comes-wider, comes-after, comes-later, comes-largest, comes-choice}
+use Rattle.mirguneth.proofs.Placed.{has-placed, feeding-line, fed-all, start-placed, level-placed}
+use Rattle.mirguneth.proofs.MarkLaws.{keep-same, keep-keep}
+use Rattle.mirguneth.proofs.DrawLaws.{isChosen, chosen-room, chosen-same, trial-nth, none-kept, all-same, some-free, best-in, waiting-from, Comes, comes-wider, comes-after, comes-later, comes-largest, comes-choice}
 
 -- The cells of a line -----------------------------------------------------------------------------------------------
 
@@ -77,13 +77,6 @@ AllCome b ds = (d : Outcome) → In d ds → Comes b (d .time)
 time-back : (x b : ℕ) → x ≤ b → b < neverCell → Comes b (timeIn x)
 time-back x b h g = (x, time-tick x (λ e. omega arith), h)
 
-time-of : (r y : ℕ) → timeIn r ≡ tick y → r ≡ y
-time-of r y = by (eqb r neverCell)
-  where
-    by : (b : Bool) → (if b then never else tick r) ≡ tick y → r ≡ y
-    by true h = absurd (let z : _≡_ {A = ℕ} 0 1 = cc in omega arith)
-    by false h = ap tickOf h
-
 row-come : (late : Bool) (a c b : ℕ) (mem : List ℕ) → b < neverCell → ((i : ℕ) → i < c → nth mem (a + ((if late then 3 else 2) + 3 * i)) ≤ b) → AllCome b (rowOutcomes late a c mem)
 unfolding rowOutcomes
 row-come late a (suc c) b mem g h d (inl e) = rw (← e) (time-back (nth mem (a + ((if late then 3 else 2) + 3 * c))) b (h c (omega arith)) g)
@@ -109,7 +102,7 @@ unfolding rowOutcomes
 row-length late a zero mem = refl
 row-length late a (suc c) mem = ap suc (row-length late a c mem)
 
-row-on : (late : Bool) (a c m : ℕ) (mem : List ℕ) → ((i : ℕ) → i < c → nth mem (a + (1 + 3 * i)) < m) → (d : Outcome) → In d (rowOutcomes late a c mem) → d .processor < m
+pub row-on : (late : Bool) (a c m : ℕ) (mem : List ℕ) → ((i : ℕ) → i < c → nth mem (a + (1 + 3 * i)) < m) → (d : Outcome) → In d (rowOutcomes late a c mem) → d .processor < m
 unfolding rowOutcomes
 row-on late a (suc c) m mem h d (inl e) = rw (← e) (h c (omega arith))
 row-on late a (suc c) m mem h d (inr i) = row-on late a c m mem (λ i l. h i (omega arith)) d i
@@ -118,8 +111,8 @@ module _ {k : ℕ} {mem : List ℕ} (s : Drawn k mem) where
   abbrev wide : ℕ
   wide = nth mem 3 + 1
 
-  -- The ticks of k lines pass no k times the ticks of a line.
-  pub ticks-fit : k * lineTicks ≤ document01 .tick
+  -- The ticks of k lines pass no k times the ticks of a line, so they are short.
+  pub ticks-fit : k * lineTicks ≤ lastShort
   ticks-fit = let w = sizes (s .standing .job) in let c = s .standing .count in omega arith
 
   cells-most : (late : Bool) (i c : ℕ) → i < k → c < wide → nth mem (rowAt i + ((if late then 3 else 2) + 3 * c)) ≤ k * lineTicks
@@ -130,11 +123,35 @@ module _ {k : ℕ} {mem : List ℕ} (s : Drawn k mem) where
   all-come late = let f = ticks-fit in placed-come late wide k (k * lineTicks) mem (omega arith) (cells-most late)
 
   -- A processor's ready tick.
-  pub clock-most : (late : Bool) (p x : ℕ) → tick x ≡ ready (jobIn mem) p (placedIn late wide k mem) → x ≤ k * lineTicks
+  clock-most : (late : Bool) (p x : ℕ) → tick x ≡ ready (jobIn mem) p (placedIn late wide k mem) → x ≤ k * lineTicks
   clock-most late p x e =
       let (y, f, l) = ready-comes (jobIn mem) p (k * lineTicks) (placedIn late wide k mem) (all-come late) in
       let q : x ≡ y = ap tickOf (e ∙ f) in
       omega arith
+
+  -- The clocks have short ticks.
+  pub clocks-short : {clocks : Clocks} → ClocksHeld clocks (jobIn mem) (earliesIn k mem) (latesIn k mem) → ShortClocks clocks mem
+  clocks-short {clocks} c =
+      record {
+        early-size = c .early-size;
+        late-size = c .late-size;
+        early-short = λ p l. omega (arith, clock-most false p (nth (clocks .early) p) (c .early-ready p (rw (processors-in mem) l)), ticks-fit);
+        late-short = λ p l. omega (arith, clock-most true p (nth (clocks .late) p) (c .late-ready p (rw (processors-in mem) l)), ticks-fit);
+      }
+
+  -- The lines of a task's predecessors have short ticks.
+  pub fed-short : (t : ℕ) → FedIn t mem → BothFed t mem
+  fed-short t f e i =
+      let (l, m) = fed-all (s .standing) t f e i in
+      let n = nth mem (lineAt + e .from) - 1 in
+      let g : n < k = omega arith in
+      (l, λ c h. (omega (arith, s .early-tick n c g h, ticks-fit), omega (arith, s .late-tick n c g h, ticks-fit)))
+
+  -- From the tick at which p is ready: the finish of t on p is that of the definition.
+  pub finish-at : (late : Bool) (t p x : ℕ) → FedIn t mem → tick x ≡ ready (jobIn mem) p (placedIn late wide k mem)
+      → after (runTime (jobIn mem) t p) (later (tick x) (dataIn late t p mem)) ≡ finish (jobIn mem) (choiceOf late) [] (placedIn late wide k mem) (copyOf (jobIn mem) t p)
+  unfolding finish stopTime
+  finish-at late t p x f e = rw (e, start-placed (s .standing) k t (omega arith) (fed-all (s .standing) t f) late p)
 
   -- The top level of a task whose predecessors are placed is that of the definition.
   pub top-here : (t : ℕ) → FedIn t mem → tickOf (topIn t mem) * scale (jobIn mem) ≡ topLevel (jobIn mem) (earliesIn k mem) t
@@ -166,18 +183,6 @@ module _ {k : ℕ} {mem : List ℕ} (s : Drawn k mem) where
         let d = comes-largest (arrival (jobIn mem) (choiceOf late) (placedIn late wide k mem) p) (incoming (jobIn mem) t) (arrival-comes late) in
         let a = comes-wider {c = k * lineTicks + 1044225} (omega arith) (ready-comes (jobIn mem) p (k * lineTicks) (placedIn late wide k mem) (all-come late)) in
         comes-wider (omega arith) (comes-after 1000000 (runTime (jobIn mem) t p) r (comes-later a d))
-
-    -- What the code computes is that finish.
-    pub finish-cell : (late : Bool) (x r : ℕ) → tick x ≡ ready (jobIn mem) p (placedIn late wide k mem)
-        → timeIn r ≡ after (runTime (jobIn mem) t p) (later (timeIn x) (dataIn late t p mem))
-        → tick r ≡ finish (jobIn mem) (choiceOf late) [] (placedIn late wide k mem) (copyOf (jobIn mem) t p)
-    unfolding finish start stopTime
-    finish-cell late x r e h =
-        let (y, q, l) = finish-comes late in
-        let z = clock-most late p x e in
-        let fits = ticks-fit in
-        let g : timeIn r ≡ tick y = h ∙ rw (time-tick x (λ n. omega arith), e, data-placed (s .standing) k t (omega arith) (fed-all (s .standing) t f) late p) q in
-        ap tick (time-of r y g) ∙ sym q
 
 -- What a change elsewhere leaves as it was --------------------------------------------------------------------------
 
@@ -224,13 +229,9 @@ drawn-same {k} {d} {e} z j r f s =
       rest = rw (l, v, job-same w a, waiting-same w j, lines-same d e (nth d 3 + 1) k few r, placed-same d e false (nth d 3 + 1) k few r, placed-same d e true (nth d 3 + 1) k few r) (s .rest);
     }
 
-module _ {k low high : ℕ} {d e : List ℕ} (c : KeptOutside low high d e) (s : Drawn k d) where
-  -- A change among what serves the choice of a task, or behind the k lines.
-  pub drawn-choice : blockedAt ≤ low → high ≤ rowAt 0 → Drawn k e
-  drawn-choice a b = drawn-same (c .size) (same-before 0 blockedAt c a) (same-behind (rowAt 0) (rowAt k) c b) (same-behind farAt memorySize c (omega arith)) s
-
-  drawn-behind : rowAt k ≤ low → high ≤ farAt → Drawn k e
-  drawn-behind a b = drawn-same (c .size) (same-before 0 blockedAt c (omega arith)) (same-before (rowAt 0) (rowAt k) c a) (same-behind farAt memorySize c b) s
+-- A change among what serves the choice of a task.
+pub drawn-choice : {k low high : ℕ} {d e : List ℕ} → KeptOutside low high d e → Drawn k d → blockedAt ≤ low → high ≤ rowAt 0 → Drawn k e
+drawn-choice {k} c s a b = drawn-same (c .size) (same-before 0 blockedAt c a) (same-behind (rowAt 0) (rowAt k) c b) (same-behind farAt memorySize c (omega arith)) s
 
 -- The clocks, when what serves the choice of a task changes.
 pub clocks-choice : {k : ℕ} {d e : List ℕ} {clocks : Clocks} → KeptOutside blockedAt (rowAt 0) d e → Drawn k d → ClocksHeld clocks (jobIn d) (earliesIn k d) (latesIn k d)
@@ -242,47 +243,6 @@ clocks-choice {k} {d} {e} c s h =
     rw (job-same w (same-before 0 jobSize c (omega arith)), c .before 3 (omega arith), placed-same d e false (nth d 3 + 1) k few r, placed-same d e true (nth d 3 + 1) k few r) h
 
 -- A line that is begun ----------------------------------------------------------------------------------------------
-
-module _ {k : ℕ} {d e : List ℕ} (s : Drawn k d) (c : KeptOutside (rowAt k) farAt d e) where
-  before-row : Same 0 (rowAt k) d e
-  before-row = same-before 0 (rowAt k) c (omega arith)
-
-  job-begun : jobIn e ≡ jobIn d
-  job-begun = job-same (sizes (s .standing .job)) (same-part 0 jobSize before-row (omega arith) (omega arith))
-
-  placed-begun : (late : Bool) → placedIn late (nth e 3 + 1) k e ≡ placedIn late (nth d 3 + 1) k d
-  placed-begun late =
-      let w = sizes (s .standing .job) in
-      rw (before-row .cell 3 (omega arith) (omega arith)) (placed-same d e late (nth d 3 + 1) k (omega arith) (same-part (rowAt 0) (rowAt k) before-row (omega arith) (omega arith)))
-
-  fed-begun : (t : ℕ) → FedIn t d → FedIn t e
-  fed-begun t f x i =
-      let w = sizes (s .standing .job) in
-      let m : In x (incoming (jobIn d) t) = rw job-begun at i in
-      let b : x .from < nth d 0 = rw (tasks-in d) at (s .standing .job .facts .from-task x (in-incoming (jobIn d) t x m .0)) in
-      rw (before-row .cell (lineAt + x .from) (omega arith) (omega arith)) (f x m)
-
-  -- What the code is asked of before it computes a late finish.
-  pub late-asks : (t p : ℕ) (clocks : Clocks) → FedIn t d → t < nth d 0 → p < nth d 1 → ClocksHeld clocks (jobIn d) (earliesIn k d) (latesIn k d)
-      → ((n : ℕ) × Standing n e) × (t < nth e 0) × (p < nth e 1) × FedIn t e × Small 4294967295 (nth (clocks .late) p)
-  late-asks t p clocks f ht hp cs =
-      let x = clock-most s true p (nth (clocks .late) p) (cs .late-ready p (rw (processors-in d) hp)) in (
-        (k, drawn-behind c s (omega arith) (omega arith) .standing),
-        rw (before-row .cell 0 (omega arith) (omega arith)) ht,
-        rw (before-row .cell 1 (omega arith) (omega arith)) hp,
-        fed-begun t f,
-        inr (omega (arith, ticks-fit s)),
-      )
-
-  -- The late finish, from the cell that the code computes it to.
-  late-begun : (t p : ℕ) → FedIn t d → t < nth d 0 → p < nth d 1 → (x r : ℕ) → tick x ≡ ready (jobIn d) p (latesIn k d)
-      → timeIn r ≡ after (runTime (jobIn e) t p) (later (timeIn x) (dataIn true t p e)) → tick r ≡ lateOn k d t p
-  unfolding lateOn
-  late-begun t p f ht hp x r g h =
-      let n = drawn-behind c s (omega arith) (omega arith) in
-      let a = finish-cell n t p (fed-begun t f) (rw (before-row .cell 0 (omega arith) (omega arith)) ht) (rw (before-row .cell 1 (omega arith) (omega arith)) hp) true x r
-      (rw (job-begun, placed-begun true) g) h in
-      rw (job-begun, placed-begun true) at a
 
 pub wrote : (a c p early late : ℕ) (d : List ℕ) → a + (4 + 3 * c) ≤ length d
     → Wrote a c p early late d (set (set (set d (a + (1 + 3 * c)) p) (a + (2 + 3 * c)) early) (a + (3 + 3 * c)) late)
@@ -315,7 +275,7 @@ module _ {k t : ℕ} {d : List ℕ} {clocks : Clocks} where
 
   -- One replica more.
   module _ {ps : List ℕ} {mem e : List ℕ} (b : Begun k t ps clocks d mem) (p x y : ℕ) (f : Wrote (rowAt k) (length ps) p x y mem e)
-      (early : tick x ≡ earlyOn k d t p) (late : tick y ≡ lateOn k d t p) where
+      (early : tick x ≡ finishOn false k d t p) (late : tick y ≡ finishOn true k d t p) where
     begun-more : k < 255 → length ps < 8 → p < 16 → (next : Clocks) → next .early ≡ set (clocks .early) p x → next .late ≡ set (clocks .late) p y → Begun k t (ps ++ p ∷ []) next d e
     unfolding rowReplicas
     begun-more hk few hp next g h =
@@ -338,10 +298,10 @@ module _ {k t : ℕ} {d : List ℕ} {clocks : Clocks} where
         }
 
 -- Processor by processor.
-module _ {k t : ℕ} {at : List ℕ} {clocks : Clocks} {d : List ℕ} (o : Tried k t at clocks d) where
+module _ {k t : ℕ} {early late : List ℕ} {clocks : Clocks} {d : List ℕ} (o : Tried k t early late clocks d) where
   -- The processors that are chosen.
   abbrev takes : ℕ → Bool
-  takes = isChosen at (nth d 1) (nth d 3 + 1)
+  takes = isChosen early (nth d 1) (nth d 3 + 1)
 
   few-tasks : k < 255
   few-tasks = omega (arith, o .more, sizes (o .drawn .standing .job) .tasks-most)
@@ -353,28 +313,27 @@ module _ {k t : ℕ} {at : List ℕ} {clocks : Clocks} {d : List ℕ} (o : Tried
     module _ (f : takes p ≡ true) where
       pub box-room : c < 8
       unfolding jobIn
-      box-room = let w = sizes (o .drawn .standing .job) in omega (arith, chosen-room (jobIn d) at (nth d 3 + 1) p (w .enough) l f)
+      box-room = let w = sizes (o .drawn .standing .job) in omega (arith, chosen-room (jobIn d) early (nth d 3 + 1) p (w .enough) l f)
 
       pub box-within : rowAt k + (4 + 3 * c) ≤ length mem
       box-within = omega (arith, few-tasks, box-room, b .kept .size, o .drawn .standing .job .size)
 
-      pub take-box : (x : ℕ) {e : List ℕ} (next : Clocks) → timeIn x ≡ Times.after (runTime (jobIn mem) t p) (later (timeIn (nth (clocks .late) p)) (dataIn true t p mem))
-          → Wrote (rowAt k) c p (nth at p) x mem e → next .early ≡ set (after .early) p (nth at p) → next .late ≡ set (after .late) p x
+      pub take-box : {e : List ℕ} (next : Clocks) → Wrote (rowAt k) c p (nth early p) (nth late p) mem e
+          → next .early ≡ set (after .early) p (nth early p) → next .late ≡ set (after .late) p (nth late p)
           → (c + 1 ≡ length (keep takes (below (p + 1)))) × Begun k t (keep takes (below (p + 1))) next d e
-      take-box x next q a g h =
+      take-box next a g h =
           let ps = keep takes (below p) in
-          let y = late-begun (o .drawn) (b .kept) t p (o .fed) (o .task-below) l (nth (clocks .late) p) x (o .clocks-now .late-ready p (rw (processors-in d) l)) q in
           let m : length ps < 8 = omega (arith, box-room) in
           rw (below-more p, keep-yes takes (below p) p f) (
             ap (λ (i : ℕ). i + 1) n ∙ sym (length-append ps (p ∷ [])),
-            begun-more b p (nth at p) x (rw n at a) (o .finishes p l) y few-tasks m (omega (arith, sizes (o .drawn .standing .job) .processors-most)) next g h,
+            begun-more b p (nth early p) (nth late p) (rw n at a) (o .early-finishes p l) (o .late-finishes p l) few-tasks m (omega (arith, sizes (o .drawn .standing .job) .processors-most)) next g h,
           )
 
   -- All processors have been asked.
   pub boxes-taken : {p : ℕ} {after : Clocks} {mem : List ℕ} → p ≡ nth d 1 → Begun k t (keep takes (below p)) after d mem → Begun k t (boxesFor k t d) after d mem
-  unfolding jobIn earlyOn
+  unfolding jobIn finishOn
   boxes-taken {p} {after} {mem} e b =
-      let same = chosen-same (jobIn d) (nth d 3 + 1) at (trial (jobIn d) (earliesIn k d) t) (λ q l. ap tickOf (o .finishes q l) ∙ sym (trial-nth (jobIn d) (earliesIn k d) t q l)) in
+      let same = chosen-same (jobIn d) (nth d 3 + 1) early (trial (jobIn d) (earliesIn k d) t) (λ q l. ap tickOf (o .early-finishes q l) ∙ sym (trial-nth (jobIn d) (earliesIn k d) t q l)) in
       rw (← same) (rw e at b)
 
 -- The free tasks ----------------------------------------------------------------------------------------------------
@@ -454,14 +413,26 @@ module _ {k : ℕ} {mem : List ℕ} (s : Drawn k mem) (h : k < nth mem 0) where
       sym (length-append (linesIn (nth mem 3 + 1) k mem) all) ∙ ap length rest-here ∙ placed-count document01 (jobIn mem) (s .standing .job .facts) in
       omega (arith, lines-length (nth mem 3 + 1) k mem)
 
+  -- Some task is free.
+  frees : Ranked [] mem → 0 < length (freeIn mem)
+  frees r =
+      let some = some-free (jobIn mem) (nth mem 3) left (waitingIn mem) (earliesIn k mem) (latesIn k mem) lines-left in
+      let n = length-map (freeTasks (jobIn mem) (earliesIn k mem) (waitingIn mem)) (ranked (jobIn mem) (earliesIn k mem)) in
+      rw (← free-ranked s r, n) some
+
+  pub listed-some : Ranked [] mem → (cells : List ℕ) (n : ℕ) → FreeList cells n mem → 0 < n
+  unfolding freeIn
+  listed-some r cells zero f =
+      let none : length (freeIn mem) ≡ 0 = length-map (keep (isFree mem) (below (nth mem 0))) (λ t. (t, nth mem (priorityAt + t))) ∙ ap length (sym (f .listed)) in
+      absurd (omega (arith, frees r))
+  listed-some r cells (suc n) f = omega arith
+
   -- The task that is chosen.
   module _ (r : Ranked [] mem) (t : ℕ) (e : t ≡ bestOf (nth mem 0) (freeIn mem)) where
     free : In t (keep (isFree mem) (below (nth mem 0)))
     unfolding freeIn
     free =
-        let some = some-free (jobIn mem) (nth mem 3) left (waitingIn mem) (earliesIn k mem) (latesIn k mem) lines-left in
-        let n = length-map (freeTasks (jobIn mem) (earliesIn k mem) (waitingIn mem)) (ranked (jobIn mem) (earliesIn k mem)) in
-        let more : 0 < length (freeIn mem) = rw (← free-ranked s r, n) some in
+        let more = frees r in
         let (x, i, f) = in-map (λ y. y .0) t (freeIn mem) (rw e (best-in (nth mem 0) (freeIn mem) more)) in
         let (u, o, g) = in-map (λ t. (t, nth mem (priorityAt + t))) x (keep (isFree mem) (below (nth mem 0))) i in
         let q : u ≡ t = ap (λ y. y .0) g ∙ f in

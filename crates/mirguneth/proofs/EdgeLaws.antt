@@ -2,20 +2,20 @@
 use mathlib.Core.Path.{_≡_, refl, sym, ap, _∙_}
 use mathlib.Core.List.{List, [], _∷_, _++_, map, map-append}
 use mathlib.Core.Bool.{Bool, true, false, _&&_, or-false, false≢true}
-use Prim.Native.Nat.{ℕ, _+_, _*_, _-_, _/_, _%_, _<_, _≤_}
+use Prim.Native.Nat.{ℕ, zero, suc, _+_, _*_, _-_, _/_, _%_, _^_, _<_, _≤_}
 use native.Mathlib.Omega.{arith}
-use native.Mathlib.Nat.{add-zero, div-div-eq-div-mul}
-use lib.Dec.{eqb}
+use native.Mathlib.Nat.{add-zero, mul-comm, pow-suc, zero-div, div-div-eq-div-mul}
+use lib.Dec.{eqb, eqb·zero-suc, eqb·suc-zero, eqb·suc-suc}
 use lib.ListN.{length, take, set, length-set, replicate, length-replicate, getD-replicate}
 use lib.Seq.{getD-set-same, getD-set-other, getD-take, getD-drop}
-use borrow.Author.Tests.{eqb-true, eq-eqb, ne-eqb, lt-ltb, le-ltb}
+use borrow.Author.Tests.{eqb-true, eqb-false, eq-eqb, ne-eqb, lt-ltb, le-ltb}
 use borrow.Rule.Slice.PartMut.{putMid, take-put}
 use Rattle.definitions.specs.Lists.{if_then_else_, bytes, nth, any}
 use Rattle.definitions.specs.Limits.{document01}
 use Rattle.definitions.specs.Text.{found, refused, firstOf, line}
 use Rattle.definitions.specs.Job.{Edge, edgeOf, edgeLine, edgeRule, edgeOrder}
 use Rattle.definitions.proofs.Lists.{both, both-true, either-right}
-use Rattle.mirguneth.specs.Memory.{edgeCell, edgeIn, Pairs}
+use Rattle.mirguneth.specs.Memory.{edgeCell, edgeIn, pairBit, Pairs}
 use Rattle.mirguneth.proofs.LineLaws.{take-more}
 use Rattle.mirguneth.proofs.MarkLaws.{any-last}
 use Rattle.mirguneth.proofs.RowLaws.{drop-lent}
@@ -37,37 +37,80 @@ abbrev joins : ℕ → ℕ → Edge → Bool
 joins a b d = eqb (d .from) a && eqb (d .to) b
 
 -- No edge.
-pub pairs-none : Pairs [] (replicate 65536 0)
+pub pairs-none : Pairs [] (replicate 8192 0)
 unfolding any
 pairs-none = record {
-  size = length-replicate {A = ℕ} 65536 0;
-  holds = λ a b f t. getD-replicate {A = ℕ} 65536 (a * 256 + b) 0 0 (omega arith);
+  size = length-replicate {A = ℕ} 8192 0;
+  holds = λ a b f t. rw (getD-replicate {A = ℕ} 8192 (a * 32 + b / 8) 0 0 (omega arith), zero-div (2 ^ (b % 8)));
 }
+
+-- Bit j + 1 of a number is bit j of its half.
+half : (x j : ℕ) → x / 2 ^ suc j ≡ x / 2 / 2 ^ j
+half x j = ap (λ (y : ℕ). x / y) (pow-suc 2 j ∙ mul-comm (2 ^ j) 2) ∙ sym (div-div-eq-div-mul x 2 (2 ^ j))
+
+-- A bit that is 0 is set by a sum, which leaves the others.
+bit-more : (i j x : ℕ) → x / 2 ^ i % 2 ≡ 0 → (x + 2 ^ i) / 2 ^ j % 2 ≡ (if eqb i j then 1 else x / 2 ^ j % 2)
+bit-more zero zero x h = omega arith
+bit-more zero (suc j) x h = let e : (x + 1) / 2 ≡ x / 2 = omega arith in rw (half (x + 1) j, half x j, e, eqb·zero-suc j)
+bit-more (suc i) zero x h =
+    let e : (x + 2 ^ suc i) / 1 % 2 ≡ x / 1 % 2 = rw (pow-suc 2 i) (omega arith) in rw (eqb·suc-zero i) e
+bit-more (suc i) (suc j) x h =
+    let e : (x + 2 ^ suc i) / 2 ≡ x / 2 + 2 ^ i = rw (pow-suc 2 i) (omega arith) in
+    rw (half (x + 2 ^ suc i) j, half x j, e, eqb·suc-suc i j) (bit-more i j (x / 2) (rw (half x i) at h))
+
+-- The sum has no more bits.
+pub bit-fits : (k i x : ℕ) → i < k → x < 2 ^ k → x / 2 ^ i % 2 ≡ 0 → x + 2 ^ i < 2 ^ k
+bit-fits zero i x f g h = absurd (omega arith)
+bit-fits (suc k) zero x f g h = omega (arith, pow-suc 2 k)
+bit-fits (suc k) (suc i) x f g h =
+    omega (arith, pow-suc 2 k, pow-suc 2 i, bit-fits k i (x / 2) (omega arith) (omega (arith, pow-suc 2 k)) (rw (half x i) at h))
+
+-- 1 shifted by i in a byte.
+pub one-bit : (i : ℕ) → i < 8 → 1 * 2 ^ i % 256 ≡ 2 ^ i
+one-bit i h = let z : 0 / 2 ^ i % 2 ≡ 0 = rw (zero-div (2 ^ i)) in omega (arith, bit-fits 8 i 0 h (omega arith) z)
 
 -- One edge more.
-pub pairs-more : (es : List Edge) (table : List ℕ) (e : Edge) → Pairs es table → e .from < 256 → e .to < 256
-    → Pairs (es ++ e ∷ []) (set table (e .from * 256 + e .to) 1)
-pairs-more es table e p f t = record {
-  size = length-set table (e .from * 256 + e .to) 1 ∙ p .size;
-  holds = λ a b g h. by a b g h (joins a b e) refl;
-}
-  where
-    by : (a b : ℕ) → a < 256 → b < 256 → (t : Bool) → joins a b e ≡ t
-        → nth (set table (e .from * 256 + e .to) 1) (a * 256 + b) ≡ (if any (joins a b) (es ++ e ∷ []) then 1 else 0)
-    by a b g h true q =
-        let (x, y) = both (eqb (e .from) a) (eqb (e .to) b) q in
-        let u : a * 256 + b ≡ e .from * 256 + e .to = omega (arith, eqb-true (e .from) a x, eqb-true (e .to) b y) in
-        let l : e .from * 256 + e .to < length table = rw (p .size) (omega arith) in
-        rw (u, getD-set-same table (e .from * 256 + e .to) 1 0 l, any-last (joins a b) es e, either-right (any (joins a b) es) q)
-    by a b g h false q =
-        let n : a * 256 + b ≡ e .from * 256 + e .to → ⊥ = λ u.
-        let z : joins a b e ≡ true = both-true (eq-eqb (e .from) a (omega arith)) (eq-eqb (e .to) b (omega arith)) in false≢true (sym q ∙ z) in
-        rw (getD-set-other table (e .from * 256 + e .to) (a * 256 + b) 1 0 n, any-last (joins a b) es e, q, or-false (any (joins a b) es)) (p .holds a b g h)
+module _ (es : List Edge) (table : List ℕ) (e : Edge) (p : Pairs es table) (f : e .from < 256) (t : e .to < 256) (z : pairBit table (e .from) (e .to) ≡ 0) where
+  abbrev k : ℕ
+  k = e .from * 32 + e .to / 8
 
--- A place that is not 0 is marked.
-marked : (b : Bool) (n : ℕ) → n ≡ (if b then 1 else 0) → (n ≡ 0 → ⊥) → b ≡ true
+  abbrev x : ℕ
+  x = nth table k
+
+  abbrev i : ℕ
+  i = e .to % 8
+
+  pub pairs-more : Pairs (es ++ e ∷ []) (set table k (x + 2 ^ i))
+  pairs-more = record {
+    size = length-set table k (x + 2 ^ i) ∙ p .size;
+    holds = λ a b g h. by a b g h (joins a b e) refl (eqb (a * 32 + b / 8) k) refl;
+  }
+    where
+      at-k : (a b : ℕ) → a * 32 + b / 8 ≡ k → pairBit (set table k (x + 2 ^ i)) a b ≡ (if eqb i (b % 8) then 1 else x / 2 ^ (b % 8) % 2)
+      at-k a b u =
+          let l : k < length table = rw (p .size) (omega arith) in
+          rw (u, getD-set-same table k (x + 2 ^ i) 0 l) (bit-more i (b % 8) x z)
+
+      by : (a b : ℕ) → a < 256 → b < 256 → (s : Bool) → joins a b e ≡ s → (r : Bool) → eqb (a * 32 + b / 8) k ≡ r
+          → pairBit (set table k (x + 2 ^ i)) a b ≡ (if any (joins a b) (es ++ e ∷ []) then 1 else 0)
+      by a b g h true q r w =
+          let (c, d) = both (eqb (e .from) a) (eqb (e .to) b) q in
+          let u : a * 32 + b / 8 ≡ k = omega (arith, eqb-true (e .from) a c, eqb-true (e .to) b d) in
+          let v : i ≡ b % 8 = omega (arith, eqb-true (e .to) b d) in
+          rw (at-k a b u, eq-eqb i (b % 8) v, any-last (joins a b) es e, either-right (any (joins a b) es) q)
+      by a b g h false q true w =
+          let u : a * 32 + b / 8 ≡ k = eqb-true (a * 32 + b / 8) k w in
+          let n : i ≡ b % 8 → ⊥ = λ v.
+          let m : joins a b e ≡ true = both-true (eq-eqb (e .from) a (omega arith)) (eq-eqb (e .to) b (omega arith)) in false≢true (sym q ∙ m) in
+          rw (at-k a b u, ne-eqb i (b % 8) n, any-last (joins a b) es e, q, or-false (any (joins a b) es)) (rw u at (p .holds a b g h))
+      by a b g h false q false w =
+          rw (getD-set-other table k (a * 32 + b / 8) (x + 2 ^ i) 0 (eqb-false (a * 32 + b / 8) k w), any-last (joins a b) es e, q, or-false (any (joins a b) es))
+          (p .holds a b g h)
+
+-- A bit that is 1 is that of an edge.
+marked : (b : Bool) (n : ℕ) → n ≡ (if b then 1 else 0) → n ≡ 1 → b ≡ true
 marked true n e h = refl
-marked false n e h = absurd (h e)
+marked false n e h = absurd (omega arith)
 
 unmarked : (b : Bool) (n : ℕ) → n ≡ (if b then 1 else 0) → n ≡ 0 → b ≡ false
 unmarked true n e h = absurd (omega arith)
@@ -99,13 +142,13 @@ module _ (v : ℕ) (seen : List Edge) (e : Edge) where
 
     module _ (table : List ℕ) (p : Pairs seen table) (m : v ≤ 255) (n : e .from ≡ e .to → ⊥) where
       -- The table has the pair, or has it not.
-      pub edge-twice : (nth table (e .from * 256 + e .to) ≡ 0 → ⊥) → 6 ≡ edgeRule document01 v seen e
+      pub edge-twice : pairBit table (e .from) (e .to) ≡ 1 → 6 ≡ edgeRule document01 v seen e
       unfolding edgeOrder firstOf
       edge-twice q =
           let k : any (joins (e .from) (e .to)) seen ≡ true = marked _ _ (p .holds (e .from) (e .to) (omega arith) (omega arith)) q in
           rw (ranges, ne-eqb _ _ n, k)
 
-      pub edge-new : nth table (e .from * 256 + e .to) ≡ 0 → 0 ≡ edgeRule document01 v seen e
+      pub edge-new : pairBit table (e .from) (e .to) ≡ 0 → 0 ≡ edgeRule document01 v seen e
       unfolding edgeOrder firstOf
       edge-new q =
           let k : any (joins (e .from) (e .to)) seen ≡ false = unmarked _ _ (p .holds (e .from) (e .to) (omega arith) (omega arith)) q in
@@ -116,7 +159,7 @@ module _ (d ys : List ℕ) (i : ℕ) (g : i ≤ length d) where
   abbrev new : List ℕ
   new = putMid i (length d - i) d ys
 
-  abbrev pub latest : Edge
+  abbrev latest : Edge
   latest = record { from = nth new i; to = nth new (i + 1); volume = nth new (i + 2) }
 
   new-at : (x : ℕ) → x < 3 → nth new (i + x) ≡ nth (take 3 ys) x

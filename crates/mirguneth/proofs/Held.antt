@@ -12,7 +12,7 @@ use lib.ListN.{length, length-map, getD, set, length-set}
 use lib.Seq.{getD-set-other}
 use Rattle.definitions.specs.Lists.{if_then_else_, nth, countFrom, below, In}
 use Rattle.definitions.specs.Job.{Edge, Job, runTime, delay}
-use Rattle.definitions.proofs.Lists.{map-same, in-below, below-in, length-count, in-map, map-in}
+use Rattle.definitions.proofs.Lists.{map-same, in-below, below-in, length-count, map-in}
 use Rattle.mirguneth.specs.Memory.{edgeIn}
 use Rattle.mirguneth.specs.Layout.{memorySize, jobSize, inHeadAt, inNextAt, outHeadAt, outNextAt, levelAt, raisedAt, lineAt, blockedAt, rowAt, farAt}
 use Rattle.mirguneth.specs.Schedule.{edgeAt, jobIn, rowOutcomes, placedIn, rowReplicas, linesIn, chain, Chained, KeptOutside, RowHeld, JobHeld, Standing, LinkedOut, LevelsFilled, FarFilled}
@@ -97,16 +97,10 @@ module _ (mem : List ℕ) where
       let row : ℕ → List ℕ = λ p. map (λ q. nth mem (4 + (nth mem 0 + p) * (nth mem 1 + 1) + (q + 1))) (below (nth mem 1)) in
       ap (λ (r : List ℕ). nth r q) (getD-below row (nth mem 1) p [] h) ∙ getD-below (λ q. nth mem (4 + (nth mem 0 + p) * (nth mem 1 + 1) + (q + 1))) (nth mem 1) q 0 g
 
-  -- Each cell of an edge holds a member, and each member stands in a cell.
+  -- Each cell of an edge holds a member.
   pub edge-in : (i : ℕ) → i < nth mem 2 → In (edgeIn (nth mem (edgeAt mem i))) (jobIn mem .edges)
   unfolding jobIn
   edge-in i h = map-in (λ i. edgeIn (nth mem (edgeAt mem i))) i (below (nth mem 2)) (below-in (nth mem 2) i h)
-
-  pub in-edges : (e : Edge) → In e (jobIn mem .edges) → (i : ℕ) × (i < nth mem 2) × (edgeIn (nth mem (edgeAt mem i)) ≡ e)
-  unfolding jobIn
-  in-edges e m =
-      let r = in-map (λ i. edgeIn (nth mem (edgeAt mem i))) e (below (nth mem 2)) m in
-      (r .0, in-below (nth mem 2) (r .0) (r .1), r .2)
 
 -- How large the job is ----------------------------------------------------------------------------------------
 
@@ -349,11 +343,8 @@ standing-same {k} {d} {e} z j l r s =
       row = λ i h. row-held-same (rowAt i) w (same-part 0 4 j (omega arith) (omega arith)) (same-part (rowAt i) (rowAt i + 25) r (omega arith) (omega arith)) (s .row i h);
     }
 
--- A change among the levels, among what serves the choice of a task, or behind the k lines.
+-- A change among what serves the choice of a task, or behind the k lines.
 module _ {k low high : ℕ} {d e : List ℕ} (c : KeptOutside low high d e) (s : Standing k d) where
-  pub standing-levels : levelAt ≤ low → high ≤ lineAt → Standing k e
-  standing-levels a b = standing-same (c .size) (same-before 0 levelAt c a) (same-behind lineAt blockedAt c b) (same-behind (rowAt 0) (rowAt k) c (omega arith)) s
-
   pub standing-choice : blockedAt ≤ low → high ≤ rowAt 0 → Standing k e
   standing-choice a b = standing-same (c .size) (same-before 0 levelAt c (omega arith)) (same-before lineAt blockedAt c a) (same-behind (rowAt 0) (rowAt k) c b) s
 

@@ -261,9 +261,6 @@ adding-none d =
     }
 
 module _ {d mem : List ℕ} (held : JobHeld d) {t : ℕ} (a : Adding d mem t) (h : t < nth d 0) where
-  pub adding-held : JobHeld mem
-  adding-held = held-kept held (a .kept) (omega arith)
-
   pub adding-run : RunsFilled d → nth mem (runAt + t) ≡ scaledRun (jobIn mem) t
   adding-run r = runs-kept held (a .kept) (omega arith) (omega arith) r t (omega (arith, a .kept .before 0 (omega arith)))
 

@@ -12,6 +12,8 @@ pub mod JobIn
 pub mod Held
 pub mod LinkLaws
 pub mod TimeLaws
+pub mod ShortLaws
+pub mod BothLaws
 pub mod Placed
 pub mod EndLaws
 pub mod Upward
@@ -34,6 +36,7 @@ pub mod FirstLaws
 pub mod ResultLaws
 pub mod TopLaws
 pub mod NextLine
+pub mod FreeLaws
 pub mod Drawing
 pub mod OutsetLaws
 pub mod ReleaseLaws

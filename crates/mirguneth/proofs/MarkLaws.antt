@@ -8,12 +8,13 @@ use native.Mathlib.Omega.{arith}
 use native.Mathlib.Nat.{sub-zero}
 use native.Mathlib.Numerals.{add-one}
 use lib.Dec.{eqb, ltb}
-use lib.ListN.{length, take, set, replicate, length-set, length-replicate, getD-replicate, List·getD-eq-default}
-use lib.Seq.{take-suc, getD-set-same, getD-set-other}
+use lib.ListN.{length, getD, take, drop, set, replicate, length-set, length-replicate, getD-replicate, List·getD-eq-default}
+use lib.Seq.{take-suc, drop-cons, getD-set-same, getD-set-other}
 use borrow.Author.Tests.{eqb-true, eqb-false, eq-eqb, ne-eqb, lt-ltb, le-ltb, ltb-true, ltb-false}
-use Rattle.definitions.specs.Lists.{if_then_else_, nth, below, keep, any, In, has, empty}
-use Rattle.definitions.specs.Job.{Edge, preceded, remaining}
-use Rattle.definitions.proofs.Lists.{both, any-in, in-any, in-keep, keep-in, in-has, has-not, in-below, below-in}
+use Rattle.definitions.specs.Lists.{if_then_else_, nth, below, keep, any, all, In, has, empty}
+use Rattle.definitions.specs.Job.{Edge, Job, preceded, remaining, circular, Path, one, more}
+use Rattle.definitions.proofs.Circle.{circle-found}
+use Rattle.definitions.proofs.Lists.{both, in-map, any-in, in-any, all-in, in-keep, keep-in, in-has, has-not, in-below, below-in}
 use Rattle.mirguneth.specs.Memory.{edgeIn, Marks, isMarked, stays}
 
 -- Marks -------------------------------------------------------------------------------------------------------
@@ -231,3 +232,43 @@ module _ (v : ℕ) (es : List Edge) (h : v ≤ 256) where
       let e : v - i ≡ 0 = omega arith in
       let q : marked v marks ≡ remaining v es (below v) = rw e at (r .rest) in
       sym (r .some) ∙ empty-keep (isMarked marks) (below v) ∙ ap (λ (ts : List ℕ). not (empty ts)) q
+
+-- Edges that lead to greater numbers ---------------------------------------------------------------------------
+
+-- The edge in a cell leads to a task of a greater number.
+abbrev pub rises : ℕ → Bool
+rises c = ltb (edgeIn c .from) (edgeIn c .to)
+
+-- Of the members from i on: of the first, and of those after it.
+pub all-drop : {A : Type 0} (f : A → Bool) (xs : List A) (i : ℕ) (d : A) → i < length xs → all f (drop i xs) ≡ (f (getD xs i d) && all f (drop (i + 1) xs))
+unfolding all
+all-drop f xs i d h = rw (drop-cons xs i d h, add-one i)
+
+-- A path of such edges leads to a greater number.
+path-rises : {es : List Edge} → ((e : Edge) → In e es → e .from < e .to) → {a b : ℕ} → Path es a b → a < b
+path-rises up (one e i f t) = let l = up e i in omega arith
+path-rises up (more p e i f t) =
+    let l = up e i in
+    let k = path-rises up p in
+    omega arith
+
+-- Where every edge is such nothing remains.
+pub rise-none : (v : ℕ) (s : List ℕ) → true ≡ all rises s → false ≡ not (empty (remaining v (map edgeIn s) (below v)))
+unfolding circular
+rise-none v s h = by (circular j) refl
+  where
+    j : Job
+    j = record { tasks = v; processors = 0; losses = 0; runs = []; delays = []; edges = map edgeIn s }
+
+    up : (e : Edge) → In e (map edgeIn s) → e .from < e .to
+    up e i =
+        let (c, k, q) = in-map edgeIn e s i in
+        let l : edgeIn c .from < edgeIn c .to = ltb-true (edgeIn c .from) (edgeIn c .to) (all-in rises c s (sym h) k) in
+        rw (← q) l
+
+    by : (b : Bool) → circular j ≡ b → false ≡ b
+    by true e =
+        let (t, p) = circle-found j e in
+        let l = path-rises up p in
+        absurd (omega arith)
+    by false e = refl

@@ -13,23 +13,24 @@ use lib.ListN.{length, set, length-set}
 use lib.Seq.{getD-set-same, getD-set-other, append-snoc}
 use Rattle.definitions.specs.Lists.{In, nth, keep, below}
 use Rattle.definitions.specs.Limits.{document01}
-use Rattle.definitions.specs.Job.{Edge, runTime, incoming, outgoing}
+use Rattle.definitions.specs.Job.{Edge, incoming, outgoing}
 use Rattle.definitions.specs.Plan.{Line}
-use Rattle.definitions.specs.Times.{Time, tick, later, after, least, largest, Outcome, ofTask, walk, copiesOf}
+use Rattle.definitions.specs.Times.{Time, tick, after, least, largest, Outcome, ofTask, walk, copiesOf}
 use Rattle.definitions.specs.Planner.{tickOf, largestDelay, scale, topLevel, trial, replicas, place, planFor}
 use Rattle.definitions.proofs.Lists.{both, both-true, in-map, in-keep, map-same, map-keep, in-below}
 use Rattle.definitions.proofs.Tasks.{in-incoming}
 use Rattle.definitions.proofs.Chosen.{chosen-count, chosen-below, chosen-distinct}
 use Rattle.mirguneth.specs.Layout.{memorySize, jobSize, inHeadAt, inNextAt, levelAt, raisedAt, lineAt, blockedAt, priorityAt, rowAt, farAt}
-use Rattle.mirguneth.specs.Schedule.{jobIn, timeIn, choiceOf, rowOutcomes, placedIn, rowReplicas, linesIn, dataIn, KeptOutside, Small, RowHeld, Standing, FedIn, topIn}
+use Rattle.mirguneth.specs.Schedule.{jobIn, timeIn, choiceOf, rowOutcomes, placedIn, rowReplicas, linesIn, KeptOutside, RowHeld, Standing, FedIn, topIn, lineTicks}
+use Rattle.mirguneth.specs.Arrivals.{BothFinish}
 use Rattle.mirguneth.specs.declared.clocks.Clocks.{Clocks}
-use Rattle.mirguneth.specs.Planning.{isFree, freeIn, bestOf, waitingIn, earliesIn, latesIn, earlyOn, lateOn, replicaOn, ClocksHeld, lineTicks, boxesFor, Drawn, Ranked, Tried, Begun}
+use Rattle.mirguneth.specs.Planning.{isFree, freeIn, bestOf, waitingIn, earliesIn, latesIn, finishOn, replicaOn, ClocksHeld, Taken, boxesFor, Drawn, Ranked, Tried, Begun}
 use Rattle.mirguneth.proofs.Held.{last-or-before, tasks-in, processors-in, Same, same-part, Sizes, sizes, job-same, placed-same, lines-same, row-held-same, chained-same, linked-out-same, levels-same, far-same, kept-set, kept-wider}
 use Rattle.mirguneth.proofs.TimeLaws.{time-tick}
 use Rattle.mirguneth.proofs.Placed.{ofTask-append, row-none, fed-all, level-placed}
-use Rattle.mirguneth.proofs.MarkLaws.{keep-keep}
-use Rattle.mirguneth.proofs.DrawLaws.{keep-same, keep-swap, count-split, count-reverse, place-turn, outcomeOn, walk-apart, replicas-map, Comes, tick-back, tick-most}
-use Rattle.mirguneth.proofs.Drawing.{free-ranked, replicaAt, in-replicas, outcomeOf, outcomes-row, clock-most, finish-comes, finish-cell, waitingAt, waiting-map, free-fed, top-here, lines-left, rest-here, task-below, task-waits, task-fed}
+use Rattle.mirguneth.proofs.MarkLaws.{keep-same, keep-keep}
+use Rattle.mirguneth.proofs.DrawLaws.{keep-swap, count-split, count-reverse, place-turn, outcomeOn, walk-apart, replicas-map, Comes, tick-back, tick-most}
+use Rattle.mirguneth.proofs.Drawing.{free-ranked, replicaAt, in-replicas, outcomeOf, outcomes-row, finish-at, finish-comes, waitingAt, waiting-map, free-fed, top-here, lines-left, rest-here, task-below, task-waits, task-fed}
 
 -- The replicas of a line do not speak of its first cell.
 row-replicas : (d e : List ℕ) (a c : ℕ) → ((i : ℕ) → a < i → nth e i ≡ nth d i) → rowReplicas a c e ≡ rowReplicas a c d
@@ -96,31 +97,29 @@ module _ {k : ℕ} {d : List ℕ} (s : Drawn k d) (h : k < nth d 0) (r : Ranked 
       let m : t < 255 = few in
       kept-set (lineAt + t) (k + 1) (kept-set (rowAt k) t (kept-wider lineAt farAt (b .kept) (omega arith) (omega arith)) (omega arith) (omega (arith, w .tasks-most))) (omega arith) (omega arith)
 
-  -- What the code asks before it tries the task on every processor, and after that.
-  module _ (clocks : Clocks) (c : ClocksHeld clocks (jobIn d) (earliesIn k d) (latesIn k d)) where
-    pub try-asks : ((n : ℕ) × Standing n d) × (t < nth d 0) × FedIn t d × (length (clocks .early) ≡ 16) × ((p : ℕ) → p < nth d 1 → Small 4294967295 (nth (clocks .early) p))
-    try-asks = (
-      (k, s .standing),
-      low,
-      fed,
-      c .early-size,
-      λ p l. inr (omega (arith, clock-most s false p (nth (clocks .early) p) (c .early-ready p (rw (processors-in d) l)), w .tasks-most)),
-    )
+  -- The finishes that the code computes are the task's.
+  pub tried : {clocks : Clocks} {early late : List ℕ} → ClocksHeld clocks (jobIn d) (earliesIn k d) (latesIn k d) → BothFinish t clocks d early late → Tried k t early late clocks d
+  unfolding finishOn
+  tried {clocks} c f =
+      record {
+        drawn = s;
+        more = h;
+        clocks-now = c;
+        early-size = f .early-size;
+        late-size = f .late-size;
+        early-finishes = λ p l. f .early-finish p l ∙ finish-at s false t p (nth (clocks .early) p) fed (c .early-ready p (rw (processors-in d) l));
+        late-finishes = λ p l. f .late-finish p l ∙ finish-at s true t p (nth (clocks .late) p) fed (c .late-ready p (rw (processors-in d) l));
+      }
 
-    pub tried : (at : List ℕ) → length at ≡ 16
-        → ((p : ℕ) → p < nth d 1 → timeIn (nth at p) ≡ after (runTime (jobIn d) t p) (later (timeIn (nth (clocks .early) p)) (dataIn false t p d)))
-        → Tried k t at clocks d
-    unfolding earlyOn
-    tried at z f =
-        record {
-          drawn = s;
-          more = h;
-          task-below = low;
-          fed = fed;
-          clocks-now = c;
-          size = z;
-          finishes = λ p l. finish-cell s t p fed low l false (nth (clocks .early) p) (nth at p) (c .early-ready p (rw (processors-in d) l)) (f p l);
-        }
+  -- Of the lines and the counts only t's line changed.
+  pub taken : {e : List ℕ} → Laid k t d e → Taken t d e
+  taken {e} x =
+      let m : t < 255 = few in
+      record {
+        line-new = rw (x .line) (omega arith);
+        line-kept = λ u l n. x .other (lineAt + u) (λ f. n (omega arith)) (inl (omega (arith, w .tasks-most)));
+        blocked-kept = λ u l. x .other (blockedAt + u) (λ f. omega arith) (inl (omega (arith, w .tasks-most)));
+      }
 
   module _ {e : List ℕ} (x : Laid k t d e) where
     before-lines : Same 0 lineAt d e
@@ -164,17 +163,17 @@ module _ {k : ℕ} {d : List ℕ} (s : Drawn k d) (h : k < nth d 0) (r : Ranked 
     new-box c l = let (p, m, q) = new-cells c l in let f : p ≡ nth e (rowAt k + (1 + 3 * c)) = ap (λ r. r .processor) q in omega arith
 
     new-early : (c : ℕ) → c < nth d 3 + 1 → nth e (rowAt k + (2 + 3 * c)) ≤ k * lineTicks + lineTicks
-    unfolding earlyOn
+    unfolding finishOn
     new-early c l =
         let (p, m, q) = new-cells c l in
-        let f : tickOf (earlyOn k d t p) ≡ nth e (rowAt k + (2 + 3 * c)) = ap (λ r. r .early) q in
+        let f : tickOf (finishOn false k d t p) ≡ nth e (rowAt k + (2 + 3 * c)) = ap (λ r. r .early) q in
         rw (← f) (tick-most (finish-comes s t p fed low m false))
 
     new-late : (c : ℕ) → c < nth d 3 + 1 → nth e (rowAt k + (3 + 3 * c)) ≤ k * lineTicks + lineTicks
-    unfolding lateOn
+    unfolding finishOn
     new-late c l =
         let (p, m, q) = new-cells c l in
-        let f : tickOf (lateOn k d t p) ≡ nth e (rowAt k + (3 + 3 * c)) = ap (λ r. r .late) q in
+        let f : tickOf (finishOn true k d t p) ≡ nth e (rowAt k + (3 + 3 * c)) = ap (λ r. r .late) q in
         rw (← f) (tick-most (finish-comes s t p fed low m true))
 
     new-row : RowHeld (rowAt k) e
@@ -222,7 +221,7 @@ module _ {k : ℕ} {d : List ℕ} (s : Drawn k d) (h : k < nth d 0) (r : Ranked 
 
     -- What a replica of the line says is what the walk gives.
     outcome-kind : (late : Bool) (p : ℕ) → p < nth d 1 → outcomeOf late t (replicaOn k d t p) ≡ outcomeOn (jobIn d) (choiceOf late) (placedIn late (nth d 3 + 1) k d) t p
-    unfolding earlyOn lateOn
+    unfolding finishOn
     outcome-kind true p l = ap (λ (y : Time). record { task = t; processor = p; time = y }) (cell-time (finish-comes s t p fed low l true))
     outcome-kind false p l = ap (λ (y : Time). record { task = t; processor = p; time = y }) (cell-time (finish-comes s t p fed low l false))
 
@@ -250,7 +249,7 @@ module _ {k : ℕ} {d : List ℕ} (s : Drawn k d) (h : k < nth d 0) (r : Ranked 
 
     new-line : rowReplicas (rowAt k) (nth d 3 + 1) e
         ≡ replicas (walk (jobIn d) least [] (earliesIn k d) (copiesOf (jobIn d) t (boxesFor k t d))) (walk (jobIn d) largest [] (latesIn k d) (copiesOf (jobIn d) t (boxesFor k t d)))
-    unfolding earlyOn lateOn
+    unfolding finishOn
     new-line =
         let ps = boxesFor k t d in
         let one = chosen-distinct (jobIn d) (trial (jobIn d) (earliesIn k d) t) (nth d 3 + 1) in
@@ -380,7 +379,7 @@ module _ {k : ℕ} {d : List ℕ} (s : Drawn k d) (h : k < nth d 0) (r : Ranked 
 
     -- The clocks after the line.
     pub clocks-next : (clocks : Clocks) (mem : List ℕ) → Begun k t (boxesFor k t d) clocks d mem → ClocksHeld clocks (jobIn e) (earliesIn (k + 1) e) (latesIn (k + 1) e)
-    unfolding earlyOn lateOn
+    unfolding finishOn
     clocks-next clocks mem b =
         let ps = boxesFor k t d in
         let one = chosen-distinct (jobIn d) (trial (jobIn d) (earliesIn k d) t) (nth d 3 + 1) in

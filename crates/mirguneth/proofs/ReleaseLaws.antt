@@ -7,7 +7,7 @@ use native.Mathlib.Omega.{arith}
 use native.Mathlib.Nat.{mul-le-mul}
 use borrow.Author.Tests.{eqb-true, eqb-false, eq-eqb}
 use lib.Dec.{eqb}
-use lib.ListN.{length, set, length-set}
+use lib.ListN.{length, take, set, length-set}
 use lib.Seq.{getD-set-same, getD-set-other}
 use Rattle.definitions.specs.Lists.{if_then_else_, nth, keep}
 use Rattle.definitions.specs.Limits.{document01}
@@ -19,9 +19,10 @@ use Rattle.definitions.proofs.Bounds.{bottom-most}
 use Rattle.mirguneth.specs.Layout.{memorySize, outHeadAt, outNextAt, levelAt, lineAt, blockedAt, priorityAt, rowAt}
 use Rattle.mirguneth.specs.Memory.{edgeIn}
 use Rattle.mirguneth.specs.Schedule.{edgeAt, jobIn, topIn, chain, KeptOutside, Standing, FedIn, FarFilled}
-use Rattle.mirguneth.specs.Planning.{earliesIn, Drawn, Ranked}
+use Rattle.mirguneth.specs.Planning.{earliesIn, FreeList, inserted, Drawn, Ranked}
 use Rattle.mirguneth.proofs.Held.{tasks-in, edge-in, edge-below, same-behind, Sizes, sizes, job-kept, placed-same, chain-step, chain-end, kept-all, kept-set}
-use Rattle.mirguneth.proofs.DrawLaws.{keep-same}
+use Rattle.mirguneth.proofs.MarkLaws.{keep-same}
+use Rattle.mirguneth.proofs.FreeLaws.{Recounted, free-in, free-same}
 use Rattle.mirguneth.proofs.Drawing.{drawn-choice, top-here, fed-none, ticks-fit}
 
 -- How many edges to u come from tasks that are not placed.
@@ -95,6 +96,9 @@ module _ {n : ℕ} {d : List ℕ} (s : Drawn n d) where
               rw (top-released (r .kept) u fed, r .kept .before (levelAt + u) (omega (arith, w .tasks-most))) (r .priorities u g x y);
         }
 
+    few-released : nth mem 0 ≤ 255
+    few-released = rw (r .kept .before 0 (omega arith)) (w .tasks-most)
+
     -- The edge at hand.
     module _ (h : 0 < k) where
       abbrev here : Edge
@@ -125,6 +129,9 @@ module _ {n : ℕ} {d : List ℕ} (s : Drawn n d) where
 
       release-below : goes < nth d 0
       release-below = rw goes-here (rw (tasks-in d) at (s .standing .job .facts .to-task here (edge-in d (k - 1) within)))
+
+      goes-below : goes < nth mem 0
+      goes-below = rw (r .kept .before 0 (omega arith)) release-below
 
       pub release-falls : next < k
       release-falls = omega (arith, s .linked .falls (k - 1) within)
@@ -163,6 +170,34 @@ module _ {n : ℕ} {d : List ℕ} (s : Drawn n d) where
           by : (b : Bool) → eqb goes u ≡ b → nth lowered (blockedAt + u) ≡ blocking d u + entries u (chain outNextAt (nth d 2) d next)
           by true f = let q = eqb-true goes u f in rw (← q) (lowered-here ∙ (let e = entered-here in omega arith))
           by false f = let q = eqb-false goes u f in lowered-other u (λ o. q (sym o)) ∙ rw f at (entered u (r .blocked u l))
+
+      -- Only its count changed, whatever its priority is now.
+      lowered-count : Recounted goes mem lowered
+      lowered-count = record {
+        tasks = getD-set-other mem (blockedAt + goes) 0 count 0 (λ q. omega arith);
+        lines = λ x i. getD-set-other mem (blockedAt + goes) (lineAt + x) count 0 (λ q. omega (arith, few-released));
+        others = λ x i o. lowered-other x o;
+      }
+
+      ranked-count : (y : ℕ) → Recounted goes mem (set lowered (priorityAt + goes) y)
+      ranked-count y =
+          let few = few-released in
+          record {
+            tasks = getD-set-other lowered (priorityAt + goes) 0 y 0 (λ q. omega arith) ∙ lowered-count .tasks;
+            lines = λ x i. getD-set-other lowered (priorityAt + goes) (lineAt + x) y 0 (λ q. omega arith) ∙ lowered-count .lines x i;
+            others = λ x i o. getD-set-other lowered (priorityAt + goes) (blockedAt + x) y 0 (λ q. omega arith) ∙ lowered-count .others x i o;
+          }
+
+      -- The list of free tasks, when other tasks block it still, and when it is free.
+      pub list-held : {cells : List ℕ} {i : ℕ} → FreeList cells i mem → (count ≡ 0 → ⊥) → FreeList cells i lowered
+      list-held l o = free-same l lowered-count goes-below release-some (rw lowered-here (omega (arith, o)))
+
+      pub list-free : {cells after : List ℕ} {i : ℕ} → FreeList cells i mem → count ≡ 0 → (y : ℕ) → length after ≡ 256 → take (i + 1) after ≡ inserted goes (take i cells)
+          → FreeList after (i + 1) (set lowered (priorityAt + goes) y)
+      list-free l o y z p =
+          let few = few-released in
+          let b = goes-below in
+          free-in l (ranked-count y) b release-some few (getD-set-other lowered (priorityAt + goes) (blockedAt + goes) y 0 (λ q. omega arith) ∙ lowered-here ∙ o) z p
 
       -- Other tasks block it still.
       pub release-held : (count ≡ 0 → ⊥) → Releasing n next d lowered

@@ -17,11 +17,13 @@ use Rattle.definitions.specs.Replay.{replay}
 use Rattle.definitions.proofs.Lists.{in-append, nth-in}
 use Rattle.definitions.proofs.Facts.{LineFacts, Ordered}
 use Rattle.definitions.proofs.Doubled.{rising}
-use Rattle.mirguneth.specs.Layout.{lineAt, rowAt, farAt}
+use Rattle.mirguneth.specs.Layout.{jobSize, lineAt, rowAt, farAt}
 use Rattle.mirguneth.specs.Schedule.{jobIn, rowOutcomes, placedIn, rowReplicas, linesIn, JobHeld, Standing}
+use Rattle.mirguneth.specs.Arrivals.{DelayTable}
 use Rattle.mirguneth.specs.Loading.{planIn}
 use Rattle.mirguneth.specs.Replaying.{StopsIn, ranIn, Running, FedBefore, Retimed, copiesIn, walked, LineRun, RisingIn, RoundRun}
-use Rattle.mirguneth.proofs.Held.{last-or-before, sizes, kept-wider}
+use Rattle.mirguneth.proofs.Held.{last-or-before, same-before, sizes, kept-wider}
+use Rattle.mirguneth.proofs.ShortLaws.{delays-kept}
 use Rattle.mirguneth.proofs.RunLaws.{retimed-none, retimed-then, cell-retimed, task-retimed, processor-retimed, job-retimed, fed-retimed, walked-append}
 
 -- Lines in order ------------------------------------------------------------------------------------------------------
@@ -148,9 +150,9 @@ round-first stops {mem} s =
 
 module _ (k : ℕ) {stops cells d e : List ℕ} (l : RoundRuns k stops cells d e) (s : Standing (nth d 0) d) (o : Ordered (jobIn d) [] (planIn d .lines)) where
   -- What the next line asks for.
-  pub round-asks : k < nth d 0 → (k < nth e 0) × FedBefore k e
+  pub round-asks : {delays : List ℕ} → DelayTable delays d → k < nth d 0 → DelayTable delays e × (k < nth e 0) × FedBefore k e
   unfolding planIn
-  round-asks h = (rw (cell-retimed (l .retimed) 0 (omega arith)) h, fed-retimed (l .retimed) (s .job) k (fed-lines s o k h))
+  round-asks t h = (delays-kept (s .job) (same-before 0 jobSize (l .retimed .outside) (omega arith)) t, rw (cell-retimed (l .retimed) 0 (omega arith)) h, fed-retimed (l .retimed) (s .job) k (fed-lines s o k h))
 
   pub round-next : {after f : List ℕ} → k < nth d 0 → Running (suc k) 0 after f → LineRun k stops e f → RoundRuns (k + 1) stops after d f
   round-next {after} {f} h r q =

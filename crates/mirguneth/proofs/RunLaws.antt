@@ -3,7 +3,7 @@ use mathlib.Core.Path.{_≡_, refl, ap, _∙_, sym}
 use mathlib.Core.Logic.{inl, inr, ⊎-elim}
 use mathlib.Core.List.{List, [], _∷_, _++_, map, map-append}
 use mathlib.Core.Bool.{Bool, true, false}
-use Prim.Native.Nat.{ℕ, suc, _+_, _*_, _%_, _<_, _≤_}
+use Prim.Native.Nat.{ℕ, zero, suc, _+_, _*_, _%_, _<_, _≤_}
 use native.Mathlib.Omega.{arith}
 use native.Mathlib.Nat.{add-zero}
 use native.Mathlib.Numerals.{add-one}
@@ -15,18 +15,19 @@ use Rattle.definitions.specs.Lists.{if_then_else_, nth, below, In}
 use Rattle.definitions.specs.Limits.{document01}
 use Rattle.definitions.specs.Job.{Job, runTime, incoming}
 use Rattle.definitions.specs.Stops.{Stop}
-use Rattle.definitions.specs.Times.{tick, never, later, after, least, largest, Copy, Outcome, outcome, ready, arrival, dataReady, start, stopTime, unlessStopped, finish, walk, copiesOf}
+use Rattle.definitions.specs.Times.{tick, never, later, after, least, largest, Copy, Outcome, outcome, ofTask, ready, arrival, dataReady, start, stopTime, unlessStopped, finish, walk, copiesOf}
 use Rattle.definitions.specs.Planner.{tickOf, trial}
 use Rattle.definitions.specs.Claims.{Within}
-use Rattle.definitions.proofs.Lists.{map-same, map-in, below-in}
+use Rattle.definitions.proofs.Lists.{map-same, map-in, in-keep, below-in}
 use Rattle.definitions.proofs.Tasks.{in-incoming, copyOf}
-use Rattle.definitions.proofs.Bounds.{weaker, trial-most}
+use Rattle.definitions.proofs.Bounds.{weaker, PlacedWithin, trial-most}
 use Rattle.mirguneth.specs.Layout.{jobSize, inHeadAt, inNextAt, lineAt, rowAt}
-use Rattle.mirguneth.specs.Schedule.{jobIn, neverCell, timeIn, rowOutcomes, placedIn, rowReplicas, dataIn, Small, KeptOutside, JobHeld, Standing, FedIn}
-use Rattle.mirguneth.specs.Replaying.{StopsIn, replicaMost, ranIn, Running, FedBefore, Retimed, copiesIn, walked, LineRun}
-use Rattle.mirguneth.proofs.Held.{equal-or-not, Same, same-part, same-before, sizes, tasks-in, processors-in, kept-all, kept-then, kept-wider, kept-set, job-kept, held-kept, chained-same, outcomes-same, placed-same}
-use Rattle.mirguneth.proofs.TimeLaws.{time-tick, small-wider}
-use Rattle.mirguneth.proofs.Placed.{ofTask-append, row-none, data-placed}
+use Rattle.mirguneth.specs.Schedule.{jobIn, neverCell, timeIn, rowOutcomes, placedIn, rowReplicas, rowOf, dataIn, Small, KeptOutside, JobHeld, Standing, lineTicks}
+use Rattle.mirguneth.specs.Arrivals.{lastShort, FirstFed}
+use Rattle.mirguneth.specs.Replaying.{StopsIn, ranIn, Running, FedBefore, Retimed, copiesIn, walked, LineRun}
+use Rattle.mirguneth.proofs.Held.{equal-or-not, last-or-before, Same, same-part, same-before, sizes, row-below, tasks-in, processors-in, run-in, kept-all, kept-then, kept-wider, kept-set, job-kept, held-kept, chained-same, outcomes-same, placed-same}
+use Rattle.mirguneth.proofs.TimeLaws.{time-tick, small-wider, run-cell}
+use Rattle.mirguneth.proofs.Placed.{ofTask-append, row-none, feeding-line, data-placed}
 
 -- What changes and what does not ------------------------------------------------------------------------------------
 
@@ -129,6 +130,19 @@ small-within b x =
     by true h = tt
     by false h = h
 
+within-small : (b x : ℕ) → Within b (timeIn x) → Small b x
+within-small b x h = ⊎-elim inl (λ n. inr (rw (time-tick x n) at h)) (equal-or-not x neverCell)
+
+-- The early times of a line whose outcomes do not pass a bound.
+row-small : (j : Job) (b a c i : ℕ) (mem : List ℕ) → i < c → PlacedWithin j b (rowOutcomes false a c mem) → Small b (nth mem (a + (2 + 3 * i)))
+unfolding rowOutcomes
+row-small j b a zero i mem h g = absurd (omega arith)
+row-small j b a (suc c) i mem h g =
+    ⊎-elim
+    (λ (e : i ≡ c). rw e (within-small b (nth mem (a + (2 + 3 * c))) (g _ (inl refl) .1)))
+    (λ l. row-small j b a c i mem l (λ d m. g d (inr m)))
+    (last-or-before c i h)
+
 module _ (k c : ℕ) {cells mem : List ℕ} (r : Running k c cells mem) (a : k < nth mem 0) (b : c < nth mem 3 + 1) (f : FedBefore k mem) where
   abbrev runner : ℕ
   runner = nth mem (rowAt k)
@@ -156,7 +170,7 @@ module _ (k c : ℕ) {cells mem : List ℕ} (r : Running k c cells mem) (a : k <
     unfolding finish start
     finish-ran ss = rw (e, data-ran, r .ready-of box box-below)
 
-    pub finish-small : Small ((k * 8 + c) * replicaMost + replicaMost) x
+    pub finish-small : Small ((k * 8 + c) * lineTicks + lineTicks) x
     unfolding trial stopTime
     finish-small =
         let j = jobIn mem in
@@ -165,7 +179,7 @@ module _ (k c : ℕ) {cells mem : List ℕ} (r : Running k c cells mem) (a : k <
         let among : In here (trial j (ranIn k c mem) runner) =
         map-in (λ y. tickOf (finish j least [] (ranIn k c mem) y)) (copyOf j runner box) (copiesOf j runner (below (j .processors)))
         (map-in (copyOf j runner) box (below (j .processors)) (below-in (j .processors) box (rw (processors-in mem) box-below))) in
-        let most : here ≤ (k * 8 + c) * replicaMost + replicaMost = trial-most document01 j s ((k * 8 + c) * replicaMost) (ranIn k c mem) runner (rw (tasks-in mem) (r .standing .task-of k a)) (r .within) here among in
+        let most : here ≤ (k * 8 + c) * lineTicks + lineTicks = trial-most document01 j s ((k * 8 + c) * lineTicks) (ranIn k c mem) runner (rw (tasks-in mem) (r .standing .task-of k a)) (r .within) here among in
         ⊎-elim inl (λ n. let q : here ≡ x = ap tickOf (finish-ran [] ∙ time-tick x n) in inr (omega arith)) (equal-or-not x neverCell)
 
     -- Its outcome y takes the place of its early tick and becomes its processor's ready time.
@@ -182,8 +196,8 @@ module _ (k c : ℕ) {cells mem : List ℕ} (r : Running k c cells mem) (a : k <
       retimed : Retimed k (suc k) mem mem′
       retimed = let w = sizes (r .standing .job) in retimed-set k c y retimed-none (omega arith) (omega arith) (omega arith)
 
-      small-here : Small ((k * 8 + (c + 1)) * replicaMost) y
-      small-here = small-wider ((k * 8 + c) * replicaMost + replicaMost) ((k * 8 + (c + 1)) * replicaMost) y (omega arith) (n ((k * 8 + c) * replicaMost + replicaMost) finish-small)
+      small-here : Small ((k * 8 + (c + 1)) * lineTicks) y
+      small-here = small-wider ((k * 8 + c) * lineTicks + lineTicks) ((k * 8 + (c + 1)) * lineTicks) y (omega arith) (n ((k * 8 + c) * lineTicks + lineTicks) finish-small)
 
       pub ran-next : ranIn k (c + 1) mem′ ≡ here ∷ ranIn k c mem
       unfolding ranIn rowOutcomes
@@ -207,11 +221,11 @@ module _ (k c : ℕ) {cells mem : List ℕ} (r : Running k c cells mem) (a : k <
           let w = sizes (r .standing .job) in
           let j : jobIn mem′ ≡ jobIn mem = job-retimed retimed (r .standing .job) in
           let m : nth mem′ 1 ≡ nth mem 1 = cell-retimed retimed 1 (omega arith) in
-          let most : (k * 8 + c) * replicaMost ≤ (k * 8 + (c + 1)) * replicaMost = omega arith in
+          let most : (k * 8 + c) * lineTicks ≤ (k * 8 + (c + 1)) * lineTicks = omega arith in
           record {
             standing = standing-retimed retimed (r .standing) λ i q h g.
                 set-cell (Small (document01 .tick)) mem (rowAt k + (2 + 3 * c)) (rowAt i + (2 + 3 * q)) y (omega arith)
-                (λ e. small-wider ((k * 8 + (c + 1)) * replicaMost) (document01 .tick) y (omega arith) small-here)
+                (λ e. small-wider ((k * 8 + (c + 1)) * lineTicks) (document01 .tick) y (omega arith) small-here)
                 (λ e. r .standing .row i h .early-of q g);
             size = length-set cells box y ∙ r .size;
             ready-of = λ p h.
@@ -220,12 +234,12 @@ module _ (k c : ℕ) {cells mem : List ℕ} (r : Running k c cells mem) (a : k <
                 (λ e. rw (eq-eqb box p e))
                 (λ e. rw (ne-eqb box p e) (r .ready-of p (rw m at h))));
             ready-small = λ p h.
-                set-cell (Small ((k * 8 + (c + 1)) * replicaMost)) cells box p y (omega (arith, box-below, r .size))
+                set-cell (Small ((k * 8 + (c + 1)) * lineTicks)) cells box p y (omega (arith, box-below, r .size))
                 (λ e. small-here)
-                (λ e. small-wider ((k * 8 + c) * replicaMost) ((k * 8 + (c + 1)) * replicaMost) (nth cells p) most (r .ready-small p (rw m at h)));
+                (λ e. small-wider ((k * 8 + c) * lineTicks) ((k * 8 + (c + 1)) * lineTicks) (nth cells p) most (r .ready-small p (rw m at h)));
             within = rw (j, ran-next) (λ d i.
                 ⊎-elim
-                (λ q. rw (← q, processors-in mem) (box-below, small-within ((k * 8 + (c + 1)) * replicaMost) y small-here))
+                (λ q. rw (← q, processors-in mem) (box-below, small-within ((k * 8 + (c + 1)) * lineTicks) y small-here))
                 (λ q. let (g, t) = r .within d q in (g, weaker (d .time) most t))
                 i);
           }
@@ -250,6 +264,19 @@ copies-next k c mem =
     let t = nth mem (rowAt k) in
     rw (add-one c, map-append (λ r. r .processor) (rowReplicas (rowAt k) c mem) (_ ∷ [])) (map-append (copyOf (jobIn mem) t) (map (λ r. r .processor) (rowReplicas (rowAt k) c mem)) (_ ∷ []))
 
+-- The first data of line k comes from lines that have run.
+pub line-fed-short : (k : ℕ) {cells d : List ℕ} → Running k 0 cells d → k < nth d 0 → FedBefore k d → FirstFed (nth d (rowAt k)) d
+unfolding ranIn rowOutcomes ofTask
+line-fed-short k {cells} {d} r a f e i =
+    let w = sizes (r .standing .job) in
+    let most : ℕ = (k * 8 + 0) * lineTicks in
+    let row = rowOf (e .from) d in
+    let own : ofTask (e .from) (placedIn false (nth d 3 + 1) k d) ≡ rowOutcomes false row (nth d 3 + 1) d =
+    feeding-line (r .standing) k (nth d (rowAt k)) (omega arith) f false e i in
+    let among : PlacedWithin (jobIn d) most (rowOutcomes false row (nth d 3 + 1) d) =
+    rw (← own) (λ x m. r .within x (in-keep (λ x. eqb (x .task) (e .from)) x (placedIn false (nth d 3 + 1) k d) m .0)) in
+    (f e i .0, λ c h. small-wider most lastShort (nth d (row + (2 + 3 * c))) (omega arith) (row-small (jobIn d) most row (nth d 3 + 1) c d h among))
+
 -- c replicas of line k have run, from a memory d.
 pub record LineRuns (k c : ℕ) (stops cells d e : List ℕ) : Type 0 where
   pub running : Running k c cells e
@@ -260,63 +287,93 @@ pub line-first : (k : ℕ) (stops : List ℕ) {cells d : List ℕ} → Running k
 unfolding ranIn rowOutcomes copiesIn rowReplicas walked walk
 line-first k stops r = record { running = r; retimed = retimed-none; outcomes = λ ss h. refl }
 
-module _ (k c : ℕ) {stops cells d e : List ℕ} (l : LineRuns k c stops cells d e) (h : JobHeld d) (a : k < nth d 0) (f : FedBefore k d) where
+-- The next replica, of task t on p: its processor, the cell of its run time and when its processor is ready.
+pub record LineStep (t p : ℕ) (cells d e : List ℕ) : Type 0 where
+  pub processor : p < nth d 1
+  pub below : p < 16
+  pub run-below : 4 + t * (nth d 1 + 1) + 1 + p < jobSize
+  pub run-most : nth e (4 + t * (nth d 1 + 1) + 1 + p) ≤ 1000000
+  pub ready-small : Small 4294967295 (nth cells p)
+
+module _ (k c : ℕ) {stops cells d e : List ℕ} (l : LineRuns k c stops cells d e) (s : Standing (nth d 0) d) (a : k < nth d 0) (f : FedBefore k d) where
   abbrev ran : Running k c cells e
   ran = l .running
-
-  line-task : nth e (rowAt k) ≡ nth d (rowAt k)
-  line-task = task-retimed (l .retimed) k
 
   line-below : k < nth e 0
   line-below = rw (cell-retimed (l .retimed) 0 (omega arith)) a
 
   line-fed : FedBefore k e
-  line-fed = fed-retimed (l .retimed) h k f
+  line-fed = fed-retimed (l .retimed) (s .job) k f
+
+  -- The data of the line is what it was before.
+  line-data : (p : ℕ) → dataIn false (nth e (rowAt k)) p e ≡ dataIn false (nth d (rowAt k)) p d
+  line-data p =
+      let w = sizes (s .job) in
+      data-placed (ran .standing) k (nth e (rowAt k)) (omega (arith, line-below)) line-fed false p
+      ∙ rw (
+        job-retimed (l .retimed) (s .job),
+        task-retimed (l .retimed) k,
+        cell-retimed (l .retimed) 3 (omega arith),
+        placed-same d e false (nth d 3 + 1) k (omega arith) (same-before (rowAt 0) (rowAt k) (l .retimed .outside) (omega arith)),
+      )
+      (sym (data-placed s k (nth d (rowAt k)) (omega arith) f false p))
 
   module _ (b : c < nth d 3 + 1) where
+    abbrev its : ℕ
+    its = nth e (rowAt k + (1 + 3 * c))
+
+    abbrev run : ℕ
+    run = 4 + nth d (rowAt k) * (nth d 1 + 1) + 1 + its
+
     replica-below : c < nth e 3 + 1
     replica-below = rw (cell-retimed (l .retimed) 3 (omega arith)) b
 
-    -- The replica's processor, and what its finish asks for.
-    pub line-box : nth e (rowAt k + (1 + 3 * c)) < 16
-    line-box = omega (arith, box-below k c ran line-below replica-below line-fed, sizes (ran .standing .job) .processors-most)
+    its-below : its < nth e 1
+    its-below = box-below k c ran line-below replica-below line-fed
 
-    pub line-asks : ((n : ℕ) × Standing n e) × (nth d (rowAt k) < nth e 0) × (nth e (rowAt k + (1 + 3 * c)) < nth e 1) × FedIn (nth d (rowAt k)) e
-        × Small 4294967295 (nth cells (nth e (rowAt k + (1 + 3 * c))))
-    line-asks =
-        let w = sizes h in
-        let p = box-below k c ran line-below replica-below line-fed in (
-          (nth e 0, ran .standing),
-          rw (← line-task) (ran .standing .task-of k line-below),
-          p,
-          rw (← line-task) (λ x i. line-fed x i .0),
-          small-wider ((k * 8 + c) * replicaMost) 4294967295 (nth cells (nth e (rowAt k + (1 + 3 * c)))) (omega arith) (ran .ready-small (nth e (rowAt k + (1 + 3 * c))) p),
-        )
+    run-same : run ≡ 4 + nth e (rowAt k) * (nth e 1 + 1) + (its + 1)
+    run-same = rw (task-retimed (l .retimed) k, cell-retimed (l .retimed) 1 (omega arith)) (omega arith)
 
-    pub line-next : (x y : ℕ)
-        → timeIn x ≡ after (runTime (jobIn e) (nth d (rowAt k)) (nth e (rowAt k + (1 + 3 * c)))) (later (timeIn (nth cells (nth e (rowAt k + (1 + 3 * c))))) (dataIn false (nth d (rowAt k)) (nth e (rowAt k + (1 + 3 * c))) e))
-        → timeIn y ≡ unlessStopped (timeIn (nth stops (nth e (rowAt k + (1 + 3 * c))))) (timeIn x)
+    run-ran : nth e run ≡ runTime (jobIn e) (nth e (rowAt k)) its
+    run-ran = rw run-same (sym (run-in e (nth e (rowAt k)) its (ran .standing .task-of k line-below) its-below))
+
+    pub line-step : LineStep (nth d (rowAt k)) its cells d e
+    line-step =
+        let w = sizes (s .job) in
+        let t = ran .standing .task-of k line-below in
+        let h : its < nth d 1 = rw (cell-retimed (l .retimed) 1 (omega arith)) at its-below in
+        record {
+          processor = h;
+          below = omega arith;
+          run-below = rw run-same (row-below (sizes (ran .standing .job)) (nth e (rowAt k)) its (omega arith) its-below);
+          run-most = rw run-same (run-cell (ran .standing .job) (nth e (rowAt k)) its t its-below);
+          ready-small = small-wider ((k * 8 + c) * lineTicks) 4294967295 (nth cells its) (omega arith) (ran .ready-small its its-below);
+        }
+
+    pub line-next : (supplied x y : ℕ)
+        → timeIn supplied ≡ dataIn false (nth d (rowAt k)) its d
+        → timeIn x ≡ after (nth e run) (later (timeIn (nth cells its)) (timeIn supplied))
+        → timeIn y ≡ unlessStopped (timeIn (nth stops its)) (timeIn x)
         → ((b : ℕ) → Small b x → Small b y)
-        → LineRuns k (c + 1) stops (set cells (nth e (rowAt k + (1 + 3 * c))) y) d (set e (rowAt k + (2 + 3 * c)) y)
-    line-next x y p₀ q n =
-        let w = sizes h in
+        → LineRuns k (c + 1) stops (set cells its y) d (set e (rowAt k + (2 + 3 * c)) y)
+    line-next supplied x y o p₀ q n =
+        let w = sizes (s .job) in
         let g = line-below in
         let u = replica-below in
         let v = line-fed in
-        let box = nth e (rowAt k + (1 + 3 * c)) in
-        let p : timeIn x ≡ after (runTime (jobIn e) (nth e (rowAt k)) box) (later (timeIn (nth cells box)) (dataIn false (nth e (rowAt k)) box e)) = rw line-task p₀ in
+        let p : timeIn x ≡ after (runTime (jobIn e) (nth e (rowAt k)) its) (later (timeIn (nth cells its)) (dataIn false (nth e (rowAt k)) its e)) = rw (line-data its, ← o, ← run-ran) p₀ in
         record {
           running = running-next k c ran g u v x p y n;
           retimed = retimed-set k c y (l .retimed) (omega arith) (omega arith) (omega arith);
-          outcomes = λ ss s.
-              let j : jobIn e ≡ jobIn d = job-retimed (l .retimed) h in
-              let o : finish (jobIn e) least ss (ranIn k c e) (copyOf (jobIn e) (nth e (rowAt k)) box) ≡ timeIn y =
-              finish-ran k c ran g u v x p ss ∙ rw (← s box line-box) (sym q) in
+          outcomes = λ ss h.
+              let j : jobIn e ≡ jobIn d = job-retimed (l .retimed) (s .job) in
+              let o : finish (jobIn e) least ss (ranIn k c e) (copyOf (jobIn e) (nth e (rowAt k)) its) ≡ timeIn y =
+              finish-ran k c ran g u v x p ss ∙ rw (← h its (line-step .below)) (sym q) in
               ran-next k c ran g u v x p y n
               ∙ rw (
                 copies-next k c d,
                 walked-more (jobIn d) ss (placedIn false (nth d 3 + 1) k d) (copiesIn k c d) (copyOf (jobIn d) (nth d (rowAt k)) (nth d (rowAt k + (1 + 3 * c)))),
-                ← l .outcomes ss s,
+                ← l .outcomes ss h,
                 ← j,
                 ← task-retimed (l .retimed) k,
                 ← processor-retimed (l .retimed) k c (omega arith),
@@ -327,18 +384,18 @@ module _ (k c : ℕ) {stops cells d e : List ℕ} (l : LineRuns k c stops cells 
   pub line-done : c ≡ nth d 3 + 1 → Running (suc k) 0 cells e × LineRun k stops d e
   unfolding ranIn placedIn rowOutcomes
   line-done q =
-      let w = sizes h in
+      let w = sizes (s .job) in
       let three : nth e 3 ≡ nth d 3 = cell-retimed (l .retimed) 3 (omega arith) in
       let same : ranIn k c e ≡ ranIn (suc k) 0 e = rw (q, three) in
-      let most : (k * 8 + c) * replicaMost ≤ (suc k * 8 + 0) * replicaMost = omega arith in (
+      let most : (k * 8 + c) * lineTicks ≤ (suc k * 8 + 0) * lineTicks = omega arith in (
         record {
           standing = ran .standing;
           size = ran .size;
           ready-of = λ p g. rw (← same) (ran .ready-of p g);
-          ready-small = λ p g. small-wider ((k * 8 + c) * replicaMost) ((suc k * 8 + 0) * replicaMost) (nth cells p) most (ran .ready-small p g);
+          ready-small = λ p g. small-wider ((k * 8 + c) * lineTicks) ((suc k * 8 + 0) * lineTicks) (nth cells p) most (ran .ready-small p g);
           within = rw (← same) (λ x i. let (g, t) = ran .within x i in (g, weaker (x .time) most t));
         },
-        record { retimed = l .retimed; outcomes = λ ss s. sym same ∙ l .outcomes ss s ∙ rw q },
+        record { retimed = l .retimed; outcomes = λ ss h. sym same ∙ l .outcomes ss h ∙ rw q },
       )
 
 -- A stop in a cell ------------------------------------------------------------------------------------------------------

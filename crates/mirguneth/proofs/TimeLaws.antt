@@ -23,7 +23,7 @@ use Rattle.mirguneth.proofs.Held.{equal-or-not, sizes, delay-in, run-in
 pub time-tick : (x : ℕ) → (x ≡ neverCell → ⊥) → timeIn x ≡ tick x
 time-tick x h = rw (ne-eqb x neverCell h)
 
-later-never : (x : Time) → later x never ≡ never
+pub later-never : (x : Time) → later x never ≡ never
 later-never (tick x) = refl
 later-never never = refl
 
@@ -134,6 +134,10 @@ pub row-small : (late : Bool) (a c place : ℕ) (mem : List ℕ) → RowHeld a m
 row-small true a c place mem r h e = rw e (r .late-of c h)
 row-small false a c place mem r h e = rw e (r .early-of c h)
 
+-- The ticks of a message.
+pub message-most : (volume n : ℕ) → volume ≤ 4095 → n ≤ 255 → volume * n ≤ 1044225
+message-most volume n h g = mul-le-mul {n₁ = volume} {m₁ = n} {n₂ = 4095} {m₂ = 255} h g
+
 module _ {mem : List ℕ} (h : JobHeld mem) where
   pub delay-cell : (p q : ℕ) → p < nth mem 1 → q < nth mem 1 → nth mem (4 + (nth mem 0 + p) * (nth mem 1 + 1) + (q + 1)) ≤ 255
   delay-cell p q a b =
@@ -143,10 +147,8 @@ module _ {mem : List ℕ} (h : JobHeld mem) where
   run-cell t p a b =
       rw (run-in mem t p a b) at (h .facts .run-most t p (rw (← tasks-in mem) at a) (rw (← processors-in mem) at b))
 
-  -- A message's ticks.
   pub message-cell : (volume q p : ℕ) → volume ≤ 4095 → q < nth mem 1 → p < nth mem 1 → volume * nth mem (4 + (nth mem 0 + q) * (nth mem 1 + 1) + (p + 1)) ≤ 1044225
-  message-cell volume q p g a b =
-      mul-le-mul {n₁ = volume} {m₁ = nth mem (4 + (nth mem 0 + q) * (nth mem 1 + 1) + (p + 1))} {n₂ = 4095} {m₂ = 255} g (delay-cell q p a b)
+  message-cell volume q p g a b = message-most volume (nth mem (4 + (nth mem 0 + q) * (nth mem 1 + 1) + (p + 1))) g (delay-cell q p a b)
 
   -- A message's ticks.
   pub message-in : (volume q p : ℕ) → q < nth mem 1 → p < nth mem 1
@@ -211,14 +213,13 @@ abbrev pub arrives : Bool → ℕ → List ℕ → Edge → Time
 arrives late p mem e = arrivalIn late (e .volume) p (rowOf (e .from) mem) mem
 
 -- The edges from link k on are still to be seen; acc is the largest time of the others that enter t.
-pub record Gathering (f : Edge → Time) (b t : ℕ) (mem : List ℕ) (acc k : ℕ) : Type 0 where
+pub record Gathering (f : Edge → Time) (t : ℕ) (mem : List ℕ) (acc : Time) (k : ℕ) : Type 0 where
   pub most : k ≤ nth mem 2
-  pub rest : later (largest (map f (chain inNextAt (nth mem 2) mem k))) (timeIn acc) ≡ largest (map f (incoming (jobIn mem) t))
+  pub rest : later (largest (map f (chain inNextAt (nth mem 2) mem k))) acc ≡ largest (map f (incoming (jobIn mem) t))
   pub among : (e : Edge) → In e (chain inNextAt (nth mem 2) mem k) → In e (incoming (jobIn mem) t)
-  pub small : Small b acc
 
-module _ (f : Edge → Time) (b n t : ℕ) (mem : List ℕ) (s : Standing n mem) where
-  pub gather-first : t < nth mem 0 → Gathering f b t mem 0 (nth mem (inHeadAt + t))
+module _ (f : Edge → Time) (n t : ℕ) (mem : List ℕ) (s : Standing n mem) where
+  pub gather-first : t < nth mem 0 → Gathering f t mem (tick 0) (nth mem (inHeadAt + t))
   unfolding largest
   gather-first h =
       let c = s .linked .chains t h in
@@ -227,10 +228,9 @@ module _ (f : Edge → Time) (b n t : ℕ) (mem : List ℕ) (s : Standing n mem)
         most = s .linked .head-most t h;
         rest = rw c (later-comm (largest (map f (reverse es))) (tick 0) ∙ later-zero (largest (map f (reverse es))) ∙ largest-reverse f es [] ∙ later-comm (largest (map f es)) (tick 0) ∙ later-zero (largest (map f es)));
         among = λ e i. ⊎-elim (λ i. i) (λ i. absurd i) (in-reverse e es [] (rw c at i));
-        small = inr (omega arith);
       }
 
-  module _ {acc k : ℕ} (g : Gathering f b t mem acc k) where
+  module _ {acc : Time} {k : ℕ} (g : Gathering f t mem acc k) where
     module _ (h : 0 < k) where
       abbrev here : Edge
       here = edgeIn (nth mem (edgeAt mem (k - 1)))
@@ -238,24 +238,26 @@ module _ (f : Edge → Time) (b n t : ℕ) (mem : List ℕ) (s : Standing n mem)
       step : chain inNextAt (nth mem 2) mem k ≡ here ∷ chain inNextAt (nth mem 2) mem (nth mem (inNextAt + (k - 1)))
       step = chain-step (s .linked) k h (g .most)
 
+      pub gather-enters : In here (incoming (jobIn mem) t)
+      gather-enters = g .among here (rw step (inl refl))
+
       pub gather-edge : FedIn t mem → Feeds here mem
-      gather-edge d = feeds n t here mem s d (g .among here (rw step (inl refl)))
+      gather-edge d = feeds n t here mem s d gather-enters
 
       pub gather-falls : nth mem (inNextAt + (k - 1)) < k
       gather-falls = omega (arith, s .linked .falls (k - 1) (omega (arith, g .most)))
 
-      pub gather-next : (x r : ℕ) → timeIn x ≡ f here → timeIn r ≡ later (timeIn x) (timeIn acc) → Small b r → Gathering f b t mem r (nth mem (inNextAt + (k - 1)))
+      pub gather-next : (r : Time) → r ≡ later (f here) acc → Gathering f t mem r (nth mem (inNextAt + (k - 1)))
       unfolding largest
-      gather-next x r e d z =
+      gather-next r d =
           let rest : List Edge = chain inNextAt (nth mem 2) mem (nth mem (inNextAt + (k - 1))) in
-          let old : later (later (f here) (largest (map f rest))) (timeIn acc) ≡ largest (map f (incoming (jobIn mem) t)) = rw step at (g .rest) in
+          let old : later (later (f here) (largest (map f rest))) acc ≡ largest (map f (incoming (jobIn mem) t)) = rw step at (g .rest) in
           record {
             most = omega (arith, gather-falls, g .most);
-            rest = rw (d, e) (sym (later-assoc (largest (map f rest)) (f here) (timeIn acc)) ∙ ap (λ (z : Time). later z (timeIn acc)) (later-comm (largest (map f rest)) (f here)) ∙ old);
+            rest = rw d (sym (later-assoc (largest (map f rest)) (f here) acc) ∙ ap (λ (z : Time). later z acc) (later-comm (largest (map f rest)) (f here)) ∙ old);
             among = λ e i. g .among e (rw step (inr i));
-            small = z;
           }
 
-    pub gather-done : k ≡ 0 → timeIn acc ≡ largest (map f (incoming (jobIn mem) t))
+    pub gather-done : k ≡ 0 → acc ≡ largest (map f (incoming (jobIn mem) t))
     unfolding largest
-    gather-done e = sym (later-zero (timeIn acc)) ∙ (rw (e, chain-end inNextAt mem (nth mem 2)) at (g .rest))
+    gather-done e = sym (later-zero acc) ∙ (rw (e, chain-end inNextAt mem (nth mem 2)) at (g .rest))

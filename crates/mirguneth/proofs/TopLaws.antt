@@ -75,10 +75,10 @@ feeds-sends {k} {mem} {e} s t f d =
 pub top-later : (x y : ℕ) → x ≤ 4296011520 → y ≤ 4296011520 → (tick y ≡ timeIn y) × (y ≤ x → timeIn x ≡ later (timeIn y) (timeIn x)) × (x ≤ y → timeIn y ≡ later (timeIn y) (timeIn x))
 top-later x y h g = (sym (time-tick y (λ q. omega arith)), later-right y x (omega arith) (omega arith), later-left y x (omega arith) (omega arith))
 
-module _ {t x k b : ℕ} {mem : List ℕ} (n : ℕ) (s : Standing n mem) (g : Gathering (spreads mem) b t mem x k) (e : k ≡ 0) (l : x ≤ 4296011520) where
+module _ {t x k : ℕ} {mem : List ℕ} (n : ℕ) (s : Standing n mem) (g : Gathering (spreads mem) t mem (timeIn x) k) (e : k ≡ 0) (l : x ≤ 4296011520) where
   top-done : x ≡ tickOf (topIn t mem)
   unfolding topIn spreadIn
-  top-done = ap tickOf (sym (time-tick x (λ q. omega arith)) ∙ gather-done (spreads mem) b n t mem s g e)
+  top-done = ap tickOf (sym (time-tick x (λ q. omega arith)) ∙ gather-done (spreads mem) n t mem s g e)
 
   abbrev m : ℕ
   m = nth mem 1

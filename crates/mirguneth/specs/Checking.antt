@@ -2,15 +2,15 @@
 use mathlib.Core.Path.{_≡_}
 use mathlib.Core.List.{List, []}
 use mathlib.Core.Bool.{Bool, true, false}
-use Prim.Native.Nat.{ℕ, _+_, _*_, _<_}
+use Prim.Native.Nat.{ℕ, _+_, _*_, _≤_, _<_}
 use Rattle.definitions.specs.Lists.{if_then_else_, nth}
 use Rattle.definitions.specs.Limits.{document01}
-use Rattle.definitions.specs.Times.{Time, finish}
+use Rattle.definitions.specs.Times.{Time}
 use Rattle.definitions.proofs.Facts.{PlanFacts}
 use Rattle.definitions.proofs.Tasks.{copyOf}
 use Rattle.mirguneth.specs.Layout.{rowAt}
-use Rattle.mirguneth.specs.Schedule.{jobIn, timeIn, choiceOf, placedIn, Standing}
-use Rattle.mirguneth.specs.Planning.{ClocksHeld}
+use Rattle.mirguneth.specs.Schedule.{jobIn, timeIn, choiceOf, placedIn, Standing, lineTicks}
+use Rattle.mirguneth.specs.Planning.{finishOn, ClocksHeld}
 use Rattle.mirguneth.specs.Loading.{planIn}
 use Rattle.mirguneth.specs.declared.clocks.Clocks.{Clocks}
 
@@ -24,10 +24,8 @@ abbrev pub ClocksAfter : ℕ → List ℕ → Clocks → Type 0
 ClocksAfter k mem clocks = ClocksHeld clocks (jobIn mem) (placedIn false (nth mem 3 + 1) k mem) (placedIn true (nth mem 3 + 1) k mem)
 
 -- The early or late finish of replica c of line k by the equations, after the first k lines as they are written.
-unfoldable pub finishIn : Bool → ℕ → ℕ → List ℕ → Time
-finishIn late k c mem =
-    finish (jobIn mem) (choiceOf late) [] (placedIn late (nth mem 3 + 1) k mem)
-    (copyOf (jobIn mem) (nth mem (rowAt k)) (nth mem (rowAt k + (1 + 3 * c))))
+abbrev pub finishIn : Bool → ℕ → ℕ → List ℕ → Time
+finishIn late k c mem = finishOn late k mem (nth mem (rowAt k)) (nth mem (rowAt k + (1 + 3 * c)))
 
 -- The ticks of the first c replicas of line k are the equations'.
 abbrev pub AgreesTo : ℕ → ℕ → List ℕ → Type 0
@@ -36,3 +34,9 @@ AgreesTo k c mem = (late : Bool) (i : ℕ) → i < c → finishIn late k i mem �
 -- All of line k are.
 abbrev pub LineAgrees : ℕ → List ℕ → Type 0
 LineAgrees k mem = AgreesTo k (nth mem 3 + 1) mem
+
+-- The ticks of the first k lines do not pass what k lines add up to.
+abbrev pub ShortTo : ℕ → List ℕ → Type 0
+ShortTo k mem =
+    (i c : ℕ) → i < k → c < nth mem 3 + 1
+    → (nth mem (rowAt i + (2 + 3 * c)) ≤ k * lineTicks) × (nth mem (rowAt i + (3 + 3 * c)) ≤ k * lineTicks)

@@ -3,6 +3,7 @@ pub mod Answers
 pub mod Stages
 pub mod Layout
 pub mod Schedule
+pub mod Arrivals
 pub mod Planning
 pub mod Rounds
 pub mod Loading

@@ -3,9 +3,9 @@ use mathlib.Core.Path.{_≡_}
 use mathlib.Core.List.{List, [], _∷_, _++_, map, reverseAux}
 use mathlib.Core.Bool.{Bool, true, false, _&&_}
 use Prim.Native.Nat.{ℕ, _+_, _*_, _-_, _<_, _≤_}
-use lib.Dec.{eqb}
-use lib.ListN.{length}
-use Rattle.definitions.specs.Lists.{nth, below, keep}
+use lib.Dec.{eqb, ltb}
+use lib.ListN.{length, take}
+use Rattle.definitions.specs.Lists.{if_then_else_, nth, below, keep, any}
 use Rattle.definitions.specs.Limits.{document01}
 use Rattle.definitions.specs.Job.{Edge, Job, incoming}
 use Rattle.definitions.specs.Plan.{Replica}
@@ -13,7 +13,7 @@ use Rattle.definitions.specs.Times.{Time, tick, after, least, largest, Outcome,
 use Rattle.definitions.specs.Planner.{tickOf, greatestOf, Waiting, waitingFrom, scale, trial, chosen, place, planFor}
 use Rattle.definitions.proofs.Tasks.{copyOf}
 use Rattle.mirguneth.specs.Layout.{levelAt, lineAt, blockedAt, priorityAt, rowAt, farAt}
-use Rattle.mirguneth.specs.Schedule.{jobIn, rowOutcomes, placedIn, rowReplicas, linesIn, topIn, KeptOutside, RowHeld, FedIn, Standing, LinkedOut, FarFilled, LevelsFilled}
+use Rattle.mirguneth.specs.Schedule.{jobIn, lineTicks, choiceOf, rowOutcomes, placedIn, rowReplicas, linesIn, topIn, KeptOutside, RowHeld, Standing, LinkedOut, FarFilled, LevelsFilled}
 use Rattle.mirguneth.specs.declared.clocks.Clocks.{Clocks}
 
 -- The choice of a task ------------------------------------------------------------------------------------------
@@ -30,6 +30,24 @@ freeIn mem = map (λ t. (t, nth mem (priorityAt + t))) (keep (isFree mem) (below
 abbrev pub bestOf : ℕ → List (ℕ × ℕ) → ℕ
 bestOf d [] = d
 bestOf d (x ∷ xs) = greatestOf x xs
+
+-- The first n cells list the free tasks, ascending; and a task that is blocked has no line.
+pub record FreeList (cells : List ℕ) (n : ℕ) (mem : List ℕ) : Type 0 where
+  pub size : length cells ≡ 256
+  pub few : n ≤ 255
+  pub listed : take n cells ≡ keep (isFree mem) (below (nth mem 0))
+  pub waits : (u : ℕ) → u < nth mem 0 → 0 < nth mem (blockedAt + u) → nth mem (lineAt + u) ≡ 0
+
+-- Task t got a line, and no other; what blocks the tasks is the same.
+pub record Taken (t : ℕ) (d e : List ℕ) : Type 0 where
+  pub line-new : 0 < nth e (lineAt + t)
+  pub line-kept : (u : ℕ) → u < nth d 0 → (u ≡ t → ⊥) → nth e (lineAt + u) ≡ nth d (lineAt + u)
+  pub blocked-kept : (u : ℕ) → u < nth d 0 → nth e (blockedAt + u) ≡ nth d (blockedAt + u)
+
+-- u put into a list, behind the last member that is less.
+unfoldable pub inserted : ℕ → List ℕ → List ℕ
+inserted u [] = u ∷ []
+inserted u (x ∷ xs) = if any (λ y. ltb y u) (x ∷ xs) then x ∷ inserted u xs else u ∷ x ∷ xs
 
 -- The tasks that wait, with their bottom levels.
 unfoldable pub waitingIn : List ℕ → List Waiting
@@ -58,22 +76,19 @@ earliesIn k mem = placedIn false (nth mem 3 + 1) k mem
 abbrev pub latesIn : ℕ → List ℕ → List Outcome
 latesIn k mem = placedIn true (nth mem 3 + 1) k mem
 
--- The early and the late finish of task t on p, after the first k lines.
-unfoldable pub earlyOn : ℕ → List ℕ → ℕ → ℕ → Time
-earlyOn k mem t p = finish (jobIn mem) least [] (earliesIn k mem) (copyOf (jobIn mem) t p)
-
-unfoldable pub lateOn : ℕ → List ℕ → ℕ → ℕ → Time
-lateOn k mem t p = finish (jobIn mem) largest [] (latesIn k mem) (copyOf (jobIn mem) t p)
+-- The early or the late finish of task t on p, after the first k lines.
+unfoldable pub finishOn : Bool → ℕ → List ℕ → ℕ → ℕ → Time
+finishOn late k mem t p = finish (jobIn mem) (choiceOf late) [] (placedIn late (nth mem 3 + 1) k mem) (copyOf (jobIn mem) t p)
 
 -- The replica of t on p, after the first k lines; and its outcomes.
 abbrev pub replicaOn : ℕ → List ℕ → ℕ → ℕ → Replica
-replicaOn k mem t p = record { processor = p; early = tickOf (earlyOn k mem t p); late = tickOf (lateOn k mem t p) }
+replicaOn k mem t p = record { processor = p; early = tickOf (finishOn false k mem t p); late = tickOf (finishOn true k mem t p) }
 
 abbrev pub earlyOutcome : ℕ → List ℕ → ℕ → ℕ → Outcome
-earlyOutcome k mem t p = record { task = t; processor = p; time = earlyOn k mem t p }
+earlyOutcome k mem t p = record { task = t; processor = p; time = finishOn false k mem t p }
 
 abbrev pub lateOutcome : ℕ → List ℕ → ℕ → ℕ → Outcome
-lateOutcome k mem t p = record { task = t; processor = p; time = lateOn k mem t p }
+lateOutcome k mem t p = record { task = t; processor = p; time = finishOn true k mem t p }
 
 -- The clocks have the ready ticks of all processors after what is placed, with its early and its late times.
 pub record ClocksHeld (clocks : Clocks) (j : Job) (es ls : List Outcome) : Type 0 where
@@ -81,10 +96,6 @@ pub record ClocksHeld (clocks : Clocks) (j : Job) (es ls : List Outcome) : Type 
   pub late-size : length (clocks .late) ≡ 16
   pub early-ready : (p : ℕ) → p < j .processors → tick (nth (clocks .early) p) ≡ ready j p es
   pub late-ready : (p : ℕ) → p < j .processors → tick (nth (clocks .late) p) ≡ ready j p ls
-
--- What a line adds to the ticks at most: a run and a message.
-abbrev pub lineTicks : ℕ
-lineTicks = document01 .runTime + document01 .volume * document01 .delay
 
 -- k lines of the plan are drawn up, and what is left to place gives the rest of it.
 pub record Drawn (k : ℕ) (mem : List ℕ) : Type 0 where
@@ -106,15 +117,15 @@ pub record Ranked (es : List Edge) (mem : List ℕ) : Type 0 where
   pub priorities : (u : ℕ) → u < nth mem 0 → isFree mem u ≡ true
       → nth mem (priorityAt + u) ≡ tickOf (topIn u mem) * scale (jobIn mem) + nth mem (levelAt + u)
 
--- Line k is to be of task t, whose predecessors are placed, and which would finish early at these ticks.
-pub record Tried (k t : ℕ) (at : List ℕ) (clocks : Clocks) (mem : List ℕ) : Type 0 where
+-- Line k is to be of task t, whose predecessors are placed, and which would finish at these ticks.
+pub record Tried (k t : ℕ) (early late : List ℕ) (clocks : Clocks) (mem : List ℕ) : Type 0 where
   pub drawn : Drawn k mem
   pub more : k < nth mem 0
-  pub task-below : t < nth mem 0
-  pub fed : FedIn t mem
   pub clocks-now : ClocksHeld clocks (jobIn mem) (earliesIn k mem) (latesIn k mem)
-  pub size : length at ≡ 16
-  pub finishes : (p : ℕ) → p < nth mem 1 → tick (nth at p) ≡ earlyOn k mem t p
+  pub early-size : length early ≡ 16
+  pub late-size : length late ≡ 16
+  pub early-finishes : (p : ℕ) → p < nth mem 1 → tick (nth early p) ≡ finishOn false k mem t p
+  pub late-finishes : (p : ℕ) → p < nth mem 1 → tick (nth late p) ≡ finishOn true k mem t p
 
 -- The processors of line k, if it is of task t.
 abbrev pub boxesFor : ℕ → ℕ → List ℕ → List ℕ

@@ -14,28 +14,24 @@ use Rattle.definitions.specs.Replay.{replay, firstFinish, firstBox, replayText}
 use Rattle.definitions.specs.Tools.{fitting}
 use Rattle.definitions.proofs.Bounds.{PlacedWithin}
 use Rattle.mirguneth.specs.Layout.{lineAt, rowAt, farAt}
-use Rattle.mirguneth.specs.Schedule.{jobIn, neverCell, timeIn, rowOutcomes, placedIn, rowReplicas, Small, KeptOutside, Standing}
+use Rattle.mirguneth.specs.Schedule.{jobIn, lineTicks, neverCell, timeIn, rowOutcomes, placedIn, rowReplicas, Small, KeptOutside, Standing}
 use Rattle.mirguneth.specs.Loading.{planIn}
 
 -- The stop times of a stop list are in the cells.
 abbrev pub StopsIn : List Stop → List ℕ → Type 0
 StopsIn ss cells = (p : ℕ) → p < 16 → timeIn (nth cells p) ≡ stopTime ss p
 
--- What a replica adds to a tick at most: a run of 1,000,000 and a message of 4,095 × 255. 255 lines have 8 replicas each.
-abbrev pub replicaMost : ℕ
-replicaMost = 2_044_225
-
 -- The outcomes of the first k lines, and of the first c replicas of the next, newest first.
 unfoldable pub ranIn : ℕ → ℕ → List ℕ → List Outcome
 ranIn k c mem = rowOutcomes false (rowAt k) c mem ++ placedIn false (nth mem 3 + 1) k mem
 
--- k lines and c replicas of the next have run, and the cells hold the processors' ready times after them.
+-- k lines of 8 replicas at most and c of the next have run, and the cells hold the processors' ready times after them.
 pub record Running (k c : ℕ) (cells mem : List ℕ) : Type 0 where
   pub standing : Standing (nth mem 0) mem
   pub size : length cells ≡ 16
   pub ready-of : (p : ℕ) → p < nth mem 1 → timeIn (nth cells p) ≡ ready (jobIn mem) p (ranIn k c mem)
-  pub ready-small : (p : ℕ) → p < nth mem 1 → Small ((k * 8 + c) * replicaMost) (nth cells p)
-  pub within : PlacedWithin (jobIn mem) ((k * 8 + c) * replicaMost) (ranIn k c mem)
+  pub ready-small : (p : ℕ) → p < nth mem 1 → Small ((k * 8 + c) * lineTicks) (nth cells p)
+  pub within : PlacedWithin (jobIn mem) ((k * 8 + c) * lineTicks) (ranIn k c mem)
 
 -- Every predecessor of the task of line k has its line before it.
 abbrev pub FedBefore : ℕ → List ℕ → Type 0

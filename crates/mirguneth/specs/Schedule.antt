@@ -47,6 +47,10 @@ abbrev pub choiceOf : Bool → List Time → Time
 choiceOf true = largest
 choiceOf false = least
 
+-- What a line of a plan, or a replica of a round, adds to a tick at most: a run and a message.
+abbrev pub lineTicks : ℕ
+lineTicks = document01 .runTime + document01 .volume * document01 .delay
+
 -- Lines of a plan ---------------------------------------------------------------------------------------------
 
 -- The first c replicas of the line at a, newest first, with their early or their late times.

@@ -1,34 +1,38 @@
 // The processors of least early finish.
 ghost use mathlib.Core.Path.{_≡_};
-ghost use mathlib.Core.List.{List};
-ghost use Prim.Native.Nat.{ℕ, _≤_, _<_};
+ghost use Prim.Native.Nat.{_≤_, _<_};
 ghost use lib.Dec.{ltb};
 ghost use lib.ListN.{length};
 ghost use Rattle.definitions.specs.Lists.{below, keep};
 ghost use Rattle.definitions.specs.Planner.{goesBefore};
 
-// Processor q goes before p, by their finishes.
-fn goes_before(finishes: &[u64], p: usize, q: usize) -> bool
-    requires { ⌜ (p < length (now finishes)) × (q < length (now finishes)) ⌝ }
-    ensures { λ r. ⌜ r ≡ goesBefore (now (finishes .entry)) p q ⌝ }
+// How many of the processors before p go before it: those that do not finish later.
+fn rank_below(finishes: &[u32], p: usize) -> u32
+    requires { ⌜ (p < length (now finishes)) × (p < 16) ⌝ }
+    ensures { λ r. ⌜ (r ≡ length (keep (goesBefore (now (finishes .entry)) p) (below p))) × (r ≤ p) ⌝ }
 {
     let f = finishes[p];
-    let g = finishes[q];
-    if g == f {
-        return q < p;
+    let mut n: u32 = 0;
+    let mut q = 0;
+    while q < p {
+        if finishes[q] <= f {
+            n += 1;
+        }
+        q += 1;
     }
-    g < f
+    n
 }
 
-// How many of the m processors go before p.
-fn rank(finishes: &[u64], m: usize, p: usize) -> usize
-    requires { ⌜ (m ≤ length (now finishes)) × (p < m) ⌝ }
+// How many of the m processors go before p: after those before it, the ones that finish sooner.
+fn rank(finishes: &[u32], m: usize, p: usize) -> u32
+    requires { ⌜ (m ≤ length (now finishes)) × (m ≤ 16) × (p < m) ⌝ }
     ensures { λ r. ⌜ r ≡ length (keep (goesBefore (now (finishes .entry)) p) (below m)) ⌝ }
 {
-    let mut n = 0;
-    let mut q = 0;
+    let f = finishes[p];
+    let mut n = rank_below(finishes, p);
+    let mut q = p;
     while q < m {
-        if goes_before(finishes, p, q) {
+        if finishes[q] < f {
             n += 1;
         }
         q += 1;
@@ -37,9 +41,9 @@ fn rank(finishes: &[u64], m: usize, p: usize) -> usize
 }
 
 // Processor p is one of the k of least finish.
-pub fn is_chosen(finishes: &[u64], m: usize, k: usize, p: usize) -> bool
-    requires { ⌜ (m ≤ length (now finishes)) × (p < m) ⌝ }
+pub fn is_chosen(finishes: &[u32], m: usize, k: usize, p: usize) -> bool
+    requires { ⌜ (m ≤ length (now finishes)) × (m ≤ 16) × (p < m) ⌝ }
     ensures { λ r. ⌜ r ≡ ltb (length (keep (goesBefore (now (finishes .entry)) p) (below m))) k ⌝ }
 {
-    rank(finishes, m, p) < k
+    (rank(finishes, m, p) as usize) < k
 }

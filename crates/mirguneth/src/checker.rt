@@ -15,7 +15,8 @@ ghost use Rattle.mirguneth.specs.Layout.{rowAt};
 ghost use Rattle.mirguneth.specs.Schedule.{jobIn, JobHeld, LinkedOut};
 ghost use Rattle.mirguneth.specs.Loading.{lineIn, planIn};
 ghost use Rattle.mirguneth.specs.Answers.{Judged};
-ghost use Rattle.mirguneth.specs.Checking.{PlanHeld, ClocksAfter, LineAgrees};
+ghost use Rattle.mirguneth.specs.Arrivals.{DelayTable};
+ghost use Rattle.mirguneth.specs.Checking.{PlanHeld, ClocksAfter, LineAgrees, ShortTo};
 use crate::Checked;
 use crate::clocks::Clocks;
 use crate::ends;
@@ -57,24 +58,21 @@ fn doubled_line(mem: &[u64]) -> usize
 }
 
 // The ticks of line k are the equations'.
-fn line_agrees(mem: &[u64], k: usize, clocks: Clocks) -> bool
-    requires { ⌜ PlanHeld (now mem) × (k < nth (now mem) 0) × ClocksAfter k (now mem) clocks ⌝ }
-    ensures { λ r. ⌜ (r ≡ true → LineAgrees k (now (mem .entry))) × (LineAgrees k (now (mem .entry)) → r ≡ true) ⌝ }
+fn line_agrees(mem: &[u64], delays: &[u16], k: usize, clocks: Clocks) -> bool
+    requires { ⌜ PlanHeld (now mem) × DelayTable (now delays) (now mem) × (k < nth (now mem) 0) × ShortTo k (now mem) × ClocksAfter k (now mem) clocks ⌝ }
+    ensures { λ r. ⌜ (r ≡ true → LineAgrees k (now (mem .entry)) × ShortTo (k + 1) (now (mem .entry))) × (LineAgrees k (now (mem .entry)) → r ≡ true) ⌝ }
 {
     let w = mem[3] as usize + 1;
     let a = ROWS + k * 25;
     let t = mem[a] as usize;
-    let early = clocks.early;
-    let late = clocks.late;
+    let f = times::finishes(mem, delays, t, clocks);
     let mut c = 0;
     while c < w {
         let p = mem[a + (1 + 3 * c)] as usize;
-        let x = times::finish_at(mem, false, early[p], t, p);
-        if x != mem[a + (2 + 3 * c)] {
+        if f.early[p] as u64 != mem[a + (2 + 3 * c)] {
             return false;
         }
-        let y = times::finish_at(mem, true, late[p], t, p);
-        if y != mem[a + (3 + 3 * c)] {
+        if f.late[p] as u64 != mem[a + (3 + 3 * c)] {
             return false;
         }
         c += 1;
@@ -84,7 +82,7 @@ fn line_agrees(mem: &[u64], k: usize, clocks: Clocks) -> bool
 
 // The clocks after line k.
 fn clocks_after(mem: &[u64], k: usize, clocks: Clocks) -> Clocks
-    requires { ⌜ PlanHeld (now mem) × (k < nth (now mem) 0) × ClocksAfter k (now mem) clocks ⌝ }
+    requires { ⌜ PlanHeld (now mem) × (k < nth (now mem) 0) × ShortTo (k + 1) (now mem) × ClocksAfter k (now mem) clocks ⌝ }
     ensures { λ r. ⌜ ClocksAfter (k + 1) (now (mem .entry)) r ⌝ }
 {
     let w = mem[3] as usize + 1;
@@ -93,7 +91,9 @@ fn clocks_after(mem: &[u64], k: usize, clocks: Clocks) -> Clocks
     let mut c = 0;
     while c < w {
         let p = mem[a + (1 + 3 * c)] as usize;
-        let next = after.advance(p, mem[a + (2 + 3 * c)], mem[a + (3 + 3 * c)]);
+        let early = mem[a + (2 + 3 * c)] as u32;
+        let late = mem[a + (3 + 3 * c)] as u32;
+        let next = after.advance(p, early, late);
         after = next;
         c += 1;
     }
@@ -106,10 +106,11 @@ fn ticks_agree(mem: &[u64]) -> bool
     ensures { λ r. ⌜ r ≡ ticksAgree (jobIn (now (mem .entry))) (planIn (now (mem .entry)) .lines) ⌝ }
 {
     let v = mem[0] as usize;
+    let delays = times::delay_table(mem);
     let mut clocks = Clocks::new();
     let mut k = 0;
     while k < v {
-        if line_agrees(mem, k, clocks) {
+        if line_agrees(mem, &delays, k, clocks) {
             let next = clocks_after(mem, k, clocks);
             clocks = next;
         } else {

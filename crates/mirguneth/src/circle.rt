@@ -4,7 +4,7 @@ ghost use mathlib.Core.List.{map};
 ghost use mathlib.Core.Bool.{not};
 ghost use Prim.Native.Nat.{_≤_};
 ghost use lib.Dec.{ltb};
-ghost use Rattle.definitions.specs.Lists.{any, below, empty};
+ghost use Rattle.definitions.specs.Lists.{any, all, below, empty};
 ghost use Rattle.definitions.specs.Job.{remaining};
 ghost use Rattle.mirguneth.specs.Memory.{edgeIn, Marks, isMarked, stays};
 
@@ -57,11 +57,29 @@ fn some_marked(marks: &[u8; 256], v: usize) -> bool
     false
 }
 
+// Every edge leads to a task of a greater number, so that there is no circle.
+fn all_rise(edges: &[u64]) -> bool
+    ensures { λ r. ⌜ r ≡ all (λ c. ltb (edgeIn c .from) (edgeIn c .to)) (now (edges .entry)) ⌝ }
+{
+    let mut i = 0;
+    while i < edges.len() {
+        let c = edges[i];
+        if c % 256 >= c / 256 % 256 {
+            return false;
+        }
+        i += 1;
+    }
+    true
+}
+
 // The edges, one in a cell, form a circle among the tasks below v.
 pub fn has_circle(v: usize, edges: &[u64]) -> bool
     requires { ⌜ (1 ≤ v) × (v ≤ 256) ⌝ }
     ensures { λ r. ⌜ r ≡ not (empty (remaining v (map edgeIn (now (edges .entry))) (below v))) ⌝ }
 {
+    if all_rise(edges) {
+        return false;
+    }
     let mut marks = all_marked(v);
     let mut i = 0;
     while i < v {

@@ -5,8 +5,8 @@ ghost use lib.ListN.{length, set, replicate};
 
 // For each processor the finish of its newest replica, early and late.
 pub struct Clocks {
-    pub early: [u64; 16],
-    pub late: [u64; 16],
+    pub early: [u32; 16],
+    pub late: [u32; 16],
 }
 
 impl Clocks {
@@ -21,7 +21,7 @@ impl Clocks {
     }
 
     // The clocks after a replica on p that finishes at these ticks.
-    pub fn advance(mut self, p: usize, early: u64, late: u64) -> Clocks
+    pub fn advance(mut self, p: usize, early: u32, late: u32) -> Clocks
         requires { ⌜ (p < 16) × (length (self .early) ≡ 16) × (length (self .late) ≡ 16) ⌝ }
         ensures { λ r. ⌜ (r .early ≡ set (self .early) p early) × (r .late ≡ set (self .late) p late) ⌝ }
     {

@@ -1,22 +1,41 @@
 // E lines: each edge in one cell, and a table of the pairs that were seen.
 ghost use mathlib.Core.Path.{_≡_};
-ghost use mathlib.Core.List.{List, [], map};
-ghost use Prim.Native.Nat.{ℕ, _+_, _*_, _≤_, _<_};
+ghost use mathlib.Core.List.{List, [], _∷_, _++_, map};
+ghost use Prim.Native.Nat.{ℕ, _+_, _*_, _/_, _≤_, _<_};
+ghost use lib.Dec.{eqb};
 ghost use lib.ListN.{length, take, drop};
 ghost use Rattle.definitions.specs.Limits.{document01};
 ghost use Rattle.definitions.specs.Text.{lines};
 ghost use Rattle.definitions.specs.Job.{Edge, edgeLine, edgeRule};
 ghost use Rattle.text.specs.Told.{told};
-ghost use Rattle.mirguneth.specs.Memory.{edgeCell, edgeIn, Pairs};
+ghost use Rattle.mirguneth.specs.Memory.{edgeCell, edgeIn, pairBit, Pairs};
 use crate::reader;
 use text::Step;
 
-// The place of a pair in the table.
+// The byte of the table that has a pair's bit.
 fn pair_at(from: u64, to: u64) -> usize
     requires { ⌜ (from < 256) × (to < 256) ⌝ }
-    ensures { λ r. ⌜ r ≡ from * 256 + to ⌝ }
+    ensures { λ r. ⌜ r ≡ from * 32 + to / 8 ⌝ }
 {
-    (from * 256 + to) as usize
+    (from * 32 + to / 8) as usize
+}
+
+// The table has a pair.
+fn has_pair(pairs: &[u8], from: u64, to: u64) -> bool
+    requires { ⌜ (length (now pairs) ≡ 8192) × (from < 256) × (to < 256) ⌝ }
+    ensures { λ r. ⌜ r ≡ eqb (pairBit (now (pairs .entry)) from to) 1 ⌝ }
+{
+    let k = pair_at(from, to);
+    (pairs[k] >> (to % 8)) % 2 == 1
+}
+
+// Puts a pair into the table, which does not have it.
+fn add_pair(pairs: &mut [u8], from: u64, to: u64)
+    requires { ⌜ (from < 256) × (to < 256) × ((es : List Edge) × Pairs es (now pairs)) × (pairBit (now pairs) from to ≡ 0) ⌝ }
+    ensures { λ _. ⌜ ((es : List Edge) (volume : ℕ) → Pairs es (now (pairs .entry)) → Pairs (es ++ record { from = from; to = to; volume = volume } ∷ []) (now (pairs .exit))) ⌝ }
+{
+    let k = pair_at(from, to);
+    pairs[k] += 1 << (to % 8);
 }
 
 // An edge in one cell.
@@ -29,8 +48,8 @@ fn cell_of(from: u64, to: u64, volume: u64) -> u64
 
 // The number of the refusal of an edge after those whose pairs are in the table, or 0.
 fn check_edge(v: u64, from: u64, to: u64, volume: u64, pairs: &[u8]) -> u64
-    requires { ⌜ (v ≤ 255) × (length (now pairs) ≡ 65536) ⌝ }
-    ensures { λ r. ⌜ ((seen : List Edge) → Pairs seen (now (pairs .entry)) → r ≡ edgeRule document01 v seen (record { from = from; to = to; volume = volume })) × (r ≡ 0 → (from < v) × (to < v) × (volume ≤ 4095)) ⌝ }
+    requires { ⌜ (v ≤ 255) × (length (now pairs) ≡ 8192) ⌝ }
+    ensures { λ r. ⌜ ((seen : List Edge) → Pairs seen (now (pairs .entry)) → r ≡ edgeRule document01 v seen (record { from = from; to = to; volume = volume })) × (r ≡ 0 → (from < v) × (to < v) × (volume ≤ 4095) × (pairBit (now (pairs .entry)) from to ≡ 0)) ⌝ }
 {
     if from >= v {
         return 3;
@@ -44,8 +63,7 @@ fn check_edge(v: u64, from: u64, to: u64, volume: u64, pairs: &[u8]) -> u64
     if from == to {
         return 6;
     }
-    let k = pair_at(from, to);
-    if pairs[k] != 0 {
+    if has_pair(pairs, from, to) {
         return 6;
     }
     0
@@ -70,9 +88,8 @@ pub fn read_edges(s: &[u8], at: usize, v: u64, n: usize, mem: &mut [u64], pairs:
         if x > 0 {
             return Step::Refused(x);
         }
-        let k = pair_at(from, to);
         mem[i] = cell_of(from, to, volume);
-        pairs[k] = 1;
+        add_pair(pairs, from, to);
         i += 1;
     }
     Step::Next(p)

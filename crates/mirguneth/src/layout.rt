@@ -44,3 +44,6 @@ pub const FAR: usize = 15856;
 
 // The time never.
 pub const NEVER: u64 = 18446744073709551615;
+
+// The time never in 32 bits.
+pub const SHORT_NEVER: u32 = 4294967295;

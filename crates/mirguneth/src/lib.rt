@@ -10,6 +10,7 @@ mod circle;
 mod clocks;
 mod edges;
 mod ends;
+mod free;
 mod job;
 mod layout;
 mod levels;
@@ -48,7 +49,7 @@ pub fn read_job(text: &[u8], cells: &mut [u64]) -> Answer
     ensures { λ r. do ⌜ Answered (jobAnswer (now (text .entry)) (← ⟦cells.len()⟧ .entry)) (now (cells .entry)) (now (cells .exit)) r ⌝ }
 {
     let mut mem = [0u64; 5640];
-    let mut pairs = [0u8; 65536];
+    let mut pairs = [0u8; 8192];
     match job::load_job(text, &mut mem, &mut pairs) {
         Step::Next(n) => {
             if cells.len() < n {
@@ -66,7 +67,7 @@ pub fn plan(job: &[u8], out: &mut [u8]) -> Answer
     ensures { λ r. do ⌜ Answered (planAnswer document01 (now (job .entry)) (← ⟦out.len()⟧ .entry)) (now (out .entry)) (now (out .exit)) r ⌝ }
 {
     let mut mem = [0u64; 15872];
-    let mut pairs = [0u8; 65536];
+    let mut pairs = [0u8; 8192];
     match job::load_job(job, &mut mem, &mut pairs) {
         Step::Next(_) => plan_text::put_plan(&mut mem, out),
         Step::Refused(x) => Answer::Refusal(x),

@@ -13,7 +13,7 @@ pub fn load_both(job: &[u8], plan: &[u8], mem: &mut [u64]) -> Step
     requires { ⌜ length (now mem) ≡ memorySize ⌝ }
     ensures { λ r. ⌜ BothLoaded (readBoth (now (job .entry)) (now (plan .entry))) (now (mem .exit)) r ⌝ }
 {
-    let mut pairs = [0u8; 65536];
+    let mut pairs = [0u8; 8192];
     match job::load_job(job, mem, &mut pairs) {
         Step::Next(_) => {
             links::link_edges(mem);

@@ -1,17 +1,17 @@
 // The planner: tasks placed one by one on the processors of least early finish.
 ghost use mathlib.Core.Path.{_≡_};
 ghost use mathlib.Core.List.{[], reverse};
-ghost use mathlib.Core.Bool.{false};
 ghost use Prim.Native.Nat.{ℕ, _+_, _*_, _≤_, _<_};
 ghost use lib.ListN.{length};
 ghost use Rattle.definitions.specs.Lists.{nth};
-ghost use Rattle.definitions.specs.Job.{runTime, incoming, outgoing};
-ghost use Rattle.definitions.specs.Times.{later, after};
+ghost use Rattle.definitions.specs.Job.{incoming, outgoing};
 ghost use Rattle.mirguneth.specs.Layout.{memorySize, inHeadAt, lineAt, blockedAt, priorityAt, rowAt, farAt};
-ghost use Rattle.mirguneth.specs.Schedule.{jobIn, timeIn, dataIn, Small, JobHeld, KeptOutside, Standing, FedIn};
-ghost use Rattle.mirguneth.specs.Planning.{freeIn, bestOf, earliesIn, latesIn, boxesFor, ClocksHeld, Drawn, Ranked, Tried, Wrote, Begun, Cleared};
+ghost use Rattle.mirguneth.specs.Schedule.{jobIn, JobHeld, KeptOutside};
+ghost use Rattle.mirguneth.specs.Arrivals.{DelayTable};
+ghost use Rattle.mirguneth.specs.Planning.{freeIn, bestOf, FreeList, Taken, earliesIn, latesIn, boxesFor, ClocksHeld, Drawn, Ranked, Tried, Wrote, Begun, Cleared};
 use crate::boxes;
 use crate::clocks::Clocks;
+use crate::free;
 use crate::layout::BLOCKED;
 use crate::layout::LEVEL;
 use crate::layout::LINE;
@@ -23,11 +23,6 @@ use crate::levels;
 use crate::links;
 use crate::priority;
 use crate::times;
-
-// The early finish of a task on each processor.
-pub struct Finishes {
-    pub at: [u64; 16],
-}
 
 // No task is placed; each has its bottom level for a priority.
 fn clear_tasks(mem: &mut [u64])
@@ -62,23 +57,6 @@ fn count_blocked(mem: &mut [u64])
     }
 }
 
-// The early finish of t on each processor.
-fn trial(mem: &[u64], t: usize, clocks: Clocks) -> Finishes
-    requires { ⌜ ((k : ℕ) × Standing k (now mem)) × (t < nth (now mem) 0) × FedIn t (now mem) × (length (clocks .early) ≡ 16) × ((p : ℕ) → p < nth (now mem) 1 → Small 4294967295 (nth (clocks .early) p)) ⌝ }
-    ensures { λ r. ⌜ (length (r .at) ≡ 16) × ((p : ℕ) → p < nth (now (mem .entry)) 1 → timeIn (nth (r .at) p) ≡ after (runTime (jobIn (now (mem .entry))) t p) (later (timeIn (nth (clocks .early) p)) (dataIn false t p (now (mem .entry))))) ⌝ }
-{
-    let m = mem[1] as usize;
-    let early = clocks.early;
-    let mut f = Finishes { at: [0; 16] };
-    let mut p = 0;
-    while p < m {
-        let x = times::finish_at(mem, false, early[p], t, p);
-        f.at[p] = x;
-        p += 1;
-    }
-    f
-}
-
 // Replica c of the line at `a`: on p, with these finishes.
 fn put_replica(mem: &mut [u64], a: usize, c: usize, p: usize, early: u64, late: u64)
     requires { ⌜ a + (4 + 3 * c) ≤ length (now mem) ⌝ }
@@ -90,22 +68,27 @@ fn put_replica(mem: &mut [u64], a: usize, c: usize, p: usize, early: u64, late: 
 }
 
 // The replicas of line k: t on the processors of least early finish. The answer is the clocks after it.
-fn fill_line(mem: &mut [u64], k: usize, t: usize, at: [u64; 16], clocks: Clocks) -> Clocks
-    requires { ⌜ Tried k t at clocks (now mem) ⌝ }
+fn fill_line(
+    mem: &mut [u64],
+    k: usize,
+    t: usize,
+    early: [u32; 16],
+    late: [u32; 16],
+    clocks: Clocks,
+) -> Clocks
+    requires { ⌜ Tried k t early late clocks (now mem) ⌝ }
     ensures { λ r. ⌜ Begun k t (boxesFor k t (now (mem .entry))) r (now (mem .entry)) (now (mem .exit)) ⌝ }
 {
     let m = mem[1] as usize;
     let w = mem[3] as usize + 1;
-    let late = clocks.late;
     let a = ROWS + k * 25;
     let mut after = clocks;
     let mut c = 0;
     let mut p = 0;
     while p < m {
-        if boxes::is_chosen(&at, m, w, p) {
-            let x = times::finish_at(&mem[..], true, late[p], t, p);
-            put_replica(mem, a, c, p, at[p], x);
-            let next = after.advance(p, at[p], x);
+        if boxes::is_chosen(&early, m, w, p) {
+            put_replica(mem, a, c, p, early[p] as u64, late[p] as u64);
+            let next = after.advance(p, early[p], late[p]);
             after = next;
             c += 1;
         }
@@ -115,26 +98,29 @@ fn fill_line(mem: &mut [u64], k: usize, t: usize, at: [u64; 16], clocks: Clocks)
 }
 
 // Line k: t on the processors of least early finish. The answer is the clocks after it.
-fn place_task(mem: &mut [u64], k: usize, t: usize, clocks: Clocks) -> Clocks
-    requires { ⌜ Drawn k (now mem) × Ranked [] (now mem) × (k < nth (now mem) 0) × (t ≡ bestOf (nth (now mem) 0) (freeIn (now mem))) × ClocksHeld clocks (jobIn (now mem)) (earliesIn k (now mem)) (latesIn k (now mem)) ⌝ }
-    ensures { λ r. ⌜ KeptOutside lineAt farAt (now (mem .entry)) (now (mem .exit)) × Drawn (k + 1) (now (mem .exit)) × Ranked (reverse (outgoing (jobIn (now (mem .exit))) t)) (now (mem .exit)) × ClocksHeld r (jobIn (now (mem .exit))) (earliesIn (k + 1) (now (mem .exit))) (latesIn (k + 1) (now (mem .exit))) ⌝ }
+fn place_task(mem: &mut [u64], delays: &[u16], k: usize, t: usize, clocks: Clocks) -> Clocks
+    requires { ⌜ DelayTable (now delays) (now mem) × Drawn k (now mem) × Ranked [] (now mem) × (k < nth (now mem) 0) × (t ≡ bestOf (nth (now mem) 0) (freeIn (now mem))) × ClocksHeld clocks (jobIn (now mem)) (earliesIn k (now mem)) (latesIn k (now mem)) ⌝ }
+    ensures { λ r. ⌜ KeptOutside lineAt farAt (now (mem .entry)) (now (mem .exit)) × Drawn (k + 1) (now (mem .exit)) × Ranked (reverse (outgoing (jobIn (now (mem .exit))) t)) (now (mem .exit)) × ClocksHeld r (jobIn (now (mem .exit))) (earliesIn (k + 1) (now (mem .exit))) (latesIn (k + 1) (now (mem .exit))) × Taken t (now (mem .entry)) (now (mem .exit)) ⌝ }
 {
-    let f = trial(&mem[..], t, clocks);
-    let at = f.at;
-    let after = fill_line(mem, k, t, at, clocks);
+    let f = times::finishes(&mem[..], delays, t, clocks);
+    let early = f.early;
+    let late = f.late;
+    let after = fill_line(mem, k, t, early, late, clocks);
     mem[ROWS + k * 25] = t as u64;
     mem[LINE + t] = (k + 1) as u64;
     after
 }
 
-// The edges that leave t no longer block; a task that becomes free gets its priority.
-fn release(mem: &mut [u64], t: usize)
-    requires { ⌜ ((k : ℕ) × Drawn k (now mem)) × Ranked (reverse (outgoing (jobIn (now mem)) t)) (now mem) × (t < nth (now mem) 0) ⌝ }
-    ensures { λ _. ⌜ KeptOutside blockedAt (rowAt 0) (now (mem .entry)) (now (mem .exit)) × Ranked [] (now (mem .exit)) ⌝ }
+// The edges that leave t no longer block; a task that becomes free gets its priority and joins the list. The answer is the
+// list's new number.
+fn release(mem: &mut [u64], t: usize, free: &mut [u8], count: usize) -> usize
+    requires { ⌜ ((k : ℕ) × Drawn k (now mem)) × Ranked (reverse (outgoing (jobIn (now mem)) t)) (now mem) × FreeList (now free) count (now mem) × (t < nth (now mem) 0) ⌝ }
+    ensures { λ r. ⌜ KeptOutside blockedAt (rowAt 0) (now (mem .entry)) (now (mem .exit)) × Ranked [] (now (mem .exit)) × FreeList (now (free .exit)) r (now (mem .exit)) ⌝ }
 {
     let v = mem[0];
     let m = mem[1];
     let g = (4 + (v + m) * (m + 1)) as usize;
+    let mut n = count;
     let mut k = mem[OUT_HEAD + t] as usize;
     while k > 0 {
         let u = (mem[g + (k - 1)] / 256 % 256) as usize;
@@ -143,9 +129,12 @@ fn release(mem: &mut [u64], t: usize)
         if b == 0 {
             let x = priority::top_level(&mem[..], u);
             mem[PRIORITY + u] = x + mem[LEVEL + u];
+            free::put_in(free, n, u as u8);
+            n += 1;
         }
         k = mem[OUT_NEXT + (k - 1)] as usize;
     }
+    n
 }
 
 // Links, levels and the tables of tasks, before the first line.
@@ -167,13 +156,19 @@ pub fn draw_plan(mem: &mut [u64])
 {
     prepare(mem);
     let v = mem[0] as usize;
+    let delays = times::delay_table(&mem[..]);
     let mut clocks = Clocks::new();
+    let mut free = [0u8; 256];
+    let mut n = free::list_free(&mem[..], &mut free);
     let mut k = 0;
     while k < v {
-        let t = priority::critical(&mem[..]);
-        let after = place_task(mem, k, t, clocks);
+        let at = free::critical(&mem[..], &free, n);
+        let t = free[at] as usize;
+        free::take_out(&mut free, n, at);
+        let after = place_task(mem, &delays, k, t, clocks);
         clocks = after;
-        release(mem, t);
+        let count = release(mem, t, &mut free, n - 1);
+        n = count;
         k += 1;
     }
 }

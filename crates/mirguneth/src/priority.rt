@@ -1,4 +1,4 @@
-// Priorities: top levels of free tasks, and the choice of the critical one.
+// Priorities: the top levels of tasks that become free.
 ghost use mathlib.Core.Path.{_≡_};
 ghost use mathlib.Core.List.{map};
 ghost use Prim.Native.Nat.{ℕ, _+_, _*_, _≤_, _<_};
@@ -9,13 +9,11 @@ ghost use Rattle.definitions.specs.Times.{tick};
 ghost use Rattle.definitions.specs.Planner.{tickOf, scale};
 ghost use Rattle.mirguneth.specs.Layout.{memorySize, farAt, rowAt};
 ghost use Rattle.mirguneth.specs.Schedule.{jobIn, topIn, JobHeld, KeptOutside, FarFilled, Standing, FedIn};
-ghost use Rattle.mirguneth.specs.Planning.{isFree, freeIn, bestOf, Sends, spreadIn};
-use crate::layout::BLOCKED;
+ghost use Rattle.mirguneth.specs.Planning.{Sends, spreadIn};
 use crate::layout::FAR;
 use crate::layout::IN_HEAD;
 use crate::layout::IN_NEXT;
 use crate::layout::LINE;
-use crate::layout::PRIORITY;
 use crate::layout::ROWS;
 
 // The largest of the m delays from `a` on.
@@ -101,39 +99,4 @@ pub fn top_level(mem: &[u64], t: usize) -> u64
         return x;
     }
     x * (m * (m - 1))
-}
-
-// Task t is not placed, and all its predecessors are.
-fn is_free(mem: &[u64], t: usize) -> bool
-    requires { ⌜ JobHeld (now mem) × (t < nth (now mem) 0) ⌝ }
-    ensures { λ r. ⌜ r ≡ isFree (now (mem .entry)) t ⌝ }
-{
-    (mem[LINE + t] == 0) & (mem[BLOCKED + t] == 0)
-}
-
-// The free task of greatest priority, the lowest of those; the number of tasks if none is free.
-pub fn critical(mem: &[u64]) -> usize
-    requires { ⌜ JobHeld (now mem) ⌝ }
-    ensures { λ r. ⌜ r ≡ bestOf (nth (now (mem .entry)) 0) (freeIn (now (mem .entry))) ⌝ }
-{
-    let v = mem[0] as usize;
-    let mut best = v;
-    let mut top = 0;
-    let mut t = 0;
-    while t < v {
-        if is_free(mem, t) {
-            let x = mem[PRIORITY + t];
-            if best == v {
-                best = t;
-                top = x;
-            } else {
-                if x > top {
-                    best = t;
-                    top = x;
-                }
-            }
-        }
-        t += 1;
-    }
-    best
 }

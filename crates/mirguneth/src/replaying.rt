@@ -7,6 +7,7 @@ ghost use Rattle.definitions.specs.Lists.{nth};
 ghost use Rattle.definitions.specs.Times.{unlessStopped};
 ghost use Rattle.definitions.proofs.Facts.{Ordered};
 ghost use Rattle.mirguneth.specs.Schedule.{jobIn, timeIn, Small, Standing};
+ghost use Rattle.mirguneth.specs.Arrivals.{DelayTable};
 ghost use Rattle.mirguneth.specs.Loading.{planIn};
 ghost use Rattle.mirguneth.specs.Replaying.{Running, FedBefore, LineRun, RisingIn, RoundRun, FirstIn};
 use crate::layout::LINE;
@@ -30,18 +31,20 @@ fn unless_stopped(stop: u64, x: u64) -> u64
 }
 
 // Line k, replica by replica. The answer is the ready times after it.
-fn run_line(mem: &mut [u64], k: usize, stops: &[u64], ready: Ready) -> Ready
-    requires { ⌜ Running k 0 (ready .at) (now mem) × (k < nth (now mem) 0) × FedBefore k (now mem) × (length (now stops) ≡ 16) ⌝ }
+fn run_line(mem: &mut [u64], delays: &[u16], k: usize, stops: &[u64], ready: Ready) -> Ready
+    requires { ⌜ DelayTable (now delays) (now mem) × Running k 0 (ready .at) (now mem) × (k < nth (now mem) 0) × FedBefore k (now mem) × (length (now stops) ≡ 16) ⌝ }
     ensures { λ r. ⌜ Running (suc k) 0 (r .at) (now (mem .exit)) × LineRun k (now (stops .entry)) (now (mem .entry)) (now (mem .exit)) ⌝ }
 {
     let w = mem[3] as usize + 1;
     let a = ROWS + k * 25;
     let t = mem[a] as usize;
+    let b = 4 + t * (mem[1] as usize + 1) + 1;
+    let data = times::first_data(&mem[..], delays, t);
     let mut after = ready;
     let mut c = 0;
     while c < w {
         let p = mem[a + (1 + 3 * c)] as usize;
-        let x = times::finish_at(&mem[..], false, after.at[p], t, p);
+        let x = times::finish_of(after.at[p], data[p], mem[b + p]);
         let y = unless_stopped(stops[p], x);
         mem[a + (2 + 3 * c)] = y;
         after.at[p] = y;
@@ -56,10 +59,11 @@ pub fn run_round(mem: &mut [u64], stops: &[u64])
     ensures { λ _. ⌜ RoundRun (now (stops .entry)) (now (mem .entry)) (now (mem .exit)) ⌝ }
 {
     let v = mem[0] as usize;
+    let delays = times::delay_table(&mem[..]);
     let mut ready = Ready { at: [0; 16] };
     let mut k = 0;
     while k < v {
-        let after = run_line(mem, k, stops, ready);
+        let after = run_line(mem, &delays, k, stops, ready);
         ready = after;
         k += 1;
     }

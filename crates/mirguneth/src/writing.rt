@@ -1,7 +1,7 @@
 // Lines of numbers, written into what is left of an output.
 ghost use mathlib.Core.Path.{_≡_};
 ghost use Prim.Native.Nat.{_+_, _≤_, _<_};
-ghost use lib.ListN.{length, take, drop};
+ghost use lib.ListN.{length};
 ghost use Rattle.definitions.specs.Limits.{document01};
 ghost use Rattle.definitions.specs.Text.{numbersText, lineText};
 ghost use Rattle.slices.specs.Over.{over};

@@ -33,7 +33,7 @@ add-a : tie.Need-add-a Inv-loop μ-loop
 add-a c = let s = sizes (c .before .before .pre .0 .standing .job) in omega arith
 
 loop-holds : tie.Need-loop-holds Inv-loop μ-loop
-loop-holds c = (omega arith, clocks-first (c .before .before .pre .0) (c .before .before .args .k) (c .before .before .pre .1) (c .before .before .args .clocks) (c .before .before .pre .2))
+loop-holds c = (omega arith, clocks-first (c .before .before .pre .0) (c .before .before .args .k) (c .before .before .pre .1) (c .before .before .args .clocks) (c .before .before .pre .3))
 
 mul-p : tie.Need-mul-p Inv-loop μ-loop
 mul-p c = let s = sizes (c .before .before .before .before .pre .0 .standing .job) in omega arith
@@ -50,35 +50,41 @@ mul-p-2 c = let s = sizes (c .before .before .before .before .pre .0 .standing .
 shared-slice-read-p : tie.Need-shared-slice-read-p Inv-loop μ-loop
 shared-slice-read-p c = let s = sizes (c .before .before .before .before .before .pre .0 .standing .job) in omega arith
 
-mul-advance : tie.Need-mul-advance Inv-loop μ-loop
-mul-advance c = let s = sizes (c .before .before .before .before .before .pre .0 .standing .job) in omega arith
+mul-early : tie.Need-mul-early Inv-loop μ-loop
+mul-early c = let s = sizes (c .before .before .before .before .before .pre .0 .standing .job) in omega arith
 
-add-advance : tie.Need-add-advance Inv-loop μ-loop
-add-advance c = let s = sizes (c .before .before .before .before .before .pre .0 .standing .job) in omega arith
+add-early : tie.Need-add-early Inv-loop μ-loop
+add-early c = let s = sizes (c .before .before .before .before .before .pre .0 .standing .job) in omega arith
 
-add-advance-2 : tie.Need-add-advance-2 Inv-loop μ-loop
-add-advance-2 c = let s = sizes (c .before .before .before .before .before .pre .0 .standing .job) in omega arith
+add-early-2 : tie.Need-add-early-2 Inv-loop μ-loop
+add-early-2 c = let s = sizes (c .before .before .before .before .before .pre .0 .standing .job) in omega arith
 
-mul-advance-2 : tie.Need-mul-advance-2 Inv-loop μ-loop
-mul-advance-2 c = let s = sizes (c .before .before .before .before .before .pre .0 .standing .job) in omega arith
+mul-early-2 : tie.Need-mul-early-2 Inv-loop μ-loop
+mul-early-2 c = let s = sizes (c .before .before .before .before .before .pre .0 .standing .job) in omega arith
 
-shared-slice-read-advance : tie.Need-shared-slice-read-advance Inv-loop μ-loop
-shared-slice-read-advance c = let s = sizes (c .before .before .before .before .before .before .pre .0 .standing .job) in omega arith
+shared-slice-read-early : tie.Need-shared-slice-read-early Inv-loop μ-loop
+shared-slice-read-early c = let s = sizes (c .before .before .before .before .before .before .pre .0 .standing .job) in omega arith
 
-mul-advance-3 : tie.Need-mul-advance-3 Inv-loop μ-loop
-mul-advance-3 c = let s = sizes (c .before .before .before .before .before .before .pre .0 .standing .job) in omega arith
+cast-early : tie.Need-cast-early Inv-loop μ-loop
+cast-early c = let s = sizes (c .before .before .before .before .before .before .pre .0 .standing .job) in omega (arith, c .before .before .before .before .before .before .pre .2 (c .before .before .before .before .before .before .args .k) (c .before .before .before .loop .c) (omega arith) (c .before .before .loop-test .taken) .0)
 
-add-advance-3 : tie.Need-add-advance-3 Inv-loop μ-loop
-add-advance-3 c = let s = sizes (c .before .before .before .before .before .before .pre .0 .standing .job) in omega arith
+mul-late : tie.Need-mul-late Inv-loop μ-loop
+mul-late c = let s = sizes (c .before .before .before .before .before .before .pre .0 .standing .job) in omega arith
 
-add-advance-4 : tie.Need-add-advance-4 Inv-loop μ-loop
-add-advance-4 c = let s = sizes (c .before .before .before .before .before .before .pre .0 .standing .job) in omega arith
+add-late : tie.Need-add-late Inv-loop μ-loop
+add-late c = let s = sizes (c .before .before .before .before .before .before .pre .0 .standing .job) in omega arith
 
-mul-advance-4 : tie.Need-mul-advance-4 Inv-loop μ-loop
-mul-advance-4 c = let s = sizes (c .before .before .before .before .before .before .pre .0 .standing .job) in omega arith
+add-late-2 : tie.Need-add-late-2 Inv-loop μ-loop
+add-late-2 c = let s = sizes (c .before .before .before .before .before .before .pre .0 .standing .job) in omega arith
 
-shared-slice-read-advance-2 : tie.Need-shared-slice-read-advance-2 Inv-loop μ-loop
-shared-slice-read-advance-2 c = let s = sizes (c .before .before .before .before .before .before .before .pre .0 .standing .job) in omega arith
+mul-late-2 : tie.Need-mul-late-2 Inv-loop μ-loop
+mul-late-2 c = let s = sizes (c .before .before .before .before .before .before .pre .0 .standing .job) in omega arith
+
+shared-slice-read-late : tie.Need-shared-slice-read-late Inv-loop μ-loop
+shared-slice-read-late c = let s = sizes (c .before .before .before .before .before .before .before .pre .0 .standing .job) in omega arith
+
+cast-late : tie.Need-cast-late Inv-loop μ-loop
+cast-late c = let s = sizes (c .before .before .before .before .before .before .before .pre .0 .standing .job) in omega (arith, c .before .before .before .before .before .before .before .pre .2 (c .before .before .before .before .before .before .before .args .k) (c .before .before .before .before .loop .c) (omega arith) (c .before .before .before .loop-test .taken) .1)
 
 advance-requires : tie.Need-advance-requires Inv-loop μ-loop
 advance-requires c κs =
@@ -113,16 +119,18 @@ clocks-after-spec =
     add-p-2
     mul-p-2
     shared-slice-read-p
-    mul-advance
-    add-advance
-    add-advance-2
-    mul-advance-2
-    shared-slice-read-advance
-    mul-advance-3
-    add-advance-3
-    add-advance-4
-    mul-advance-4
-    shared-slice-read-advance-2
+    mul-early
+    add-early
+    add-early-2
+    mul-early-2
+    shared-slice-read-early
+    cast-early
+    mul-late
+    add-late
+    add-late-2
+    mul-late-2
+    shared-slice-read-late
+    cast-late
     advance-requires
     add-c
     loop-less

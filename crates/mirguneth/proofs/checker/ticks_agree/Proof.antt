@@ -4,48 +4,54 @@ use Prim.Native.Nat.{ℕ, _≤_, _<_, _-_}
 use native.Mathlib.Omega.{arith}
 use borrow.Author.Needs.{needs}
 use mathlib.Core.Bool.{false≢true}
-use Rattle.mirguneth.specs.Checking.{ClocksAfter, LineAgrees}
+use Rattle.mirguneth.specs.Checking.{ClocksAfter, LineAgrees, ShortTo}
 use Rattle.mirguneth.proofs.Held.{sizes}
 use Rattle.mirguneth.proofs.AgreeLaws.{clocks-new, ticks-yes, ticks-no, agreed-next}
 use Rattle.mirguneth.proofs.checker.ticks_agree.Statement.{statement}
 use Rattle.mirguneth.proofs.checker.ticks_agree.Tie as tie
 
 abbrev Inv-loop : tie.InvT-loop
-Inv-loop mem v clocks₀ k₀ clocks k =
-    (k ≤ v) × ((i : ℕ) → i < k → LineAgrees i mem) × ClocksAfter k mem clocks
+Inv-loop mem v delays clocks₀ k₀ clocks k =
+    (k ≤ v) × ((i : ℕ) → i < k → LineAgrees i mem) × ShortTo k mem × ClocksAfter k mem clocks
 
 abbrev μ-loop : tie.MeasureT-loop
-μ-loop mem v clocks₀ k₀ clocks k = v - k
+μ-loop mem v delays clocks₀ k₀ clocks k = v - k
 
 shared-slice-read-v : tie.Need-shared-slice-read-v Inv-loop μ-loop
 shared-slice-read-v c = let s = sizes (c .before .before .pre .0 .standing .job) in omega arith
+
+delay-table-requires : tie.Need-delay-table-requires Inv-loop μ-loop
+delay-table-requires c κs = c .before .before .pre .0 .standing .job
 
 new-requires : tie.Need-new-requires Inv-loop μ-loop
 new-requires c κs = search needs
 
 loop-holds : tie.Need-loop-holds Inv-loop μ-loop
-loop-holds c = (omega arith, λ i l. absurd (omega arith), clocks-new (c .new .result) (c .before .before .before .args .mem .now) (c .before .before .before .pre .0 .standing .job) (c .new .ensures .0) (c .new .ensures .1))
+loop-holds c = (omega arith, λ i l. absurd (omega arith), λ i n l m. absurd (omega arith), clocks-new (c .new .result) (c .before .before .before .before .args .mem .now) (c .before .before .before .before .pre .0 .standing .job) (c .new .ensures .0) (c .new .ensures .1))
+
+slice-aggregate-line-agrees : tie.Need-slice-aggregate-line-agrees Inv-loop μ-loop
+slice-aggregate-line-agrees c = search needs
 
 line-agrees-requires : tie.Need-line-agrees-requires Inv-loop μ-loop
-line-agrees-requires c κs = search needs
+line-agrees-requires c κs = (c .before .before .before .before .before .before .before .pre .0, c .before .before .before .before .delay-table .ensures, c .before .loop-test .taken, c .before .before .loop .inv .2, c .before .before .loop .inv .3)
 
 clocks-after-requires : tie.Need-clocks-after-requires Inv-loop μ-loop
-clocks-after-requires c κs = search needs
+clocks-after-requires c κs = (c .before .before .before .before .before .before .before .before .before .pre .0, c .before .before .before .loop-test .taken, c .before .line-agrees .ensures .0 (c .if1 .taken) .1, c .before .before .before .before .loop .inv .3)
 
 returns : tie.Need-returns Inv-loop μ-loop
-returns c = ticks-no (c .before .before .before .before .before .before .before .pre .0) (c .before .before .before .before .before .before .before .pre .1) (c .before .before .before .loop .k) (c .before .before .loop-test .taken) (λ a. false≢true (sym (c .if1 .left) ∙ c .before .line-agrees .ensures .1 a))
+returns c = ticks-no (c .before .before .before .before .before .before .before .before .before .pre .0) (c .before .before .before .before .before .before .before .before .before .pre .1) (c .before .before .before .before .loop .k) (c .before .before .before .loop-test .taken) (λ a. false≢true (sym (c .if1 .left) ∙ c .before .line-agrees .ensures .1 a))
 
 add-k : tie.Need-add-k Inv-loop μ-loop
-add-k c = let s = sizes (c .before .before .before .before .before .before .before .before .pre .0 .standing .job) in omega arith
+add-k c = let s = sizes (c .before .before .before .before .before .before .before .before .before .before .pre .0 .standing .job) in omega arith
 
 loop-less : tie.Need-loop-less Inv-loop μ-loop
 loop-less c = search needs
 
 loop-again : tie.Need-loop-again Inv-loop μ-loop
-loop-again c = (omega arith, agreed-next (c .before .before .before .before .before .before .before .before .args .mem .now) (c .before .before .before .before .loop .k) (c .before .before .line-agrees .ensures .0 (c .before .if1 .taken)) (c .before .before .before .before .loop .inv .1), c .clocks-after .ensures)
+loop-again c = let (a, s) = c .before .before .line-agrees .ensures .0 (c .before .if1 .taken) in (omega arith, agreed-next (c .before .before .before .before .before .before .before .before .before .before .args .mem .now) (c .before .before .before .before .before .loop .k) a (c .before .before .before .before .before .loop .inv .1), s, c .clocks-after .ensures)
 
 returns-2 : tie.Need-returns-2 Inv-loop μ-loop
-returns-2 c = ticks-yes (c .before .before .before .before .before .pre .0) (c .before .before .before .before .before .pre .1) (c .before .loop .k) (omega arith) (c .before .loop .inv .1)
+returns-2 c = ticks-yes (c .before .before .before .before .before .before .pre .0) (c .before .before .before .before .before .before .pre .1) (c .before .loop .k) (omega arith) (c .before .loop .inv .1)
 
 pub ticks-agree-spec : {M : Type 1} → statement M
 ticks-agree-spec =
@@ -54,8 +60,10 @@ ticks-agree-spec =
     Inv-loop
     μ-loop
     shared-slice-read-v
+    delay-table-requires
     new-requires
     loop-holds
+    slice-aggregate-line-agrees
     line-agrees-requires
     clocks-after-requires
     returns

@@ -14,14 +14,14 @@ use Rattle.definitions.specs.Job.{edgeLine, edgeRule}
 use Rattle.text.specs.Told.{told}
 use Rattle.mirguneth.specs.Memory.{edgeIn, Pairs}
 use Rattle.mirguneth.proofs.LineLaws.{lines-end, lines-bad, lines-no, lines-next}
-use Rattle.mirguneth.proofs.EdgeLaws.{edge-bad, edge-read, edges-more, pairs-more, latest}
+use Rattle.mirguneth.proofs.EdgeLaws.{edge-bad, edge-read, edges-more}
 use Rattle.mirguneth.proofs.edges.read_edges.Statement.{statement}
 use Rattle.mirguneth.proofs.edges.read_edges.Tie as tie
 use Rattle.mirguneth.proofs.edges.read_edges.Reads as reads
 use Rattle.mirguneth.proofs.edges.read_edges.Lts as lts
+use Rattle.mirguneth.proofs.edges.add_pair.Reads as add-pair-reads
 use Rattle.mirguneth.proofs.edges.cell_of.Reads as cell-of-reads
 use Rattle.mirguneth.proofs.edges.check_edge.Reads as check-edge-reads
-use Rattle.mirguneth.proofs.edges.pair_at.Reads as pair-at-reads
 use Rattle.mirguneth.proofs.reader.read_line.Reads as read-line-reads
 
 abbrev Inv-loop : tie.InvT-loop
@@ -111,11 +111,8 @@ returns-2 c =
     let e = edge-read (l .mem) ys (l .i) (omega arith) _ _ (sym (c .before .before .before .before .before .before .before .before .before .before .before .read-line .ensures) ∙ ap (told s (take 3 ys)) (c .before .before .before .before .before .before .before .next .given .1)) in
     lines-no _ _ (c .before .before .before .before .before .before .before .before .before .before .before .before .before .before .before .before .before .before .before .args .n) (l .i) _ _ (c .before .before .before .before .before .before .before .before .before .before .before .before .before .before .loop-test .taken) _ _ e _ (c .before .check-edge .ensures .0 _ (l .inv .2)) (c .if1 .taken) ∙ l .inv .3
 
-pair-at-requires : tie.Need-pair-at-requires Inv-loop μ-loop
-pair-at-requires c κs = let h = c .before .check-edge .ensures .1 (omega arith) in (omega (arith, h .0), omega (arith, h .1))
-
 cell-of-requires : tie.Need-cell-of-requires Inv-loop μ-loop
-cell-of-requires c κs = let h = c .before .before .check-edge .ensures .1 (omega arith) in (omega (arith, h .0), omega (arith, h .1), h .2)
+cell-of-requires c κs = let h = c .before .check-edge .ensures .1 (omega arith) in (omega (arith, h .0), omega (arith, h .1), h .2)
 
 mul-mem : tie.Need-mul-mem Inv-loop μ-loop
 mul-mem c = search needs
@@ -123,8 +120,8 @@ mul-mem c = search needs
 slice-write-mem : tie.Need-slice-write-mem Inv-loop μ-loop
 slice-write-mem c = search needs
 
-slice-write-pairs : tie.Need-slice-write-pairs Inv-loop μ-loop
-slice-write-pairs c = let h = c .before .before .before .check-edge .ensures .1 (omega arith) in omega (arith, h .0, h .1, c .before .pair-at .ensures, c .before .before .before .before .before .before .before .before .before .before .before .before .before .before .before .before .before .loop .inv .2 .size)
+add-pair-requires : tie.Need-add-pair-requires Inv-loop μ-loop
+add-pair-requires c κs = let h = c .before .before .before .check-edge .ensures .1 (omega arith) in (omega (arith, h .0), omega (arith, h .1), (_, c .before .before .before .before .before .before .before .before .before .before .before .before .before .before .before .before .before .loop .inv .2), h .3)
 
 add-i : tie.Need-add-i Inv-loop μ-loop
 add-i c = search needs
@@ -134,17 +131,17 @@ loop-less c = search needs
 
 loop-again : tie.Need-loop-again Inv-loop μ-loop
 loop-again c =
-    let s = c .before .before .before .before .before .before .before .before .before .before .before .before .before .before .before .before .before .before .before .before .before .args .s .now in let l = c .before .before .before .before .before .before .before .before .before .before .before .before .before .before .before .before .before .loop in
-    let ys = c .before .before .before .before .before .before .before .before .before .before .before .before .before .read-line .last .1 .1 .1 .1 .0 in
-    let h = c .before .before .before .check-edge .ensures .1 (omega arith) in
+    let s = c .before .before .before .before .before .before .before .before .before .before .before .before .before .before .before .before .before .before .before .before .before .before .before .before .args .s .now in let l = c .before .before .before .before .before .before .before .before .before .before .before .before .before .before .before .before .before .before .before .before .loop in
+    let ys = c .before .before .before .before .before .before .before .before .before .before .before .before .before .before .before .before .read-line .last .1 .1 .1 .1 .0 in
+    let h = c .before .before .before .before .before .before .check-edge .ensures .1 (omega arith) in
     let g : l .i ≤ length (l .mem) = omega arith in
-    let e = edge-read (l .mem) ys (l .i) g _ _ (sym (c .before .before .before .before .before .before .before .before .before .before .before .before .before .read-line .ensures) ∙ ap (told s (take 3 ys)) (c .before .before .before .before .before .before .before .before .before .next .given .1)) in
-    let m = same-len-mid (l .i) (length (l .mem) - l .i) (l .mem) ys (c .before .before .before .before .before .before .before .before .before .before .before .before .before .read-line .kept .1 .1 .1 .1 .0) in
-    let q = edges-more (l .mem) ys (l .i) g _ (c .cell-of .ensures) (omega (arith, m)) (omega (arith, h .0)) (omega (arith, h .1)) in (
+    let e = edge-read (l .mem) ys (l .i) g _ _ (sym (c .before .before .before .before .before .before .before .before .before .before .before .before .before .before .before .before .read-line .ensures) ∙ ap (told s (take 3 ys)) (c .before .before .before .before .before .before .before .before .before .before .before .before .next .given .1)) in
+    let m = same-len-mid (l .i) (length (l .mem) - l .i) (l .mem) ys (c .before .before .before .before .before .before .before .before .before .before .before .before .before .before .before .before .read-line .kept .1 .1 .1 .1 .0) in
+    let q = edges-more (l .mem) ys (l .i) g _ (c .before .before .before .before .cell-of .ensures) (omega (arith, m)) (omega (arith, h .0)) (omega (arith, h .1)) in (
       search needs,
       simp length-set (m ∙ l .inv .1),
-      rw (q, c .before .pair-at .ensures) (pairs-more _ _ (latest (l .mem) ys (l .i) g) (l .inv .2) (omega (arith, h .0)) (omega (arith, h .1))),
-      rw q (lines-next _ _ (c .before .before .before .before .before .before .before .before .before .before .before .before .before .before .before .before .before .before .before .before .before .args .n) (l .i) _ _ (c .before .before .before .before .before .before .before .before .before .before .before .before .before .before .before .before .loop-test .taken) _ _ e _ (c .before .before .before .check-edge .ensures .0 _ (l .inv .2)) (c .before .before .if1 .left) ∙ l .inv .3),
+      rw q (c .before .before .add-pair .ensures _ _ (l .inv .2)),
+      rw q (lines-next _ _ (c .before .before .before .before .before .before .before .before .before .before .before .before .before .before .before .before .before .before .before .before .before .before .before .before .args .n) (l .i) _ _ (c .before .before .before .before .before .before .before .before .before .before .before .before .before .before .before .before .before .before .before .loop-test .taken) _ _ e _ (c .before .before .before .before .before .before .check-edge .ensures .0 _ (l .inv .2)) (c .before .before .before .before .before .if1 .left) ∙ l .inv .3),
     )
 
 same-length-5 : tie.Need-same-length-5 Inv-loop μ-loop
@@ -189,11 +186,10 @@ read-edges-spec =
     same-length-3
     same-length-4
     returns-2
-    pair-at-requires
     cell-of-requires
     mul-mem
     slice-write-mem
-    slice-write-pairs
+    add-pair-requires
     add-i
     loop-less
     loop-again

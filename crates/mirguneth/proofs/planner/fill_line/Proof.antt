@@ -9,15 +9,15 @@ use Rattle.definitions.specs.Lists.{nth, keep, countFrom, below}
 use Rattle.mirguneth.specs.Planning.{Begun}
 use Rattle.mirguneth.proofs.Held.{Sizes, sizes}
 use Rattle.mirguneth.proofs.DrawLaws.{isChosen}
-use Rattle.mirguneth.proofs.Drawing.{begun-none, late-asks, pass-box, box-room, box-within, take-box, boxes-taken}
+use Rattle.mirguneth.proofs.Drawing.{begun-none, pass-box, box-room, box-within, take-box, boxes-taken}
 use Rattle.mirguneth.proofs.planner.fill_line.Statement.{statement}
 use Rattle.mirguneth.proofs.planner.fill_line.Tie as tie
 
 abbrev Inv-loop : tie.InvT-loop
-Inv-loop mem₀ k t at m w late a after₀ c₀ p₀ mem after c p = (p ≤ m) × (c ≡ length (keep (isChosen at m w) (below p))) × Begun k t (keep (isChosen at m w) (below p)) after mem₀ mem
+Inv-loop mem₀ k t early late m w a after₀ c₀ p₀ mem after c p = (p ≤ m) × (c ≡ length (keep (isChosen early m w) (below p))) × Begun k t (keep (isChosen early m w) (below p)) after mem₀ mem
 
 abbrev μ-loop : tie.MeasureT-loop
-μ-loop mem₀ k t at m w late a after₀ c₀ p₀ mem after c p = m - p
+μ-loop mem₀ k t early late m w a after₀ c₀ p₀ mem after c p = m - p
 
 held : (c : tie.Start Inv-loop μ-loop) → Sizes (c .args .mem .now)
 held c = sizes (c .pre .drawn .standing .job)
@@ -32,53 +32,62 @@ add-w : tie.Need-add-w Inv-loop μ-loop
 add-w c = omega (arith, held (c .before .before .before))
 
 mul-a : tie.Need-mul-a Inv-loop μ-loop
-mul-a c = omega (arith, held (c .before .before .before .before))
+mul-a c = omega (arith, held (c .before .before .before))
 
 add-a : tie.Need-add-a Inv-loop μ-loop
-add-a c = omega (arith, held (c .before .before .before .before))
+add-a c = omega (arith, held (c .before .before .before))
 
 loop-holds : tie.Need-loop-holds Inv-loop μ-loop
 unfolding keep countFrom
-loop-holds c = (search needs, refl, begun-none (c .before .before .before .before .pre .clocks-now))
+loop-holds c = (search needs, refl, begun-none (c .before .before .before .pre .clocks-now))
 
 slice-aggregate-is-chosen : tie.Need-slice-aggregate-is-chosen Inv-loop μ-loop
 slice-aggregate-is-chosen c = search needs
 
 is-chosen-requires : tie.Need-is-chosen-requires Inv-loop μ-loop
-is-chosen-requires c κs = (omega (arith, c .before .before .before .before .before .before .before .pre .size, held (c .before .before .before .before .before .before .before)), c .before .loop-test .taken)
-
-mul-finish-at : tie.Need-mul-finish-at Inv-loop μ-loop
-mul-finish-at c = omega (arith, held (c .before .before .before .before .before .before .before .before .before .before))
-
-array-read-finish-at : tie.Need-array-read-finish-at Inv-loop μ-loop
-array-read-finish-at c = omega (arith, held (c .before .before .before .before .before .before .before .before .before .before), c .before .before .before .before .before .before .before .before .before .before .pre .clocks-now .late-size)
-
-finish-at-requires : tie.Need-finish-at-requires Inv-loop μ-loop
-finish-at-requires c κs = let o = c .before .before .before .before .before .before .before .before .before .before .pre in late-asks (o .drawn) (c .before .before .before .before .before .loop .inv .2 .kept) (c .before .before .before .before .before .before .before .before .before .before .args .t) (c .before .before .before .before .before .loop .p) (c .before .before .before .before .before .before .before .before .before .before .args .clocks) (o .fed) (o .task-below) (c .before .before .before .before .loop-test .taken) (o .clocks-now)
+is-chosen-requires c κs = let w = held (c .before .before .before .before .before .before) in (omega (arith, c .before .before .before .before .before .before .pre .early-size), omega arith, c .before .loop-test .taken)
 
 mul-put-replica : tie.Need-mul-put-replica Inv-loop μ-loop
-mul-put-replica c = omega (arith, held (c .before .before .before .before .before .before .before .before .before .before .before .before))
+mul-put-replica c = omega (arith, held (c .before .before .before .before .before .before .before .before .before))
 
 array-read-put-replica : tie.Need-array-read-put-replica Inv-loop μ-loop
-array-read-put-replica c = omega (arith, held (c .before .before .before .before .before .before .before .before .before .before .before .before), c .before .before .before .before .before .before .before .before .before .before .before .before .pre .size)
+array-read-put-replica c = omega (arith, held (c .before .before .before .before .before .before .before .before .before), c .before .before .before .before .before .before .before .before .before .pre .early-size)
+
+cast-put-replica : tie.Need-cast-put-replica Inv-loop μ-loop
+cast-put-replica c = search needs
+
+mul-put-replica-2 : tie.Need-mul-put-replica-2 Inv-loop μ-loop
+mul-put-replica-2 c = omega (arith, held (c .before .before .before .before .before .before .before .before .before))
+
+array-read-put-replica-2 : tie.Need-array-read-put-replica-2 Inv-loop μ-loop
+array-read-put-replica-2 c = omega (arith, held (c .before .before .before .before .before .before .before .before .before), c .before .before .before .before .before .before .before .before .before .pre .late-size)
+
+cast-put-replica-2 : tie.Need-cast-put-replica-2 Inv-loop μ-loop
+cast-put-replica-2 c = search needs
 
 put-replica-requires : tie.Need-put-replica-requires Inv-loop μ-loop
-put-replica-requires c κs = let l = c .before .before .before .before .before .before .before .loop in box-within (c .before .before .before .before .before .before .before .before .before .before .before .before .pre) (c .before .before .before .before .before .before .loop-test .taken) (l .inv .1) (l .inv .2) (sym (c .before .before .before .before .is-chosen .ensures) ∙ c .before .before .before .if1 .taken)
+put-replica-requires c κs = let l = c .before .before .before .before .before .loop in box-within (c .before .before .before .before .before .before .before .before .before .pre) (c .before .before .before .before .loop-test .taken) (l .inv .1) (l .inv .2) (sym (c .before .before .is-chosen .ensures) ∙ c .before .if1 .taken)
 
 mul-advance : tie.Need-mul-advance Inv-loop μ-loop
-mul-advance c = omega (arith, held (c .before .before .before .before .before .before .before .before .before .before .before .before .before .before .before))
+mul-advance c = omega (arith, held (c .before .before .before .before .before .before .before .before .before .before .before .before))
 
 array-read-advance : tie.Need-array-read-advance Inv-loop μ-loop
-array-read-advance c = omega (arith, held (c .before .before .before .before .before .before .before .before .before .before .before .before .before .before .before), c .before .before .before .before .before .before .before .before .before .before .before .before .before .before .before .pre .size)
+array-read-advance c = omega (arith, held (c .before .before .before .before .before .before .before .before .before .before .before .before), c .before .before .before .before .before .before .before .before .before .before .before .before .pre .early-size)
+
+mul-advance-2 : tie.Need-mul-advance-2 Inv-loop μ-loop
+mul-advance-2 c = omega (arith, held (c .before .before .before .before .before .before .before .before .before .before .before .before))
+
+array-read-advance-2 : tie.Need-array-read-advance-2 Inv-loop μ-loop
+array-read-advance-2 c = omega (arith, held (c .before .before .before .before .before .before .before .before .before .before .before .before), c .before .before .before .before .before .before .before .before .before .before .before .before .pre .late-size)
 
 advance-requires : tie.Need-advance-requires Inv-loop μ-loop
-advance-requires c κs = let b = c .before .before .before .before .before .before .before .before .before .before .loop .inv .2 .clocks-after in (omega (arith, held (c .before .before .before .before .before .before .before .before .before .before .before .before .before .before .before)), b .early-size, b .late-size)
+advance-requires c κs = let b = c .before .before .before .before .before .before .before .before .loop .inv .2 .clocks-after in (omega (arith, held (c .before .before .before .before .before .before .before .before .before .before .before .before)), b .early-size, b .late-size)
 
 add-c : tie.Need-add-c Inv-loop μ-loop
-add-c c = let l = c .before .before .before .before .before .before .before .before .before .before .before .loop in omega (arith, box-room (c .before .before .before .before .before .before .before .before .before .before .before .before .before .before .before .before .pre) (c .before .before .before .before .before .before .before .before .before .before .loop-test .taken) (l .inv .1) (l .inv .2) (sym (c .before .before .before .before .before .before .before .before .is-chosen .ensures) ∙ c .before .before .before .before .before .before .before .if1 .taken))
+add-c c = let l = c .before .before .before .before .before .before .before .before .before .loop in omega (arith, box-room (c .before .before .before .before .before .before .before .before .before .before .before .before .before .pre) (c .before .before .before .before .before .before .before .before .loop-test .taken) (l .inv .1) (l .inv .2) (sym (c .before .before .before .before .before .before .is-chosen .ensures) ∙ c .before .before .before .before .before .if1 .taken))
 
 add-p : tie.Need-add-p Inv-loop μ-loop
-add-p c = omega (arith, held (c .before .before .before .before .before .before .before .before .before))
+add-p c = omega (arith, held (c .before .before .before .before .before .before .before .before))
 
 loop-less : tie.Need-loop-less Inv-loop μ-loop
 loop-less c = search needs
@@ -88,13 +97,13 @@ loop-again c =
     let l = c .before .before .before .before .loop in
     let h = c .before .before .before .loop-test .taken in
     let e = sym (c .before .is-chosen .ensures) in
-    let a = c .before .before .before .before .before .before .before .before .before .args in
+    let a = c .before .before .before .before .before .before .before .before .args in
     let d = a .mem .now in
     let ps = keep (isChosen (a .t4) (nth d 1) (nth d 3 + 1)) (below (l .p + 1)) in
     let b : (c .if1 .c ≡ length ps) × Begun (a .k) (a .t) ps (c .if1 .after) d (c .if1 .mem) =
     ⊎-elim
-    (λ w. rw (w .8, w .9, w .10) (take-box (c .before .before .before .before .before .before .before .before .before .pre) h (l .inv .1) (l .inv .2) (e ∙ w .0 .taken) (w .2 .result) (w .7 .result) (w .2 .ensures .0) (w .4 .ensures) (w .7 .ensures .0) (w .7 .ensures .1)))
-    (λ w. rw (w .1, w .2, w .3) (pass-box (c .before .before .before .before .before .before .before .before .before .pre) h (l .inv .1) (l .inv .2) (e ∙ w .0 .left)))
+    (λ w. rw (w .6, w .7, w .8) (take-box (c .before .before .before .before .before .before .before .before .pre) h (l .inv .1) (l .inv .2) (e ∙ w .0 .taken) (w .5 .result) (w .2 .ensures) (w .5 .ensures .0) (w .5 .ensures .1)))
+    (λ w. rw (w .1, w .2, w .3) (pass-box (c .before .before .before .before .before .before .before .before .pre) h (l .inv .1) (l .inv .2) (e ∙ w .0 .left)))
     (c .if1 .came) in
     (search needs, b .0, b .1)
 
@@ -102,7 +111,7 @@ same-length : tie.Need-same-length Inv-loop μ-loop
 same-length c = search needs
 
 returns : tie.Need-returns Inv-loop μ-loop
-returns c = let l = c .before .loop in boxes-taken (c .before .before .before .before .before .before .pre) (omega arith) (l .inv .2)
+returns c = let l = c .before .loop in boxes-taken (c .before .before .before .before .before .pre) (omega arith) (l .inv .2)
 
 pub fill-line-spec : {M : Type 1} → statement M
 fill-line-spec =
@@ -118,14 +127,17 @@ fill-line-spec =
     loop-holds
     slice-aggregate-is-chosen
     is-chosen-requires
-    mul-finish-at
-    array-read-finish-at
-    finish-at-requires
     mul-put-replica
     array-read-put-replica
+    cast-put-replica
+    mul-put-replica-2
+    array-read-put-replica-2
+    cast-put-replica-2
     put-replica-requires
     mul-advance
     array-read-advance
+    mul-advance-2
+    array-read-advance-2
     advance-requires
     add-c
     add-p

@@ -5,8 +5,8 @@ use native.Mathlib.Omega.{arith}
 use borrow.Author.Needs.{needs}
 use lib.ListN.{length, length-set}
 use Rattle.mirguneth.proofs.Held.{sizes}
-use Rattle.mirguneth.proofs.Drawing.{task-below}
-use Rattle.mirguneth.proofs.NextLine.{laid, laid-kept, try-asks, tried, drawn-next, ranked-next, clocks-next}
+use Rattle.mirguneth.proofs.Drawing.{clocks-short, fed-short, task-below, task-fed}
+use Rattle.mirguneth.proofs.NextLine.{laid, laid-kept, tried, taken, drawn-next, ranked-next, clocks-next}
 use Rattle.mirguneth.proofs.planner.place_task.Statement.{statement}
 use Rattle.mirguneth.proofs.planner.place_task.Tie as tie
 
@@ -14,57 +14,61 @@ use Rattle.mirguneth.proofs.planner.place_task.Tie as tie
 small : (c : tie.Start) → (c .args .k < 255) × (c .args .t < 255) × (length (c .args .mem .now) ≡ 15872)
 small c =
     let p = c .pre in
-    let w = sizes (p .0 .standing .job) in
-    (omega arith, omega (arith, task-below (p .0) (p .2) (p .1) (c .args .t) (p .3)), w .size)
+    let w = sizes (p .1 .standing .job) in
+    (omega arith, omega (arith, task-below (p .1) (p .3) (p .2) (c .args .t) (p .4)), w .size)
 
-trial-requires : tie.Need-trial-requires
-trial-requires c κs = let p = c .before .before .pre in try-asks (p .0) (p .2) (p .1) (c .before .before .args .t) (p .3) (c .before .before .args .clocks) (p .4)
+finishes-requires : tie.Need-finishes-requires
+finishes-requires c κs =
+    let s = c .before .before .before in
+    let p = s .pre in
+    let t = s .args .t in
+    ((s .args .k, p .1 .standing), p .0, task-below (p .1) (p .3) (p .2) t (p .4), fed-short (p .1) t (task-fed (p .1) (p .3) (p .2) t (p .4)), clocks-short (p .1) (p .5))
 
 fill-line-requires : tie.Need-fill-line-requires
-fill-line-requires c κs = let p = c .before .before .before .before .before .pre in tried (p .0) (p .2) (p .1) (c .before .before .before .before .before .args .t) (p .3) (c .before .before .before .before .before .args .clocks) (p .4) (c .before .before .trial .result .at) (c .before .before .trial .ensures .0) (c .before .before .trial .ensures .1)
+fill-line-requires c κs = let s = c .before .before .before .before .before .before .before in let p = s .pre in tried (p .1) (p .3) (p .2) (s .args .t) (p .4) (p .5) (c .before .before .before .finishes .ensures)
 
 mul-mem : tie.Need-mul-mem
-mul-mem c = omega (arith, small (c .before .before .before .before .before .before .before .before))
+mul-mem c = omega (arith, small (c .before .before .before .before .before .before .before .before .before .before))
 
 add-mem : tie.Need-add-mem
-add-mem c = omega (arith, small (c .before .before .before .before .before .before .before .before))
+add-mem c = omega (arith, small (c .before .before .before .before .before .before .before .before .before .before))
 
 mul-mem-2 : tie.Need-mul-mem-2
-mul-mem-2 c = omega (arith, small (c .before .before .before .before .before .before .before .before))
+mul-mem-2 c = omega (arith, small (c .before .before .before .before .before .before .before .before .before .before))
 
 slice-write-mem : tie.Need-slice-write-mem
-slice-write-mem c = omega (arith, small (c .before .before .before .before .before .before .before .before), c .before .before .fill-line .ensures .kept .size)
+slice-write-mem c = omega (arith, small (c .before .before .before .before .before .before .before .before .before .before), c .before .before .fill-line .ensures .kept .size)
 
 add-mem-2 : tie.Need-add-mem-2
-add-mem-2 c = omega (arith, small (c .before .before .before .before .before .before .before .before))
+add-mem-2 c = omega (arith, small (c .before .before .before .before .before .before .before .before .before .before))
 
 add-mem-3 : tie.Need-add-mem-3
-add-mem-3 c = omega (arith, small (c .before .before .before .before .before .before .before .before))
+add-mem-3 c = omega (arith, small (c .before .before .before .before .before .before .before .before .before .before))
 
 mul-mem-3 : tie.Need-mul-mem-3
-mul-mem-3 c = omega (arith, small (c .before .before .before .before .before .before .before .before))
+mul-mem-3 c = omega (arith, small (c .before .before .before .before .before .before .before .before .before .before))
 
 slice-write-mem-2 : tie.Need-slice-write-mem-2
-slice-write-mem-2 c = simp length-set (omega (arith, small (c .before .before .before .before .before .before .before .before), c .before .before .fill-line .ensures .kept .size))
+slice-write-mem-2 c = simp length-set (omega (arith, small (c .before .before .before .before .before .before .before .before .before .before), c .before .before .fill-line .ensures .kept .size))
 
 same-length : tie.Need-same-length
 same-length c = search needs
 
 returns : tie.Need-returns
 returns c =
-    let p = c .before .before .before .before .before .before .before .before .pre in
-    let t = c .before .before .before .before .before .before .before .before .args .t in
+    let p = c .before .before .before .before .before .before .before .before .before .before .pre in
+    let t = c .before .before .before .before .before .before .before .before .before .before .args .t in
     let r = c .before .before .fill-line .result in
     let e = c .before .before .fill-line .last .0 in
     let b = c .before .before .fill-line .ensures in
-    let x = laid (p .0) (p .2) (p .1) t (p .3) r e b in
-    (laid-kept (p .0) (p .2) (p .1) t (p .3) r e b, drawn-next (p .0) (p .2) (p .1) t (p .3) x, ranked-next (p .0) (p .2) (p .1) t (p .3) x, clocks-next (p .0) (p .2) (p .1) t (p .3) x r e b)
+    let x = laid (p .1) (p .3) (p .2) t (p .4) r e b in
+    (laid-kept (p .1) (p .3) (p .2) t (p .4) r e b, drawn-next (p .1) (p .3) (p .2) t (p .4) x, ranked-next (p .1) (p .3) (p .2) t (p .4) x, clocks-next (p .1) (p .3) (p .2) t (p .4) x r e b, taken (p .1) (p .3) (p .2) t (p .4) x)
 
 pub place-task-spec : {M : Type 1} → statement M
 place-task-spec =
     tie.close
     (tie.spec
-    trial-requires
+    finishes-requires
     fill-line-requires
     mul-mem
     add-mem

@@ -1,23 +1,23 @@
--- The edges from link k on are still counted.
-use mathlib.Core.Path.{_≡_}
-use Prim.Native.Nat.{ℕ, _-_, _+_}
+-- The edges from link k on are still counted, and the free tasks are listed.
 use native.Mathlib.Omega.{arith}
 use borrow.Author.Needs.{needs}
-use lib.ListN.{length-set}
+use mathlib.Core.Path.{_≡_, sym, _∙_}
 use mathlib.Core.Logic.{⊎-elim}
+use Prim.Native.Nat.{ℕ, _-_, _+_}
+use lib.ListN.{length-set}
 use Rattle.definitions.specs.Lists.{nth}
 use Rattle.mirguneth.specs.Layout.{outNextAt}
-use Rattle.mirguneth.specs.Planning.{Drawn}
+use Rattle.mirguneth.specs.Planning.{FreeList, Drawn}
 use Rattle.mirguneth.proofs.Held.{Sizes, sizes}
-use Rattle.mirguneth.proofs.ReleaseLaws.{Releasing, release-first, release-done, release-falls, release-some, release-held, release-asks, release-level, release-free}
+use Rattle.mirguneth.proofs.ReleaseLaws.{Releasing, release-first, release-done, release-falls, release-some, release-held, release-asks, release-level, release-free, list-held, list-free}
 use Rattle.mirguneth.proofs.planner.release.Statement.{statement}
 use Rattle.mirguneth.proofs.planner.release.Tie as tie
 
 abbrev Inv-loop : tie.InvT-loop
-Inv-loop mem₀ t v m g k₀ mem k = Sizes mem₀ × ((n : ℕ) × Drawn n mem₀ × Releasing n k mem₀ mem)
+Inv-loop mem₀ t free₀ count v m g n₀ k₀ mem free n k = Sizes mem₀ × ((i : ℕ) × Drawn i mem₀ × Releasing i k mem₀ mem) × FreeList free n mem
 
 abbrev μ-loop : tie.MeasureT-loop
-μ-loop mem₀ t v m g k₀ mem k = k
+μ-loop mem₀ t free₀ count v m g n₀ k₀ mem free n k = k
 
 held : (c : tie.Start Inv-loop μ-loop) → Sizes (c .args .mem .now)
 held c = sizes (c .pre .0 .1 .standing .job)
@@ -25,21 +25,32 @@ held c = sizes (c .pre .0 .1 .standing .job)
 -- After a turn the edges from the next link on are still counted.
 turned : (c : tie.Joined1 Inv-loop μ-loop)
     → let l = c .before .before .before .before .loop in
-    let d = c .before .before .before .before .before .before .before .before .before .args .mem .now in
+    let d = c .before .before .before .before .before .before .before .before .before .before .args .mem .now in
     Releasing (l .inv .1 .0) (nth d (outNextAt + (l .k - 1))) d (c .if1 .mem)
 turned c =
     let l = c .before .before .before .before .loop in
-    let (n, s, r) = l .inv .1 in
+    let (i, s, r) = l .inv .1 in
     let h = c .before .before .before .loop-test .taken in
     ⊎-elim
-    (λ w. rw (w .4) (release-free s r h (w .0 .taken) (w .2 .result) (w .2 .ensures .0)))
+    (λ w. rw (w .8) (release-free s r h (w .0 .taken) (w .2 .result) (w .2 .ensures .0)))
     (λ w. rw (w .1) (release-held s r h (w .0 .left)))
+    (c .if1 .came)
+
+-- The free tasks are listed again.
+listed : (c : tie.Joined1 Inv-loop μ-loop) → FreeList (c .if1 .free) (c .if1 .n) (c .if1 .mem)
+listed c =
+    let l = c .before .before .before .before .loop in
+    let (i, s, r) = l .inv .1 in
+    let h = c .before .before .before .loop-test .taken in
+    ⊎-elim
+    (λ w. rw (w .8, w .9, w .10) (list-free s r h (l .inv .2) (w .0 .taken) _ (w .5 .ensures .0) (w .5 .ensures .1)))
+    (λ w. rw (w .1, w .2, w .3) (list-held s r h (l .inv .2) (w .0 .left)))
     (c .if1 .came)
 
 -- The next link is as it was.
 linked : (c : tie.Joined1 Inv-loop μ-loop)
     → let l = c .before .before .before .before .loop in
-    let d = c .before .before .before .before .before .before .before .before .before .args .mem .now in
+    let d = c .before .before .before .before .before .before .before .before .before .before .args .mem .now in
     nth (c .if1 .mem) (outNextAt + (l .k - 1)) ≡ nth d (outNextAt + (l .k - 1))
 linked c =
     let l = c .before .before .before .before .loop in
@@ -52,28 +63,28 @@ slice-read-m : tie.Need-slice-read-m Inv-loop μ-loop
 slice-read-m c = search needs
 
 add-g : tie.Need-add-g Inv-loop μ-loop
-add-g c = omega (arith, held (c .before .before .before))
+add-g c = omega (arith, held (c .before .before .before .before))
 
 add-g-2 : tie.Need-add-g-2 Inv-loop μ-loop
-add-g-2 c = omega (arith, held (c .before .before .before))
+add-g-2 c = omega (arith, held (c .before .before .before .before))
 
 mul-g : tie.Need-mul-g Inv-loop μ-loop
-mul-g c = omega (arith, held (c .before .before .before))
+mul-g c = omega (arith, held (c .before .before .before .before))
 
 add-g-3 : tie.Need-add-g-3 Inv-loop μ-loop
-add-g-3 c = omega (arith, held (c .before .before .before))
+add-g-3 c = omega (arith, held (c .before .before .before .before))
 
 add-k : tie.Need-add-k Inv-loop μ-loop
-add-k c = omega (arith, held (c .before .before .before))
+add-k c = omega (arith, held (c .before .before .before .before))
 
 mul-k : tie.Need-mul-k Inv-loop μ-loop
-mul-k c = omega (arith, held (c .before .before .before))
+mul-k c = omega (arith, held (c .before .before .before .before))
 
 slice-read-k : tie.Need-slice-read-k Inv-loop μ-loop
-slice-read-k c = omega (arith, held (c .before .before .before .before))
+slice-read-k c = omega (arith, held (c .before .before .before .before .before))
 
 loop-holds : tie.Need-loop-holds Inv-loop μ-loop
-loop-holds c = (held (c .before .before .before .before), (c .before .before .before .before .pre .0 .0, c .before .before .before .before .pre .0 .1, release-first (c .before .before .before .before .pre .0 .1) (c .before .before .before .before .args .t) (c .before .before .before .before .pre .2) (c .before .before .before .before .pre .1)))
+loop-holds c = let p = c .before .before .before .before .before .pre in (held (c .before .before .before .before .before), (p .0 .0, p .0 .1, release-first (p .0 .1) (c .before .before .before .before .before .args .t) (p .3) (p .1)), p .2)
 
 sub-u : tie.Need-sub-u Inv-loop μ-loop
 sub-u c = search needs
@@ -97,7 +108,7 @@ slice-read-b : tie.Need-slice-read-b Inv-loop μ-loop
 slice-read-b c = search needs
 
 sub-b : tie.Need-sub-b Inv-loop μ-loop
-sub-b c = let (n, s, r) = c .before .before .before .loop .inv .1 in omega (arith, release-some s r (c .before .before .loop-test .taken))
+sub-b c = let (i, s, r) = c .before .before .before .loop .inv .1 in omega (arith, release-some s r (c .before .before .loop-test .taken))
 
 add-mem : tie.Need-add-mem Inv-loop μ-loop
 add-mem c = search needs
@@ -109,7 +120,7 @@ slice-write-mem : tie.Need-slice-write-mem Inv-loop μ-loop
 slice-write-mem c = search needs
 
 top-level-requires : tie.Need-top-level-requires Inv-loop μ-loop
-top-level-requires c κs = let (n, s, r) = c .before .before .before .before .before .loop .inv .1 in release-asks s r (c .before .before .before .before .loop-test .taken) (c .before .if1 .taken)
+top-level-requires c κs = let (i, s, r) = c .before .before .before .before .before .loop .inv .1 in release-asks s r (c .before .before .before .before .loop-test .taken) (c .before .if1 .taken)
 
 add-mem-2 : tie.Need-add-mem-2 Inv-loop μ-loop
 add-mem-2 c = search needs
@@ -121,7 +132,7 @@ slice-read-mem : tie.Need-slice-read-mem Inv-loop μ-loop
 slice-read-mem c = simp length-set (omega arith)
 
 add-mem-3 : tie.Need-add-mem-3 Inv-loop μ-loop
-add-mem-3 c = let (n, s, r) = c .before .before .before .before .before .before .before .loop .inv .1 in omega (arith, release-level s r (c .before .before .before .before .before .before .loop-test .taken) (c .before .before .before .if1 .taken), c .before .top-level .ensures .1)
+add-mem-3 c = let (i, s, r) = c .before .before .before .before .before .before .before .loop .inv .1 in omega (arith, release-level s r (c .before .before .before .before .before .before .loop-test .taken) (c .before .before .before .if1 .taken), c .before .top-level .ensures .1)
 
 add-mem-4 : tie.Need-add-mem-4 Inv-loop μ-loop
 add-mem-4 c = search needs
@@ -131,6 +142,15 @@ mul-mem-3 c = search needs
 
 slice-write-mem-2 : tie.Need-slice-write-mem-2 Inv-loop μ-loop
 slice-write-mem-2 c = simp length-set (omega arith)
+
+cast-put-in : tie.Need-cast-put-in Inv-loop μ-loop
+cast-put-in c = search needs
+
+put-in-requires : tie.Need-put-in-requires Inv-loop μ-loop
+put-in-requires c κs = let l = c .before .before .before .before .before .before .before .before .loop .inv .2 in (l .size, l .few)
+
+add-n : tie.Need-add-n Inv-loop μ-loop
+add-n c = let l = c .before .before .before .before .before .before .before .before .before .before .before .loop .inv .2 in omega (arith, l .few)
 
 sub-k : tie.Need-sub-k Inv-loop μ-loop
 sub-k c = search needs
@@ -145,16 +165,19 @@ slice-read-k-2 : tie.Need-slice-read-k-2 Inv-loop μ-loop
 slice-read-k-2 c = let l = c .before .before .before .before .before .loop in omega (arith, turned (c .before) .kept .size, l .inv .0 .edges-most, l .inv .0 .size, l .inv .1 .2 .most)
 
 loop-less : tie.Need-loop-less Inv-loop μ-loop
-loop-less c = let (n, s, r) = c .before .before .before .before .before .loop .inv .1 in omega (arith, linked (c .before), release-falls s r (c .before .before .before .before .loop-test .taken))
+loop-less c = let (i, s, r) = c .before .before .before .before .before .loop .inv .1 in omega (arith, linked (c .before), release-falls s r (c .before .before .before .before .loop-test .taken))
 
 loop-again : tie.Need-loop-again Inv-loop μ-loop
-loop-again c = let (n, s, r) = c .before .before .before .before .before .loop .inv .1 in (c .before .before .before .before .before .loop .inv .0, (n, s, rw (linked (c .before)) (turned (c .before))))
+loop-again c = let (i, s, r) = c .before .before .before .before .before .loop .inv .1 in (c .before .before .before .before .before .loop .inv .0, (i, s, rw (linked (c .before)) (turned (c .before))), listed (c .before))
 
 same-length : tie.Need-same-length Inv-loop μ-loop
 same-length c = c .before .loop .inv .1 .2 .kept .size
 
+same-length-2 : tie.Need-same-length-2 Inv-loop μ-loop
+same-length-2 c = c .before .loop .inv .2 .size ∙ sym (c .before .before .before .before .before .before .before .pre .2 .size)
+
 returns : tie.Need-returns Inv-loop μ-loop
-returns c = let (n, s, r) = c .before .loop .inv .1 in (r .kept, release-done s r (omega arith))
+returns c = let (i, s, r) = c .before .loop .inv .1 in (r .kept, release-done s r (omega arith), c .before .loop .inv .2)
 
 pub release-spec : {M : Type 1} → statement M
 release-spec =
@@ -191,6 +214,9 @@ release-spec =
     add-mem-4
     mul-mem-3
     slice-write-mem-2
+    cast-put-in
+    put-in-requires
+    add-n
     sub-k
     add-k-2
     mul-k-2
@@ -198,4 +224,5 @@ release-spec =
     loop-less
     loop-again
     same-length
+    same-length-2
     returns)

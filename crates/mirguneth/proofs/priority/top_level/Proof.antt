@@ -1,12 +1,12 @@
 -- x is the largest over the edges passed; the links lead through the others.
-use mathlib.Core.Path.{_≡_, sym, _∙_}
+use mathlib.Core.Path.{_≡_, sym, ap, _∙_}
 use Prim.Native.Nat.{_≤_, _-_}
 use native.Mathlib.Omega.{arith}
 use borrow.Author.Needs.{needs}
-use mathlib.Core.Logic.{⊎-elim, inr}
+use mathlib.Core.Logic.{⊎-elim}
 use Rattle.definitions.specs.Lists.{nth}
 use Rattle.mirguneth.specs.Memory.{edgeIn}
-use Rattle.definitions.specs.Times.{later}
+use Rattle.definitions.specs.Times.{Time, later}
 use Rattle.mirguneth.specs.Schedule.{edgeAt, timeIn}
 use Rattle.mirguneth.proofs.Held.{Sizes, sizes}
 use Rattle.mirguneth.proofs.TimeLaws.{Feeds, Gathering, gather-first, gather-edge, gather-falls, gather-next}
@@ -15,7 +15,7 @@ use Rattle.mirguneth.proofs.priority.top_level.Statement.{statement}
 use Rattle.mirguneth.proofs.priority.top_level.Tie as tie
 
 abbrev Inv-loop : tie.InvT-loop
-Inv-loop mem t v m g x₀ k₀ x k = Sizes mem × (x ≤ 4296011520) × Gathering (spreads mem) 5000000000 t mem x k
+Inv-loop mem t v m g x₀ k₀ x k = Sizes mem × (x ≤ 4296011520) × Gathering (spreads mem) t mem (timeIn x) k
 
 abbrev μ-loop : tie.MeasureT-loop
 μ-loop mem t v m g x₀ k₀ x k = k
@@ -30,7 +30,7 @@ start c = c .before .before .before .before .before .before
 feeds : (c : tie.In-loop Inv-loop μ-loop) → Feeds (edgeIn (nth (start c .args .mem .now) (edgeAt (start c .args .mem .now) (c .before .loop .k - 1)))) (start c .args .mem .now)
 feeds c =
     let s = start c in
-    gather-edge (spreads (s .args .mem .now)) 5000000000 (s .pre .0 .0) (s .args .t) (s .args .mem .now) (s .pre .0 .1) (c .before .loop .inv .2) (c .loop-test .taken) (s .pre .2)
+    gather-edge (spreads (s .args .mem .now)) (s .pre .0 .0) (s .args .t) (s .args .mem .now) (s .pre .0 .1) (c .before .loop .inv .2) (c .loop-test .taken) (s .pre .2)
 
 shared-slice-read-v : tie.Need-shared-slice-read-v Inv-loop μ-loop
 shared-slice-read-v c = search needs
@@ -60,7 +60,7 @@ shared-slice-read-k : tie.Need-shared-slice-read-k Inv-loop μ-loop
 shared-slice-read-k c = omega (arith, held (c .before .before .before .before))
 
 loop-holds : tie.Need-loop-holds Inv-loop μ-loop
-loop-holds c = let a = c .before .before .before .before .args in (held (c .before .before .before .before), omega arith, gather-first (spreads (a .mem .now)) 5000000000 (c .before .before .before .before .pre .0 .0) (a .t) (a .mem .now) (c .before .before .before .before .pre .0 .1) (c .before .before .before .before .pre .1))
+loop-holds c = let a = c .before .before .before .before .args in (held (c .before .before .before .before), omega arith, gather-first (spreads (a .mem .now)) (c .before .before .before .before .pre .0 .0) (a .t) (a .mem .now) (c .before .before .before .before .pre .0 .1) (c .before .before .before .before .pre .1))
 
 sub-c : tie.Need-sub-c Inv-loop μ-loop
 sub-c c = search needs
@@ -110,7 +110,7 @@ shared-slice-read-k-2 c = search needs
 loop-less : tie.Need-loop-less Inv-loop μ-loop
 loop-less c =
     let a = c .before .before .before .before .before .before .before .before .before .before .before .args in
-    gather-falls (spreads (a .mem .now)) 5000000000 (c .before .before .before .before .before .before .before .before .before .before .before .pre .0 .0) (a .t) (a .mem .now) (c .before .before .before .before .before .before .before .before .before .before .before .pre .0 .1) (c .before .before .before .before .before .before .loop .inv .2) (c .before .before .before .before .before .loop-test .taken)
+    gather-falls (spreads (a .mem .now)) (c .before .before .before .before .before .before .before .before .before .before .before .pre .0 .0) (a .t) (a .mem .now) (c .before .before .before .before .before .before .before .before .before .before .before .pre .0 .1) (c .before .before .before .before .before .before .loop .inv .2) (c .before .before .before .before .before .loop-test .taken)
 
 loop-again : tie.Need-loop-again Inv-loop μ-loop
 loop-again c =
@@ -121,7 +121,7 @@ loop-again c =
     let (f, g, h) = top-later (l .x) y (l .inv .1) (c .before .before .spread .ensures .1) in
     let s : x ≤ 4296011520 = ⊎-elim (λ w. omega (arith, w .1, c .before .before .spread .ensures .1)) (λ w. omega (arith, w .1)) (c .before .if1 .came) in
     let e : timeIn x ≡ later (timeIn y) (timeIn (l .x)) = ⊎-elim (λ w. rw (w .1) (h (omega (arith, w .0 .taken)))) (λ w. rw (w .1) (g (omega (arith, w .0 .left)))) (c .before .if1 .came) in
-    (l .inv .0, s, gather-next (spreads (a .mem .now)) 5000000000 (c .before .before .before .before .before .before .before .before .before .before .before .pre .0 .0) (a .t) (a .mem .now) (c .before .before .before .before .before .before .before .before .before .before .before .pre .0 .1) (l .inv .2) (c .before .before .before .before .before .loop-test .taken) y x (sym f ∙ c .before .before .spread .ensures .0) e (inr (omega arith)))
+    (l .inv .0, s, gather-next (spreads (a .mem .now)) (c .before .before .before .before .before .before .before .before .before .before .before .pre .0 .0) (a .t) (a .mem .now) (c .before .before .before .before .before .before .before .before .before .before .before .pre .0 .1) (l .inv .2) (c .before .before .before .before .before .loop-test .taken) (timeIn x) (e ∙ ap (λ (z : Time). later z (timeIn (l .x))) (sym f ∙ c .before .before .spread .ensures .0)))
 
 returns : tie.Need-returns Inv-loop μ-loop
 returns c = let l = c .before .before .loop in (top-one (c .before .before .before .before .before .before .before .pre .0 .0) (c .before .before .before .before .before .before .before .pre .0 .1) (l .inv .2) (omega arith) (l .inv .1) (c .if2 .taken), omega arith)

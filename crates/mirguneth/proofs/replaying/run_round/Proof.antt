@@ -8,39 +8,46 @@ use Rattle.mirguneth.proofs.replaying.run_round.Statement.{statement}
 use Rattle.mirguneth.proofs.replaying.run_round.Tie as tie
 
 abbrev Inv-loop : tie.InvT-loop
-Inv-loop mem₀ stops v ready₀ k₀ mem ready k = (k ≤ v) × RoundRuns k stops (ready .at) mem₀ mem
+Inv-loop mem₀ stops v delays ready₀ k₀ mem ready k = (k ≤ v) × RoundRuns k stops (ready .at) mem₀ mem
 
 abbrev μ-loop : tie.MeasureT-loop
-μ-loop mem₀ stops v ready₀ k₀ mem ready k = v - k
+μ-loop mem₀ stops v delays ready₀ k₀ mem ready k = v - k
 
 slice-read-v : tie.Need-slice-read-v Inv-loop μ-loop
 slice-read-v c = let z = sizes (c .before .before .before .pre .0 .job) in omega arith
 
+delay-table-requires : tie.Need-delay-table-requires Inv-loop μ-loop
+delay-table-requires c κs = c .before .before .before .before .pre .0 .job
+
 loop-holds : tie.Need-loop-holds Inv-loop μ-loop
-loop-holds c = (search needs, round-first (c .before .before .before .args .stops .now) (c .before .before .before .pre .0))
+loop-holds c = (search needs, round-first (c .before .before .before .before .before .args .stops .now) (c .before .before .before .before .before .pre .0))
+
+slice-aggregate-run-line : tie.Need-slice-aggregate-run-line Inv-loop μ-loop
+slice-aggregate-run-line c = search needs
 
 run-line-requires : tie.Need-run-line-requires Inv-loop μ-loop
 run-line-requires c κs =
-    let l = c .before .before .loop in
-    let (a, f) = round-asks (l .k) (l .inv .1) (c .before .before .before .before .before .before .pre .0) (c .before .before .before .before .before .before .pre .1) (c .before .loop-test .taken) in
-    (l .inv .1 .running, a, f, c .before .before .before .before .before .before .pre .2)
+    let l = c .before .before .before .loop in
+    let p = c .before .before .before .before .before .before .before .before .before .pre in
+    let (t, a, f) = round-asks (l .k) (l .inv .1) (p .0) (p .1) (c .before .before .before .before .delay-table .ensures) (c .before .before .loop-test .taken) in
+    (t, l .inv .1 .running, a, f, p .2)
 
 add-k : tie.Need-add-k Inv-loop μ-loop
-add-k c = let z = sizes (c .before .before .before .before .before .before .before .before .before .pre .0 .job) in omega arith
+add-k c = let z = sizes (c .before .before .before .before .before .before .before .before .before .before .before .before .pre .0 .job) in omega arith
 
 loop-less : tie.Need-loop-less Inv-loop μ-loop
 loop-less c = search needs
 
 loop-again : tie.Need-loop-again Inv-loop μ-loop
 loop-again c =
-    let l = c .before .before .before .before .before .loop in
-    (search needs, round-next (l .k) (l .inv .1) (c .before .before .before .before .before .before .before .before .before .pre .0) (c .before .before .before .before .before .before .before .before .before .pre .1) (c .before .before .before .before .loop-test .taken) (c .before .before .run-line .ensures .0) (c .before .before .run-line .ensures .1))
+    let l = c .before .before .before .before .before .before .loop in
+    (search needs, round-next (l .k) (l .inv .1) (c .before .before .before .before .before .before .before .before .before .before .before .before .pre .0) (c .before .before .before .before .before .before .before .before .before .before .before .before .pre .1) (c .before .before .before .before .before .loop-test .taken) (c .before .before .run-line .ensures .0) (c .before .before .run-line .ensures .1))
 
 same-length : tie.Need-same-length Inv-loop μ-loop
 same-length c = c .before .loop .inv .1 .retimed .outside .size
 
 returns : tie.Need-returns Inv-loop μ-loop
-returns c = let l = c .before .loop in round-done (l .k) (l .inv .1) (c .before .before .before .before .before .pre .0) (c .before .before .before .before .before .pre .1) (omega arith)
+returns c = let l = c .before .loop in round-done (l .k) (l .inv .1) (c .before .before .before .before .before .before .before .pre .0) (c .before .before .before .before .before .before .before .pre .1) (omega arith)
 
 pub run-round-spec : {M : Type 1} → statement M
 run-round-spec =
@@ -49,7 +56,9 @@ run-round-spec =
     Inv-loop
     μ-loop
     slice-read-v
+    delay-table-requires
     loop-holds
+    slice-aggregate-run-line
     run-line-requires
     add-k
     loop-less

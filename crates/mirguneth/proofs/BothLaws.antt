@@ -1,0 +1,175 @@
+-- Data on all processors at once, by the first replicas and by the last.
+use mathlib.Core.Path.{_≡_, refl, ap, _∙_, sym}
+use mathlib.Core.List.{List}
+use mathlib.Core.Bool.{Bool, true, false}
+use Prim.Native.Nat.{ℕ, _+_, _*_, _-_, _<_, _≤_, max, min}
+use native.Mathlib.Omega.{arith}
+use lib.ListN.{length, replicate, length-replicate, getD-replicate}
+use Rattle.definitions.specs.Lists.{nth}
+use Rattle.definitions.specs.Job.{Edge, runTime, delay}
+use Rattle.definitions.specs.Times.{Time, tick, later, after, least, largest}
+use Rattle.mirguneth.specs.Memory.{edgeIn}
+use Rattle.mirguneth.specs.Layout.{inHeadAt, inNextAt}
+use Rattle.mirguneth.specs.Schedule.{edgeAt, jobIn, timeIn, rowOutcomes, rowOf, dataIn, RowHeld, Standing}
+use Rattle.mirguneth.specs.Arrivals.{shortNever, shortIn, lastArrival, DelayTable, BothShort, BothFed, BothRaised, BothReady}
+use Rattle.mirguneth.proofs.Held.{Sizes, sizes, run-in}
+use Rattle.mirguneth.proofs.TimeLaws.{message-most, time-tick, chosenBy, arrival-chosen, later-comm, later-assoc, later-zero, Feeds, arrives, Gathering, gather-first, gather-enters, gather-edge, gather-falls, gather-next, gather-done}
+use Rattle.mirguneth.proofs.ShortLaws.{short-tick, short-sooner, chosen-more}
+
+-- The data of one predecessor -------------------------------------------------------------------------------------
+
+-- The first c replicas of the line at a were offered to each processor: low is the first of their data, and g the later of l
+-- and of the last.
+pub record Offered (volume a : ℕ) (mem l : List ℕ) (c : ℕ) (low g : List ℕ) : Type 0 where
+  pub low-size : length low ≡ 16
+  pub high-size : length g ≡ 16
+  pub first : (p : ℕ) → p < nth mem 1 → shortIn (nth low p) ≡ chosenBy false (λ q. volume * delay (jobIn mem) q p) a c mem
+  pub last : (p : ℕ) → p < nth mem 1 → tick (nth g p) ≡ later (tick (nth l p)) (chosenBy true (λ q. volume * delay (jobIn mem) q p) a c mem)
+  pub first-most : (p : ℕ) → p < nth mem 1 → 0 < c → nth low p ≤ lastArrival
+  pub last-most : (p : ℕ) → p < nth mem 1 → nth l p ≤ lastArrival → nth g p ≤ lastArrival
+
+module _ (volume a : ℕ) (mem l : List ℕ) (s : Sizes mem) where
+  pub offer-none : length l ≡ 16 → Offered volume a mem l 0 (replicate 16 shortNever) l
+  unfolding chosenBy rowOutcomes least largest
+  offer-none h =
+      record {
+        low-size = length-replicate {A = ℕ} 16 shortNever;
+        high-size = h;
+        first = λ p g. rw (getD-replicate {A = ℕ} 16 p shortNever 0 (omega (arith, s .processors-most)));
+        last = λ p g. sym (later-comm (tick (nth l p)) (tick 0) ∙ later-zero (tick (nth l p)));
+        first-most = λ p g z. absurd (omega arith);
+        last-most = λ p g z. z;
+      }
+
+  -- One replica more.
+  module _ {c : ℕ} {low g : List ℕ} (o : Offered volume a mem l c low g) where
+    pub offer-next : (delays u h : List ℕ) → DelayTable delays mem → RowHeld a mem → BothShort a mem → volume ≤ 4095 → c < nth mem 3 + 1
+        → length u ≡ 16 → length h ≡ 16
+        → ((p : ℕ) → p < 16
+        → (nth u p ≡ min (nth low p) (nth mem (a + (2 + 3 * c)) + volume * nth delays (nth mem (a + (1 + 3 * c)) * 16 + p)))
+        × (nth h p ≡ max (nth g p) (nth mem (a + (3 + 3 * c)) + volume * nth delays (nth mem (a + (1 + 3 * c)) * 16 + p))))
+        → Offered volume a mem l (c + 1) u h
+    offer-next delays u h d r b v i m n e =
+        let q = nth mem (a + (1 + 3 * c)) in
+        let x = nth mem (a + (2 + 3 * c)) in
+        let y = nth mem (a + (3 + 3 * c)) in
+        let ticks : ℕ → ℕ → ℕ = λ p q. volume * delay (jobIn mem) q p in
+        let k : ℕ → ℕ = λ p. volume * nth delays (q * 16 + p) in
+        let same : (p : ℕ) → p < nth mem 1 → k p ≡ ticks p q = λ p j. ap (volume *_) (d .cell q p (r .processor-of c i) j) in
+        let most : (p : ℕ) → k p ≤ 1044225 = λ p. message-most volume (nth delays (q * 16 + p)) v (d .most (q * 16 + p)) in
+        let xs : x ≤ 4200000000 = b c i .0 in
+        let ys : y ≤ 4200000000 = b c i .1 in
+        let xt : timeIn x ≡ tick x = time-tick x (λ z. omega arith) in
+        let yt : timeIn y ≡ tick y = time-tick y (λ z. omega arith) in
+        let new : (p : ℕ) → p < nth mem 1 → (nth u p ≡ min (nth low p) (x + k p)) × (nth h p ≡ max (nth g p) (y + k p)) = λ p j. e p (omega (arith, s .processors-most)) in
+        let turn : (p : ℕ) → p < nth mem 1 → later (chosenBy true (ticks p) a c mem) (tick (y + k p)) ≡ chosenBy true (ticks p) a (c + 1) mem =
+        λ p j. later-comm (chosenBy true (ticks p) a c mem) (tick (y + k p)) ∙ rw (chosen-more true (ticks p) a c mem, yt, same p j) in
+        record {
+          low-size = m;
+          high-size = n;
+          first = λ p j.
+              ap shortIn (new p j .0) ∙ short-sooner (nth low p) (x + k p) (omega (arith, most p))
+              ∙ rw (o .first p j, chosen-more false (ticks p) a c mem, xt, same p j);
+          last = λ p j.
+              ap tick (new p j .1) ∙ ap (λ (z : Time). later z (tick (y + k p))) (o .last p j)
+              ∙ later-assoc (tick (nth l p)) (chosenBy true (ticks p) a c mem) (tick (y + k p))
+              ∙ ap (later (tick (nth l p))) (turn p j);
+          first-most = λ p j z. omega (arith, new p j .0, most p);
+          last-most = λ p j z. omega (arith, new p j .1, most p, o .last-most p j z);
+        }
+
+    -- All replicas were offered, and the ticks in e raised to those in low.
+    pub offer-done : (e f : List ℕ) → c ≡ nth mem 3 + 1 → length f ≡ 16 → ((p : ℕ) → p < 16 → nth f p ≡ max (nth e p) (nth low p))
+        → BothRaised volume a mem e f l g
+    offer-done e f i m n =
+        let new : (p : ℕ) → p < nth mem 1 → nth f p ≡ max (nth e p) (nth low p) = λ p j. n p (omega (arith, s .processors-most)) in
+        let most : (p : ℕ) → p < nth mem 1 → nth low p ≤ lastArrival = λ p j. o .first-most p j (omega arith) in
+        record {
+          early-size = m;
+          late-size = o .high-size;
+          early-raised = λ p j.
+              ap tick (new p j)
+              ∙ ap (later (tick (nth e p))) (sym (short-tick (nth low p) (λ z. omega (arith, most p j))) ∙ o .first p j ∙ arrival-chosen false volume p a c mem i);
+          late-raised = λ p j. o .last p j ∙ ap (later (tick (nth l p))) (arrival-chosen true volume p a c mem i);
+          early-most = λ p j z. omega (arith, new p j, most p j);
+          late-most = o .last-most;
+        }
+
+-- All data of a task ------------------------------------------------------------------------------------------------
+
+-- The edges from link k on are still to be seen; e and l have for each processor the largest times of the others that enter t.
+pub record BothGathering (t : ℕ) (mem e l : List ℕ) (k : ℕ) : Type 0 where
+  pub early-size : length e ≡ 16
+  pub late-size : length l ≡ 16
+  pub most : k ≤ nth mem 2
+  pub early : (p : ℕ) → p < nth mem 1 → Gathering (arrives false p mem) t mem (tick (nth e p)) k
+  pub late : (p : ℕ) → p < nth mem 1 → Gathering (arrives true p mem) t mem (tick (nth l p)) k
+  pub early-most : (p : ℕ) → p < nth mem 1 → nth e p ≤ lastArrival
+  pub late-most : (p : ℕ) → p < nth mem 1 → nth l p ≤ lastArrival
+
+module _ (n t : ℕ) (mem : List ℕ) (s : Standing n mem) where
+  nothing : (p : ℕ) → p < nth mem 1 → nth (replicate 16 0) p ≡ 0
+  nothing p h = let w = sizes (s .job) in getD-replicate {A = ℕ} 16 p 0 0 (omega (arith, w .processors-most))
+
+  pub both-first : t < nth mem 0 → BothGathering t mem (replicate 16 0) (replicate 16 0) (nth mem (inHeadAt + t))
+  both-first h =
+      record {
+        early-size = length-replicate {A = ℕ} 16 0;
+        late-size = length-replicate {A = ℕ} 16 0;
+        most = s .linked .head-most t h;
+        early = λ p j. rw (nothing p j) (gather-first (arrives false p mem) n t mem s h);
+        late = λ p j. rw (nothing p j) (gather-first (arrives true p mem) n t mem s h);
+        early-most = λ p j. omega (arith, nothing p j);
+        late-most = λ p j. omega (arith, nothing p j);
+      }
+
+  module _ {e l : List ℕ} {k : ℕ} (g : BothGathering t mem e l k) where
+    module _ (h : 0 < k) where
+      abbrev here : Edge
+      here = edgeIn (nth mem (edgeAt mem (k - 1)))
+
+      some : Gathering (arrives false 0 mem) t mem (tick (nth e 0)) k
+      some = g .early 0 (sizes (s .job) .some-processor)
+
+      pub both-edge : BothFed t mem → Feeds here mem × BothShort (rowOf (here .from) mem) mem
+      both-edge d =
+          (gather-edge (arrives false 0 mem) n t mem s some h (λ e i. d e i .0), d here (gather-enters (arrives false 0 mem) n t mem s some h) .1)
+
+      pub both-next : (x y : List ℕ) → BothRaised (here .volume) (rowOf (here .from) mem) mem e x l y → BothGathering t mem x y (nth mem (inNextAt + (k - 1)))
+      both-next x y r =
+          record {
+            early-size = r .early-size;
+            late-size = r .late-size;
+            most = gather-next (arrives false 0 mem) n t mem s some h (later (arrives false 0 mem here) (tick (nth e 0))) refl .most;
+            early = λ p j. gather-next (arrives false p mem) n t mem s (g .early p j) h (tick (nth x p)) (r .early-raised p j ∙ later-comm (tick (nth e p)) (arrives false p mem here));
+            late = λ p j. gather-next (arrives true p mem) n t mem s (g .late p j) h (tick (nth y p)) (r .late-raised p j ∙ later-comm (tick (nth l p)) (arrives true p mem here));
+            early-most = λ p j. r .early-most p j (g .early-most p j);
+            late-most = λ p j. r .late-most p j (g .late-most p j);
+          }
+
+      pub both-falls : nth mem (inNextAt + (k - 1)) < k
+      both-falls = gather-falls (arrives false 0 mem) n t mem s some h
+
+    pub both-done : k ≡ 0 → BothReady t mem e l
+    unfolding dataIn
+    both-done z =
+        record {
+          early-size = g .early-size;
+          late-size = g .late-size;
+          early-ready = λ p j. gather-done (arrives false p mem) n t mem s (g .early p j) z;
+          late-ready = λ p j. gather-done (arrives true p mem) n t mem s (g .late p j) z;
+          early-most = g .early-most;
+          late-most = g .late-most;
+        }
+
+-- Finishes ----------------------------------------------------------------------------------------------------------
+
+-- The tick x is the finish of t on p, if it is ready at the tick of its clock.
+abbrev pub Finish : Bool → ℕ → List ℕ → List ℕ → ℕ → ℕ → Type 0
+Finish late t clocks mem p x = tick x ≡ after (runTime (jobIn mem) t p) (later (tick (nth clocks p)) (dataIn late t p mem))
+
+pub finish-cell : (late : Bool) (t : ℕ) (clocks mem : List ℕ) (p y x : ℕ) → t < nth mem 0 → p < nth mem 1
+    → tick y ≡ dataIn late t p mem
+    → x ≡ max (nth clocks p) y
+    → Finish late t clocks mem p (x + nth mem (4 + t * (nth mem 1 + 1) + (p + 1)))
+finish-cell late t clocks mem p y x h g d e = rw (e, run-in mem t p h g, ← d)

@@ -1,0 +1,142 @@
+-- Times in cells of 32 bits.
+use mathlib.Core.Path.{_≡_, refl, _∙_, sym}
+use mathlib.Core.Logic.{_⊎_, inl, inr, ⊎-elim}
+use mathlib.Core.List.{List}
+use mathlib.Core.Bool.{Bool, true, false}
+use Prim.Native.Nat.{ℕ, _+_, _*_, _/_, _%_, _<_, _≤_, max, min}
+use native.Mathlib.Omega.{arith}
+use native.Mathlib.Numerals.{add-one}
+use borrow.Author.Tests.{ne-eqb, ltb-true, ltb-false}
+use lib.Dec.{ltb}
+use lib.ListN.{length, set, length-set, List·getD-eq-default}
+use lib.Seq.{getD-set-same, getD-set-other}
+use Rattle.definitions.specs.Lists.{if_then_else_, nth}
+use Rattle.definitions.specs.Job.{delay}
+use Rattle.definitions.specs.Times.{tick, never, later, sooner, after, least, largest}
+use Rattle.mirguneth.specs.Layout.{jobSize}
+use Rattle.mirguneth.specs.Arrivals.{shortNever, shortIn, lastShort, DelayTable}
+use Rattle.mirguneth.specs.Schedule.{jobIn, neverCell, timeIn, rowOutcomes, Small, JobHeld}
+use Rattle.mirguneth.proofs.Held.{equal-or-not, last-or-before, Sizes, sizes, delay-in, Same, job-same}
+use Rattle.mirguneth.proofs.TimeLaws.{time-tick, later-never, delay-cell, chosenBy}
+
+pub short-tick : (x : ℕ) → (x ≡ shortNever → ⊥) → shortIn x ≡ tick x
+short-tick x h = rw (ne-eqb x shortNever h)
+
+-- The sooner of a cell and of a tick.
+pub short-sooner : (z y : ℕ) → y < shortNever → shortIn (min z y) ≡ sooner (tick y) (shortIn z)
+short-sooner z y l =
+    ⊎-elim
+    (λ (e : z ≡ shortNever). let m : min z y ≡ y = omega arith in rw (m, e, short-tick y (λ q. omega arith)))
+    (λ e.
+    let n : min z y ≡ shortNever → ⊥ = λ q. omega arith in
+    let m : min y z ≡ min z y = omega arith in
+    rw (short-tick z e, short-tick (min z y) n, m))
+    (equal-or-not z shortNever)
+
+-- The later of two cells.
+pub short-later : (x y : ℕ) → x ≤ shortNever → y ≤ shortNever → shortIn (max x y) ≡ later (shortIn x) (shortIn y)
+short-later x y h g =
+    ⊎-elim
+    (λ (e : x ≡ shortNever). let m : max x y ≡ shortNever = omega arith in rw (m, e))
+    (λ e.
+    ⊎-elim
+    (λ (f : y ≡ shortNever). let m : max x y ≡ shortNever = omega arith in rw (m, f, later-never (shortIn x)))
+    (λ f. rw (short-tick x e, short-tick y f, short-tick (max x y) (λ q. e (omega arith))))
+    (equal-or-not y shortNever))
+    (equal-or-not x shortNever)
+
+-- Tables that a loop fills ------------------------------------------------------------------------------------------
+
+-- The cells of e before p are as `right` says, those from p on as in d.
+pub record Filled (right : ℕ → ℕ → Type 0) (d e : List ℕ) (p : ℕ) : Type 0 where
+  pub size : length e ≡ length d
+  pub done : (i : ℕ) → i < p → right i (nth e i)
+  pub rest : (i : ℕ) → p ≤ i → nth e i ≡ nth d i
+
+pub filled-none : {right : ℕ → ℕ → Type 0} {d : List ℕ} → Filled right d d 0
+filled-none = record { size = refl; done = λ i h. absurd (omega arith); rest = λ i h. refl }
+
+module _ {right : ℕ → ℕ → Type 0} {d e : List ℕ} {p : ℕ} (f : Filled right d e p) where
+  -- The next cell is right as it stands.
+  pub filled-kept : right p (nth e p) → Filled right d e (p + 1)
+  filled-kept r =
+      record {
+        size = f .size;
+        done = λ i h. ⊎-elim (λ (q : i ≡ p). rw q r) (λ l. f .done i l) (last-or-before p i (omega arith));
+        rest = λ i h. f .rest i (omega arith);
+      }
+
+  -- The next cell is stored.
+  pub filled-set : (y : ℕ) → p < length e → right p y → Filled right d (set e p y) (p + 1)
+  filled-set y h r =
+      record {
+        size = length-set e p y ∙ f .size;
+        done = λ i g. ⊎-elim (λ (q : i ≡ p). rw (q, getD-set-same e p y 0 h) r) (λ l. rw (getD-set-other e p i y 0 (λ s. omega arith)) (f .done i l)) (last-or-before p i (omega arith));
+        rest = λ i g. getD-set-other e p i y 0 (λ s. omega arith) ∙ f .rest i (omega arith);
+      }
+
+-- A time of 32 bits as a cell.
+pub wide-never : (z x : ℕ) → z ≡ neverCell → x ≡ shortNever → (timeIn z ≡ shortIn x) × Small 5000000000 z
+wide-never z x e f = (rw (e, f), inl e)
+
+pub wide-tick : (x : ℕ) → x ≤ shortNever → (x ≡ shortNever → ⊥) → (timeIn x ≡ shortIn x) × Small 5000000000 x
+wide-tick x h n = (time-tick x (λ e. omega arith) ∙ sym (short-tick x n), inr (omega arith))
+
+-- The table of delays -----------------------------------------------------------------------------------------------
+
+-- What cell i of the table may hold.
+abbrev pub DelayCell : List ℕ → ℕ → ℕ → Type 0
+DelayCell mem i z = (z ≤ 255) × ((q p : ℕ) → q < nth mem 1 → p < nth mem 1 → i ≡ q * 16 + p → z ≡ delay (jobIn mem) q p)
+
+module _ {mem : List ℕ} where
+  pub delay-stored : JobHeld mem → (i : ℕ) → i / 16 < nth mem 1 → i % 16 < nth mem 1
+      → DelayCell mem i (nth mem (4 + (nth mem 0 + i / 16) * (nth mem 1 + 1) + (i % 16 + 1)))
+  delay-stored j i h g =
+      let s = sizes j in
+      (delay-cell j (i / 16) (i % 16) h g, λ q p a b e. let u : q ≡ i / 16 = omega arith in let v : p ≡ i % 16 = omega arith in rw (u, v) (sym (delay-in mem (i / 16) (i % 16) h g)))
+
+  pub delay-outside : Sizes mem → (i z : ℕ) → z ≤ 255 → (nth mem 1 ≤ i / 16) ⊎ (nth mem 1 ≤ i % 16) → DelayCell mem i z
+  delay-outside s i z h o =
+      (h, λ q p a b e. let u : q ≡ i / 16 = omega arith in let v : p ≡ i % 16 = omega arith in absurd (⊎-elim (λ l. omega arith) (λ l. omega arith) o))
+
+  pub table-made : Sizes mem → {d e : List ℕ} {n : ℕ} → length e ≡ 256 → 256 ≤ n → Filled (DelayCell mem) d e n → DelayTable e mem
+  table-made s {d} {e} {n} k h f =
+      record {
+        size = k;
+        cell = λ q p a b. f .done (q * 16 + p) (omega arith) .1 q p a b refl;
+        most = λ i. by i (ltb i 256) refl;
+      }
+    where
+      by : (i : ℕ) (t : Bool) → ltb i 256 ≡ t → nth e i ≤ 255
+      by i true w = f .done i (omega (arith, ltb-true i 256 w)) .0
+      by i false w = rw (List·getD-eq-default e 0 {n = i} (omega (arith, ltb-false i 256 w))) (omega arith)
+
+-- The table is that of a memory with the same job.
+pub delays-kept : {delays d e : List ℕ} → JobHeld d → Same 0 jobSize d e → DelayTable delays d → DelayTable delays e
+delays-kept {delays} {d} {e} h j t =
+    let m : nth e 1 ≡ nth d 1 = j .cell 1 (omega arith) (omega arith) in
+    record { size = t .size; cell = λ q p a b. rw (job-same (sizes h) j) (t .cell q p (rw m at a) (rw m at b)); most = t .most }
+
+-- The data of one predecessor, on all processors --------------------------------------------------------------------
+
+-- One replica more is among those chosen from.
+pub chosen-more : (late : Bool) (ticks : ℕ → ℕ) (a c : ℕ) (mem : List ℕ)
+    → chosenBy late ticks a (c + 1) mem
+    ≡ (if late
+    then later (after (ticks (nth mem (a + (1 + 3 * c)))) (timeIn (nth mem (a + (3 + 3 * c))))) (chosenBy late ticks a c mem)
+    else sooner (after (ticks (nth mem (a + (1 + 3 * c)))) (timeIn (nth mem (a + (2 + 3 * c))))) (chosenBy late ticks a c mem))
+unfolding chosenBy rowOutcomes least largest
+chosen-more true ticks a c mem = rw (add-one c)
+chosen-more false ticks a c mem = rw (add-one c)
+
+module _ (ticks : ℕ → ℕ) (a c : ℕ) (mem : List ℕ) (z : ℕ) (h : shortIn z ≡ chosenBy false ticks a c mem) where
+  -- It never finishes.
+  pub offered-never : nth mem (a + (2 + 3 * c)) ≡ neverCell → shortIn z ≡ chosenBy false ticks a (c + 1) mem
+  offered-never e = h ∙ sym (chosen-more false ticks a c mem ∙ rw e)
+
+  -- Its message takes n ticks.
+  pub offered-next : (n : ℕ) → nth mem (a + (2 + 3 * c)) ≤ lastShort → n ≤ 1044225 → n ≡ ticks (nth mem (a + (1 + 3 * c)))
+      → shortIn (min z (nth mem (a + (2 + 3 * c)) + n)) ≡ chosenBy false ticks a (c + 1) mem
+  offered-next n s m e =
+      let x = nth mem (a + (2 + 3 * c)) in
+      rw (chosen-more false ticks a c mem, ← h, ← e, time-tick x (λ q. omega arith)) (short-sooner z (x + n) (omega arith))

@@ -1,0 +1,161 @@
+-- After c turns the first c replicas of the line were offered.
+use Prim.Native.Nat.{_≤_, _-_}
+use native.Mathlib.Omega.{arith}
+use borrow.Author.Needs.{needs}
+use Rattle.mirguneth.proofs.Held.{Sizes, sizes}
+use Rattle.mirguneth.proofs.BothLaws.{Offered, offer-none, offer-next, offer-done}
+use Rattle.mirguneth.proofs.times.both_arrivals.Statement.{statement}
+use Rattle.mirguneth.proofs.times.both_arrivals.Tie as tie
+
+abbrev Inv-loop : tie.InvT-loop
+Inv-loop mem delays a volume early late₀ w low₀ c₀ late low c = (c ≤ w) × Sizes mem × Offered volume a mem late₀ c low late
+
+abbrev μ-loop : tie.MeasureT-loop
+μ-loop mem delays a volume early late₀ w low₀ c₀ late low c = w - c
+
+held : (c : tie.Start Inv-loop μ-loop) → Sizes (c .args .mem .now)
+held c = sizes (c .pre .0)
+
+shared-slice-read-w : tie.Need-shared-slice-read-w Inv-loop μ-loop
+shared-slice-read-w c = omega (arith, held (c .before .before .before .before .before))
+
+add-w : tie.Need-add-w Inv-loop μ-loop
+add-w c = omega (arith, held (c .before .before .before .before .before))
+
+loop-holds : tie.Need-loop-holds Inv-loop μ-loop
+loop-holds c = let a = c .before .before .before .before .before .args in let s = held (c .before .before .before .before .before) in (search needs, s, offer-none (a .volume) (a .a) (a .mem .now) (a .late .now) s (c .before .before .before .before .before .pre .7))
+
+mul-q : tie.Need-mul-q Inv-loop μ-loop
+mul-q c = search needs
+
+add-q : tie.Need-add-q Inv-loop μ-loop
+add-q c = search needs
+
+add-q-2 : tie.Need-add-q-2 Inv-loop μ-loop
+add-q-2 c = search needs
+
+mul-q-2 : tie.Need-mul-q-2 Inv-loop μ-loop
+mul-q-2 c = search needs
+
+shared-slice-read-q : tie.Need-shared-slice-read-q Inv-loop μ-loop
+shared-slice-read-q c = search needs
+
+mul-x : tie.Need-mul-x Inv-loop μ-loop
+mul-x c = search needs
+
+add-x : tie.Need-add-x Inv-loop μ-loop
+add-x c = search needs
+
+add-x-2 : tie.Need-add-x-2 Inv-loop μ-loop
+add-x-2 c = search needs
+
+mul-x-2 : tie.Need-mul-x-2 Inv-loop μ-loop
+mul-x-2 c = search needs
+
+shared-slice-read-x : tie.Need-shared-slice-read-x Inv-loop μ-loop
+shared-slice-read-x c = search needs
+
+cast-x : tie.Need-cast-x Inv-loop μ-loop
+cast-x c = omega (arith, c .before .before .before .before .before .before .before .before .before .pre .5 (c .before .before .before .loop .c) (omega arith) .0)
+
+mul-y : tie.Need-mul-y Inv-loop μ-loop
+mul-y c = search needs
+
+add-y : tie.Need-add-y Inv-loop μ-loop
+add-y c = search needs
+
+add-y-2 : tie.Need-add-y-2 Inv-loop μ-loop
+add-y-2 c = search needs
+
+mul-y-2 : tie.Need-mul-y-2 Inv-loop μ-loop
+mul-y-2 c = search needs
+
+shared-slice-read-y : tie.Need-shared-slice-read-y Inv-loop μ-loop
+shared-slice-read-y c = search needs
+
+cast-y : tie.Need-cast-y Inv-loop μ-loop
+cast-y c = omega (arith, c .before .before .before .before .before .before .before .before .before .before .pre .5 (c .before .before .before .before .loop .c) (omega arith) .1)
+
+slice-aggregate-offer-both : tie.Need-slice-aggregate-offer-both Inv-loop μ-loop
+slice-aggregate-offer-both c = search needs
+
+offer-both-requires : tie.Need-offer-both-requires Inv-loop μ-loop
+offer-both-requires c κs =
+    let l = c .before .before .before .before .before .before .loop in
+    let o = l .inv .2 in
+    let s = l .inv .1 in
+    let (_, d, r, _, v, b, _, _) = c .before .before .before .before .before .before .before .before .before .before .before .before .pre in
+    (o .low-size, o .high-size, d .size, d .most, omega (arith, r .processor-of (l .c) (omega arith), s .processors-most), v, b (l .c) (omega arith) .0, b (l .c) (omega arith) .1)
+
+add-c : tie.Need-add-c Inv-loop μ-loop
+add-c c = search needs
+
+loop-less : tie.Need-loop-less Inv-loop μ-loop
+loop-less c = search needs
+
+loop-again : tie.Need-loop-again Inv-loop μ-loop
+loop-again c =
+    let a = c .before .before .before .before .before .before .before .before .before .before .before .before .before .before .before .before .args in
+    let l = c .before .before .before .before .before .before .before .before .before .before .loop in
+    let (_, d, r, _, v, b, _, _) = c .before .before .before .before .before .before .before .before .before .before .before .before .before .before .before .before .pre in
+    let e = c .before .before .before .offer-both .ensures in (
+      search needs,
+      l .inv .1,
+      offer-next (a .volume) (a .a) (a .mem .now) (a .late .now) (l .inv .1) (l .inv .2) (a .delays .now) _ _ d r b v (omega arith) (e .0) (e .1) (e .2),
+    )
+
+slice-aggregate-raise : tie.Need-slice-aggregate-raise Inv-loop μ-loop
+slice-aggregate-raise c = search needs
+
+raise-requires : tie.Need-raise-requires Inv-loop μ-loop
+raise-requires c κs = (c .before .before .before .before .before .before .before .before .before .pre .6, c .before .before .before .loop .inv .2 .low-size)
+
+same-length : tie.Need-same-length Inv-loop μ-loop
+same-length c = omega (arith, c .before .before .raise .ensures .0, c .before .before .before .before .before .before .before .before .before .before .before .before .pre .6)
+
+same-length-2 : tie.Need-same-length-2 Inv-loop μ-loop
+same-length-2 c = omega (arith, c .before .before .before .before .before .before .loop .inv .2 .high-size, c .before .before .before .before .before .before .before .before .before .before .before .before .pre .7)
+
+returns : tie.Need-returns Inv-loop μ-loop
+returns c =
+    let a = c .before .before .before .before .before .before .before .before .before .before .before .before .args in
+    let l = c .before .before .before .before .before .before .loop in
+    let e = c .before .before .raise .ensures in
+    offer-done (a .volume) (a .a) (a .mem .now) (a .late .now) (l .inv .1) (l .inv .2) (a .early .now) _ (omega arith) (e .0) (e .1)
+
+pub both-arrivals-spec : {M : Type 1} → statement M
+both-arrivals-spec =
+    tie.close
+    (tie.spec
+    Inv-loop
+    μ-loop
+    shared-slice-read-w
+    add-w
+    loop-holds
+    mul-q
+    add-q
+    add-q-2
+    mul-q-2
+    shared-slice-read-q
+    mul-x
+    add-x
+    add-x-2
+    mul-x-2
+    shared-slice-read-x
+    cast-x
+    mul-y
+    add-y
+    add-y-2
+    mul-y-2
+    shared-slice-read-y
+    cast-y
+    slice-aggregate-offer-both
+    offer-both-requires
+    add-c
+    loop-less
+    loop-again
+    slice-aggregate-raise
+    raise-requires
+    same-length
+    same-length-2
+    returns)
