@@ -12,7 +12,7 @@ use Rattle.definitions.specs.Lists.{if_then_else_, nth, In, distinct}
 use Rattle.definitions.specs.Limits.{document01}
 use Rattle.definitions.specs.Job.{Edge, Job, runTime, incoming}
 use Rattle.definitions.specs.Plan.{Replica, Line, processorsOf}
-use Rattle.definitions.specs.Times.{Time, tick, later, after, Copy, Outcome, outcome, times, ready, stopTime, finish, walk, copiesOf, copies, earlies, lates}
+use Rattle.definitions.specs.Times.{Time, tick, later, after, Copy, Outcome, outcome, times, ready, finish, walk, copiesOf, copies, earlies, lates}
 use Rattle.definitions.specs.Planner.{tickOf}
 use Rattle.definitions.specs.Refusals.{doubledTasks, replicasOf, ticksAgree}
 use Rattle.definitions.proofs.Lists.{both, both-true, in-append, map-same}
@@ -20,17 +20,17 @@ use Rattle.definitions.proofs.Tasks.{copyOf}
 use Rattle.definitions.proofs.Bounds.{Bounded, PlacedWithin, least-within, largest-within, finish-most}
 use Rattle.definitions.proofs.Guarantee.{same-times, times-same}
 use Rattle.mirguneth.specs.Layout.{lineAt, rowAt}
-use Rattle.mirguneth.specs.Schedule.{jobIn, timeIn, choiceOf, rowOutcomes, placedIn, rowReplicas, linesIn, dataIn, JobHeld, Standing, lineTicks}
-use Rattle.mirguneth.specs.Arrivals.{lastShort, DelayTable, BothFed, ShortClocks, BothFinish}
+use Rattle.mirguneth.specs.Schedule.{jobIn, timeIn, choiceOf, rowOutcomes, placedIn, rowReplicas, linesIn, dataIn, JobHeld, Standing, lineTicks, ShortTo}
+use Rattle.mirguneth.specs.Arrivals.{DelayTable, BothFed, ShortClocks, BothFinish}
 use Rattle.mirguneth.specs.Planning.{ClocksHeld, finishOn}
 use Rattle.mirguneth.specs.Loading.{lineIn, planIn}
-use Rattle.mirguneth.specs.Checking.{PlanHeld, ClocksAfter, finishIn, AgreesTo, LineAgrees, ShortTo}
+use Rattle.mirguneth.specs.Checking.{PlanHeld, ClocksAfter, finishIn, AgreesTo, LineAgrees}
 use Rattle.mirguneth.specs.declared.clocks.Clocks.{Clocks}
 use Rattle.mirguneth.proofs.Held.{last-or-before, tasks-in, processors-in, sizes}
 use Rattle.mirguneth.proofs.TimeLaws.{time-tick}
-use Rattle.mirguneth.proofs.Placed.{FedBy, start-placed}
+use Rattle.mirguneth.proofs.Placed.{FedBy}
 use Rattle.mirguneth.proofs.DrawLaws.{outcomeOn, walk-apart}
-use Rattle.mirguneth.proofs.Drawing.{replicaAt, in-replicas, outcomeOf, outcomes-row, AllCome, placed-come, ready-comes, row-on, clock-more}
+use Rattle.mirguneth.proofs.Drawing.{replicaAt, in-replicas, outcomeOf, outcomes-row, row-on, clock-more, finish-at, all-come, clocks-short, fed-short}
 use Rattle.mirguneth.proofs.OutsetLaws.{outset-clocks}
 use Rattle.mirguneth.proofs.CheckLaws.{line-among, line-facts, doubled-in}
 
@@ -96,33 +96,6 @@ module _ {mem : List ℕ} (h : PlanHeld mem) (k : ℕ) (l : k < nth mem 0) where
 -- Short ticks -------------------------------------------------------------------------------------------------------
 
 module _ {mem : List ℕ} (h : PlanHeld mem) (k : ℕ) (l : k ≤ nth mem 0) (s : ShortTo k mem) where
-  -- They fit in 32 bits, with a message and a run.
-  short-most : k * lineTicks ≤ lastShort
-  short-most = omega (arith, sizes (h .standing .job) .tasks-most)
-
-  short-come : (late : Bool) → AllCome (k * lineTicks) (placedIn late (nth mem 3 + 1) k mem)
-  short-come late = placed-come late (nth mem 3 + 1) k (k * lineTicks) mem (omega (arith, short-most)) (by late)
-    where
-      by : (late : Bool) (i c : ℕ) → i < k → c < nth mem 3 + 1 → cellOf late (rowAt i) c mem ≤ k * lineTicks
-      by true i c g m = s i c g m .1
-      by false i c g m = s i c g m .0
-
-  -- A processor's ready tick is short.
-  ready-short : (late : Bool) (p x : ℕ) → tick x ≡ ready (jobIn mem) p (placedIn late (nth mem 3 + 1) k mem) → x ≤ lastShort
-  ready-short late p x e =
-      let (y, f, m) = ready-comes (jobIn mem) p (k * lineTicks) (placedIn late (nth mem 3 + 1) k mem) (short-come late) in
-      let q : x ≡ y = ap tickOf (e ∙ f) in
-      omega (arith, short-most)
-
-  clocks-short : (clocks : Clocks) → ClocksAfter k mem clocks → ShortClocks clocks mem
-  clocks-short clocks c =
-      record {
-        early-size = c .early-size;
-        late-size = c .late-size;
-        early-short = λ p g. ready-short false p (nth (clocks .early) p) (c .early-ready p (rw (processors-in mem) g));
-        late-short = λ p g. ready-short true p (nth (clocks .late) p) (c .late-ready p (rw (processors-in mem) g));
-      }
-
   placed-on : (late : Bool) (i : ℕ) → i ≤ nth mem 0 → (d : Outcome) → In d (placedIn late (nth mem 3 + 1) i mem) → d .processor < nth mem 1
   unfolding placedIn
   placed-on late (suc i) g d m =
@@ -132,7 +105,7 @@ module _ {mem : List ℕ} (h : PlanHeld mem) (k : ℕ) (l : k ≤ nth mem 0) (s 
       (in-append d (rowOutcomes late (rowAt i) (nth mem 3 + 1) mem) (placedIn late (nth mem 3 + 1) i mem) m)
 
   placed-short : (late : Bool) → PlacedWithin (jobIn mem) (k * lineTicks) (placedIn late (nth mem 3 + 1) k mem)
-  placed-short late d i = let (y, e, m) = short-come late d i in (rw (processors-in mem) (placed-on late k l d i), rw e m)
+  placed-short late d i = let (y, e, m) = all-come (h .standing) l s late d i in (rw (processors-in mem) (placed-on late k l d i), rw e m)
 
 module _ {mem : List ℕ} (h : PlanHeld mem) (k : ℕ) (l : k < nth mem 0) (s : ShortTo k mem) where
   -- What the code asks for, to compute the finishes of line k.
@@ -142,11 +115,8 @@ module _ {mem : List ℕ} (h : PlanHeld mem) (k : ℕ) (l : k < nth mem 0) (s : 
     (nth mem 0, h .standing),
     d,
     h .standing .task-of k l,
-    λ e i.
-        let (g, m) = line-fed h k l e i in
-        let b = short-most h k (omega arith) s in
-        (g, λ c o. let (x, y) = s (nth mem (lineAt + e .from) - 1) c (omega arith) o in (omega arith, omega arith)),
-    clocks-short h k (omega arith) s clocks c,
+    fed-short (h .standing) (omega arith) s (nth mem (rowAt k)) (line-fed h k l),
+    clocks-short (h .standing) (omega arith) s c,
   )
 
   -- If the ticks of line k are the equations', they are short too.
@@ -227,8 +197,7 @@ module _ {mem : List ℕ} (h : PlanHeld mem) (k : ℕ) (l : k < nth mem 0) (c : 
   -- It is ready at x, and what the code computes is the finish by the equations.
   finish-found : (late : Bool) (x : ℕ) → tick x ≡ ready (jobIn mem) here (placedIn late (nth mem 3 + 1) k mem)
       → (r : ℕ) → tick r ≡ after (runTime (jobIn mem) (nth mem (rowAt k)) here) (later (tick x) (dataIn late (nth mem (rowAt k)) here mem)) → tick r ≡ finishIn late k c mem
-  unfolding finishOn finish stopTime
-  finish-found late x e r f = f ∙ rw (e, start-placed (h .standing) k (nth mem (rowAt k)) (omega arith) (line-fed h k l) late here)
+  finish-found late x e r f = f ∙ finish-at (h .standing) (omega arith) late (nth mem (rowAt k)) here x (line-fed h k l) e
 
   module _ (clocks : Clocks) (s : ClocksAfter k mem clocks) (es ls : List ℕ) (b : BothFinish (nth mem (rowAt k)) clocks mem es ls) where
     early-found : tick (nth es here) ≡ finishIn false k c mem
@@ -273,7 +242,7 @@ map-at : {A B : Type 0} (f g : A → B) (xs : List A) → map f xs ≡ map g xs 
 map-at f g (y ∷ xs) e x (inl i) = let q : f y ≡ g y = cc in rw i at q
 map-at f g (y ∷ xs) e x (inr i) = map-at f g xs (cc) x i
 
-copies-more : (j : Job) (ns : List Line) (n : Line) → copies j (ns ++ n ∷ []) ≡ copies j ns ++ copiesOf j (n .task) (processorsOf n)
+pub copies-more : (j : Job) (ns : List Line) (n : Line) → copies j (ns ++ n ∷ []) ≡ copies j ns ++ copiesOf j (n .task) (processorsOf n)
 unfolding copies
 copies-more j [] n = append-nil (copiesOf j (n .task) (processorsOf n))
 copies-more j (m ∷ ns) n =

@@ -21,14 +21,14 @@ use Rattle.definitions.proofs.Lists.{both, in-map, in-keep, map-same, map-keep,
 use Rattle.definitions.proofs.Tasks.{copyOf, in-incoming}
 use Rattle.definitions.proofs.Placing.{placed-count}
 use Rattle.mirguneth.specs.Layout.{memorySize, jobSize, levelAt, raisedAt, lineAt, blockedAt, priorityAt, rowAt, farAt}
-use Rattle.mirguneth.specs.Schedule.{jobIn, neverCell, timeIn, choiceOf, rowOutcomes, placedIn, rowReplicas, linesIn, rowOf, dataIn, topIn, KeptOutside, FedIn, lineTicks}
+use Rattle.mirguneth.specs.Schedule.{jobIn, neverCell, timeIn, choiceOf, rowOutcomes, placedIn, rowReplicas, linesIn, rowOf, dataIn, topIn, KeptOutside, FedIn, lineTicks, Standing, ShortTo}
 use Rattle.mirguneth.specs.Arrivals.{lastShort, BothFed, ShortClocks}
 use Rattle.mirguneth.specs.declared.clocks.Clocks.{Clocks}
 use Rattle.mirguneth.specs.Planning.{isFree, freeIn, bestOf, FreeList, waitingIn, earliesIn, latesIn, finishOn, replicaOn, earlyOutcome, lateOutcome, ClocksHeld, Drawn, Ranked, Tried, boxesFor, Wrote, Begun}
 use Rattle.mirguneth.proofs.Held.{zero-or-more, tasks-in, processors-in, Same, same-part, same-before, same-behind, Sizes, sizes, job-same, placed-same, replicas-same, lines-same, standing-same, linked-out-same, levels-same, far-same, kept-all, kept-set, kept-then, kept-wider}
 use Rattle.mirguneth.proofs.Upward.{below-more, keep-yes, keep-no}
 use Rattle.mirguneth.proofs.TimeLaws.{time-tick}
-use Rattle.mirguneth.proofs.Placed.{has-placed, feeding-line, fed-all, start-placed, level-placed}
+use Rattle.mirguneth.proofs.Placed.{has-placed, feeding-line, fed-all, start-placed, level-placed, FedBy}
 use Rattle.mirguneth.proofs.MarkLaws.{keep-same, keep-keep}
 use Rattle.mirguneth.proofs.DrawLaws.{isChosen, chosen-room, chosen-same, trial-nth, none-kept, all-same, some-free, best-in, waiting-from, Comes, comes-wider, comes-after, comes-later, comes-largest, comes-choice}
 
@@ -107,27 +107,32 @@ unfolding rowOutcomes
 row-on late a (suc c) m mem h d (inl e) = rw (← e) (h c (omega arith))
 row-on late a (suc c) m mem h d (inr i) = row-on late a c m mem (λ i l. h i (omega arith)) d i
 
-module _ {k : ℕ} {mem : List ℕ} (s : Drawn k mem) where
-  abbrev wide : ℕ
-  wide = nth mem 3 + 1
+-- From the tick at which p is ready: the finish of t on p is that of the definition.
+pub finish-at : {n k : ℕ} {mem : List ℕ} → Standing n mem → k ≤ n → (late : Bool) (t p x : ℕ) → FedBy k t mem
+    → tick x ≡ ready (jobIn mem) p (placedIn late (nth mem 3 + 1) k mem)
+    → after (runTime (jobIn mem) t p) (later (tick x) (dataIn late t p mem)) ≡ finishOn late k mem t p
+unfolding finishOn finish stopTime
+finish-at {k = k} s l late t p x f e = rw (e, start-placed s k t l f late p)
 
-  -- The ticks of k lines pass no k times the ticks of a line, so they are short.
-  pub ticks-fit : k * lineTicks ≤ lastShort
-  ticks-fit = let w = sizes (s .standing .job) in let c = s .standing .count in omega arith
+-- The first k lines have ticks that do not pass k times those of a line.
+module _ {n k : ℕ} {mem : List ℕ} (s : Standing n mem) (l : k ≤ n) (h : ShortTo k mem) where
+  -- So they are short.
+  pub short-most : k * lineTicks ≤ lastShort
+  short-most = let w = sizes (s .job) in let c = s .count in omega arith
 
-  cells-most : (late : Bool) (i c : ℕ) → i < k → c < wide → nth mem (rowAt i + ((if late then 3 else 2) + 3 * c)) ≤ k * lineTicks
-  cells-most true = s .late-tick
-  cells-most false = s .early-tick
+  pub cells-most : (late : Bool) (i c : ℕ) → i < k → c < nth mem 3 + 1 → nth mem (rowAt i + ((if late then 3 else 2) + 3 * c)) ≤ k * lineTicks
+  cells-most true i c g m = h i c g m .1
+  cells-most false i c g m = h i c g m .0
 
-  all-come : (late : Bool) → AllCome (k * lineTicks) (placedIn late wide k mem)
-  all-come late = let f = ticks-fit in placed-come late wide k (k * lineTicks) mem (omega arith) (cells-most late)
+  pub all-come : (late : Bool) → AllCome (k * lineTicks) (placedIn late (nth mem 3 + 1) k mem)
+  all-come late = let f = short-most in placed-come late (nth mem 3 + 1) k (k * lineTicks) mem (omega arith) (cells-most late)
 
   -- A processor's ready tick.
-  clock-most : (late : Bool) (p x : ℕ) → tick x ≡ ready (jobIn mem) p (placedIn late wide k mem) → x ≤ k * lineTicks
+  clock-most : (late : Bool) (p x : ℕ) → tick x ≡ ready (jobIn mem) p (placedIn late (nth mem 3 + 1) k mem) → x ≤ lastShort
   clock-most late p x e =
-      let (y, f, l) = ready-comes (jobIn mem) p (k * lineTicks) (placedIn late wide k mem) (all-come late) in
+      let (y, f, m) = ready-comes (jobIn mem) p (k * lineTicks) (placedIn late (nth mem 3 + 1) k mem) (all-come late) in
       let q : x ≡ y = ap tickOf (e ∙ f) in
-      omega arith
+      omega (arith, short-most)
 
   -- The clocks have short ticks.
   pub clocks-short : {clocks : Clocks} → ClocksHeld clocks (jobIn mem) (earliesIn k mem) (latesIn k mem) → ShortClocks clocks mem
@@ -135,23 +140,20 @@ module _ {k : ℕ} {mem : List ℕ} (s : Drawn k mem) where
       record {
         early-size = c .early-size;
         late-size = c .late-size;
-        early-short = λ p l. omega (arith, clock-most false p (nth (clocks .early) p) (c .early-ready p (rw (processors-in mem) l)), ticks-fit);
-        late-short = λ p l. omega (arith, clock-most true p (nth (clocks .late) p) (c .late-ready p (rw (processors-in mem) l)), ticks-fit);
+        early-short = λ p l. clock-most false p (nth (clocks .early) p) (c .early-ready p (rw (processors-in mem) l));
+        late-short = λ p l. clock-most true p (nth (clocks .late) p) (c .late-ready p (rw (processors-in mem) l));
       }
 
   -- The lines of a task's predecessors have short ticks.
-  pub fed-short : (t : ℕ) → FedIn t mem → BothFed t mem
+  pub fed-short : (t : ℕ) → FedBy k t mem → BothFed t mem
   fed-short t f e i =
-      let (l, m) = fed-all (s .standing) t f e i in
-      let n = nth mem (lineAt + e .from) - 1 in
-      let g : n < k = omega arith in
-      (l, λ c h. (omega (arith, s .early-tick n c g h, ticks-fit), omega (arith, s .late-tick n c g h, ticks-fit)))
+      let (g, m) = f e i in
+      let b = short-most in
+      (g, λ c o. let (x, y) = h (nth mem (lineAt + e .from) - 1) c (omega arith) o in (omega arith, omega arith))
 
-  -- From the tick at which p is ready: the finish of t on p is that of the definition.
-  pub finish-at : (late : Bool) (t p x : ℕ) → FedIn t mem → tick x ≡ ready (jobIn mem) p (placedIn late wide k mem)
-      → after (runTime (jobIn mem) t p) (later (tick x) (dataIn late t p mem)) ≡ finish (jobIn mem) (choiceOf late) [] (placedIn late wide k mem) (copyOf (jobIn mem) t p)
-  unfolding finish stopTime
-  finish-at late t p x f e = rw (e, start-placed (s .standing) k t (omega arith) (fed-all (s .standing) t f) late p)
+module _ {k : ℕ} {mem : List ℕ} (s : Drawn k mem) where
+  abbrev wide : ℕ
+  wide = nth mem 3 + 1
 
   -- The top level of a task whose predecessors are placed is that of the definition.
   pub top-here : (t : ℕ) → FedIn t mem → tickOf (topIn t mem) * scale (jobIn mem) ≡ topLevel (jobIn mem) (earliesIn k mem) t
@@ -173,7 +175,7 @@ module _ {k : ℕ} {mem : List ℕ} (s : Drawn k mem) where
         comes-after 1044225 (e .volume * delay (jobIn mem) (d .processor) p)
         (mul-le-mul {n₁ = e .volume} {m₁ = delay (jobIn mem) (d .processor) p} {n₂ = 4095} {m₂ = 255} (s .standing .job .facts .volume-most e o)
         (s .standing .job .facts .delay-most (d .processor) p (rw (processors-in mem) (row-on late a wide (nth mem 1) mem (s .standing .row n g .processor-of) d i)) (rw (processors-in mem) hp)))
-        (row-come late a wide (k * lineTicks) mem (omega (arith, ticks-fit)) (λ c h. cells-most late n c g h) d i)))
+        (row-come late a wide (k * lineTicks) mem (omega (arith, short-most (s .standing) (omega arith) (s .ticks))) (λ c h. cells-most (s .standing) (omega arith) (s .ticks) late n c g h) d i)))
 
     -- The finish of t on p.
     pub finish-comes : (late : Bool) → Comes (k * lineTicks + lineTicks) (finish (jobIn mem) (choiceOf late) [] (placedIn late wide k mem) (copyOf (jobIn mem) t p))
@@ -181,7 +183,7 @@ module _ {k : ℕ} {mem : List ℕ} (s : Drawn k mem) where
     finish-comes late =
         let r = s .standing .job .facts .run-most t p (rw (tasks-in mem) ht) (rw (processors-in mem) hp) in
         let d = comes-largest (arrival (jobIn mem) (choiceOf late) (placedIn late wide k mem) p) (incoming (jobIn mem) t) (arrival-comes late) in
-        let a = comes-wider {c = k * lineTicks + 1044225} (omega arith) (ready-comes (jobIn mem) p (k * lineTicks) (placedIn late wide k mem) (all-come late)) in
+        let a = comes-wider {c = k * lineTicks + 1044225} (omega arith) (ready-comes (jobIn mem) p (k * lineTicks) (placedIn late wide k mem) (all-come (s .standing) (omega arith) (s .ticks) late)) in
         comes-wider (omega arith) (comes-after 1000000 (runTime (jobIn mem) t p) r (comes-later a d))
 
 -- What a change elsewhere leaves as it was --------------------------------------------------------------------------
@@ -224,8 +226,10 @@ drawn-same {k} {d} {e} z j r f s =
       linked = linked-out-same h b (s .linked);
       far = far-same h a f (s .far);
       levels = levels-same h a (same-part levelAt raisedAt j (omega arith) (omega arith)) (s .levels);
-      early-tick = λ i c g m. let n : c < nth d 3 + 1 = rw l at m in rw (r .cell (rowAt i + (2 + 3 * c)) (omega arith) (omega arith)) (s .early-tick i c g n);
-      late-tick = λ i c g m. let n : c < nth d 3 + 1 = rw l at m in rw (r .cell (rowAt i + (3 + 3 * c)) (omega arith) (omega arith)) (s .late-tick i c g n);
+      ticks = λ i c g m.
+          let n : c < nth d 3 + 1 = rw l at m in
+          let (x, y) = s .ticks i c g n in
+          (rw (r .cell (rowAt i + (2 + 3 * c)) (omega arith) (omega arith)) x, rw (r .cell (rowAt i + (3 + 3 * c)) (omega arith) (omega arith)) y);
       rest = rw (l, v, job-same w a, waiting-same w j, lines-same d e (nth d 3 + 1) k few r, placed-same d e false (nth d 3 + 1) k few r, placed-same d e true (nth d 3 + 1) k few r) (s .rest);
     }
 

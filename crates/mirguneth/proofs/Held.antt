@@ -5,7 +5,7 @@ use mathlib.Core.List.{List, [], _∷_, map}
 use mathlib.Core.Bool.{Bool, true, false}
 use Prim.Native.Nat.{ℕ, zero, suc, _+_, _*_, _-_, _<_, _≤_}
 use native.Mathlib.Omega.{arith}
-use native.Mathlib.Nat.{suc-mul, mul-le-mul, mul-le-mul-right}
+use native.Mathlib.Nat.{mul-le-mul}
 use borrow.Author.Tests.{ne-eqb, eqb-true, eqb-false}
 use lib.Dec.{eqb}
 use lib.ListN.{length, length-map, getD, set, length-set}
@@ -16,12 +16,9 @@ use Rattle.definitions.proofs.Lists.{map-same, in-below, below-in, length-count
 use Rattle.mirguneth.specs.Memory.{edgeIn}
 use Rattle.mirguneth.specs.Layout.{memorySize, jobSize, inHeadAt, inNextAt, outHeadAt, outNextAt, levelAt, raisedAt, lineAt, blockedAt, rowAt, farAt}
 use Rattle.mirguneth.specs.Schedule.{edgeAt, jobIn, rowOutcomes, placedIn, rowReplicas, linesIn, chain, Chained, KeptOutside, RowHeld, JobHeld, Standing, LinkedOut, LevelsFilled, FarFilled}
+use Rattle.mirguneth.proofs.RowLaws.{row-ends}
 
 -- Numbers and lists -------------------------------------------------------------------------------------------
-
--- Row t of v rows of k places ends within them.
-pub row-within : (t v k : ℕ) → t < v → t * k + k ≤ v * k
-row-within t v k h = omega (arith, mul-le-mul-right {m = suc t} {n = v} k h, suc-mul t k)
 
 pub equal-or-not : (a b : ℕ) → (a ≡ b) ⊎ (a ≡ b → ⊥)
 equal-or-not a b = by (eqb a b) refl
@@ -136,7 +133,7 @@ module _ {mem : List ℕ} (s : Sizes mem) where
   -- The cells of row r, before the edges: the rows of the tasks, then those of the processors.
   pub row-cell : (r p : ℕ) → r < nth mem 0 + nth mem 1 → p < nth mem 1
       → 4 + r * (nth mem 1 + 1) + (p + 1) < 4 + (nth mem 0 + nth mem 1) * (nth mem 1 + 1)
-  row-cell r p h g = omega (arith, row-within r (nth mem 0 + nth mem 1) (nth mem 1 + 1) h)
+  row-cell r p h g = omega (arith, row-ends r (nth mem 0 + nth mem 1) (nth mem 1 + 1) h)
 
   pub row-below : (r p : ℕ) → r < nth mem 0 + nth mem 1 → p < nth mem 1 → 4 + r * (nth mem 1 + 1) + (p + 1) < jobSize
   row-below r p h g = omega (arith, row-cell r p h g)

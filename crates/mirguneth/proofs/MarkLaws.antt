@@ -14,8 +14,8 @@ use borrow.Author.Tests.{eqb-true, eqb-false, eq-eqb, ne-eqb, lt-ltb, le-ltb, lt
 use Rattle.definitions.specs.Lists.{if_then_else_, nth, below, keep, any, all, In, has, empty}
 use Rattle.definitions.specs.Job.{Edge, Job, preceded, remaining, circular, Path, one, more}
 use Rattle.definitions.proofs.Circle.{circle-found}
-use Rattle.definitions.proofs.Lists.{both, in-map, any-in, in-any, all-in, in-keep, keep-in, in-has, has-not, in-below, below-in}
-use Rattle.mirguneth.specs.Memory.{edgeIn, Marks, isMarked, stays}
+use Rattle.definitions.proofs.Lists.{both, in-map, any-in, in-any, all-in, in-keep, keep-in, in-has, has-not, in-below, below-in, keep-every}
+use Rattle.mirguneth.specs.Memory.{edgeIn, Marks, isMarked, stays, rises}
 
 -- Marks -------------------------------------------------------------------------------------------------------
 
@@ -130,11 +130,6 @@ unfolding keep
 keep-same f g [] s = refl
 keep-same f g (x ∷ xs) s = rw (s x (inl refl), keep-same f g xs (λ y i. s y (inr i)))
 
-pub keep-all : {A : Type 0} (f : A → Bool) (xs : List A) → ((x : A) → In x xs → f x ≡ true) → keep f xs ≡ xs
-unfolding keep
-keep-all f [] s = refl
-keep-all f (x ∷ xs) s = rw (s x (inl refl), keep-all f xs (λ y i. s y (inr i)))
-
 pub keep-keep : {A : Type 0} (f g : A → Bool) (xs : List A) → keep f (keep g xs) ≡ keep (λ x. g x && f x) xs
 unfolding keep
 keep-keep f g [] = refl
@@ -202,7 +197,7 @@ module _ (v : ℕ) (es : List Edge) (h : v ≤ 256) where
   rest-first {marks} g m = record {
     above = marks-above m v (λ t b. le-ltb t v b);
     some = sym (some-yes v marks 0 g (m .holds 0 (omega arith) ∙ rw (lt-ltb 0 v g)));
-    rest = rw (sub-zero v) (ap (remaining v es) (keep-all (isMarked marks) (below v) at));
+    rest = rw (sub-zero v) (ap (remaining v es) (keep-every (isMarked marks) (below v) at));
   }
     where
       at : (t : ℕ) → In t (below v) → isMarked marks t ≡ true
@@ -234,10 +229,6 @@ module _ (v : ℕ) (es : List Edge) (h : v ≤ 256) where
       sym (r .some) ∙ empty-keep (isMarked marks) (below v) ∙ ap (λ (ts : List ℕ). not (empty ts)) q
 
 -- Edges that lead to greater numbers ---------------------------------------------------------------------------
-
--- The edge in a cell leads to a task of a greater number.
-abbrev pub rises : ℕ → Bool
-rises c = ltb (edgeIn c .from) (edgeIn c .to)
 
 -- Of the members from i on: of the first, and of those after it.
 pub all-drop : {A : Type 0} (f : A → Bool) (xs : List A) (i : ℕ) (d : A) → i < length xs → all f (drop i xs) ≡ (f (getD xs i d) && all f (drop (i + 1) xs))

@@ -107,8 +107,8 @@ module _ {k : ℕ} {d : List ℕ} (s : Drawn k d) (h : k < nth d 0) (r : Ranked 
         clocks-now = c;
         early-size = f .early-size;
         late-size = f .late-size;
-        early-finishes = λ p l. f .early-finish p l ∙ finish-at s false t p (nth (clocks .early) p) fed (c .early-ready p (rw (processors-in d) l));
-        late-finishes = λ p l. f .late-finish p l ∙ finish-at s true t p (nth (clocks .late) p) fed (c .late-ready p (rw (processors-in d) l));
+        early-finishes = λ p l. f .early-finish p l ∙ finish-at (s .standing) (omega arith) false t p (nth (clocks .early) p) (fed-all (s .standing) t fed) (c .early-ready p (rw (processors-in d) l));
+        late-finishes = λ p l. f .late-finish p l ∙ finish-at (s .standing) (omega arith) true t p (nth (clocks .late) p) (fed-all (s .standing) t fed) (c .late-ready p (rw (processors-in d) l));
       }
 
   -- Of the lines and the counts only t's line changed.
@@ -299,12 +299,13 @@ module _ {k : ℕ} {d : List ℕ} (s : Drawn k d) (h : k < nth d 0) (r : Ranked 
           linked = linked-out-same job (same-part 0 levelAt before-lines (omega arith) (omega arith)) (s .linked);
           far = far-same job job-cells far-table (s .far);
           levels = levels-same job job-cells (same-part levelAt raisedAt before-lines (omega arith) (omega arith)) (s .levels);
-          early-tick = λ i c l m.
+          ticks = λ i c l m.
               let n : c < nth d 3 + 1 = rw losses-same at m in
-              ⊎-elim (λ (q : i ≡ k). rw q (omega (arith, new-early c n))) (λ q. rw (old-rows .cell (rowAt i + (2 + 3 * c)) (omega arith) (omega (arith, w .losses-most))) (most (nth d (rowAt i + (2 + 3 * c))) (s .early-tick i c q n))) (last-or-before k i l);
-          late-tick = λ i c l m.
-              let n : c < nth d 3 + 1 = rw losses-same at m in
-              ⊎-elim (λ (q : i ≡ k). rw q (omega (arith, new-late c n))) (λ q. rw (old-rows .cell (rowAt i + (3 + 3 * c)) (omega arith) (omega (arith, w .losses-most))) (most (nth d (rowAt i + (3 + 3 * c))) (s .late-tick i c q n))) (last-or-before k i l);
+              let few : c < 8 = omega (arith, w .losses-most) in
+              ⊎-elim (λ (q : i ≡ k). rw q (let x = new-early c n in let y = new-late c n in (omega arith, omega arith)))
+              (λ q. let (x, y) = s .ticks i c q n in
+              (rw (old-rows .cell (rowAt i + (2 + 3 * c)) (omega arith) (omega arith)) (most (nth d (rowAt i + (2 + 3 * c))) x), rw (old-rows .cell (rowAt i + (3 + 3 * c)) (omega arith) (omega arith)) (most (nth d (rowAt i + (3 + 3 * c))) y)))
+              (last-or-before k i l);
           rest = rest-next;
         })
 

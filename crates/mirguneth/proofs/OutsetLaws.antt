@@ -167,8 +167,7 @@ module _ {mem : List ℕ} (h : JobHeld mem) (line : (t : ℕ) → t < nth mem 0 
         linked = b;
         far = c;
         levels = f;
-        early-tick = λ i x l. absurd (omega arith);
-        late-tick = λ i x l. absurd (omega arith);
+        ticks = λ i x l. absurd (omega arith);
         rest = rw (n, all-wait f);
       }
 

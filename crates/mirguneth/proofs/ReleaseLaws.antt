@@ -23,7 +23,7 @@ use Rattle.mirguneth.specs.Planning.{earliesIn, FreeList, inserted, Draw
 use Rattle.mirguneth.proofs.Held.{tasks-in, edge-in, edge-below, same-behind, Sizes, sizes, job-kept, placed-same, chain-step, chain-end, kept-all, kept-set}
 use Rattle.mirguneth.proofs.MarkLaws.{keep-same}
 use Rattle.mirguneth.proofs.FreeLaws.{Recounted, free-in, free-same}
-use Rattle.mirguneth.proofs.Drawing.{drawn-choice, top-here, fed-none, ticks-fit}
+use Rattle.mirguneth.proofs.Drawing.{drawn-choice, top-here, fed-none, short-most}
 
 -- How many edges to u come from tasks that are not placed.
 abbrev pub blocking : List ℕ → ℕ → ℕ
@@ -220,7 +220,7 @@ module _ {n : ℕ} {d : List ℕ} (s : Drawn n d) where
             × (goes < nth lowered 0) × FedIn goes lowered × FarFilled lowered
         release-asks =
             let x = drawn-choice lowered-kept s (omega arith) (omega arith) in
-            ((n, x .standing, λ j c l m. omega (arith, x .early-tick j c l m, ticks-fit s)), rw (lowered-kept .before 0 (omega arith)) release-below, released, x .far)
+            ((n, x .standing, λ j c l m. omega (arith, x .ticks j c l m .0, short-most (s .standing) (omega arith) (s .ticks))), rw (lowered-kept .before 0 (omega arith)) release-below, released, x .far)
 
         pub release-level : nth lowered (levelAt + goes) ≤ 133_447_008_000
         unfolding jobIn

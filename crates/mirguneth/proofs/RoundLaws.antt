@@ -1,7 +1,7 @@
 -- The replay of all lines: what a plan in order gives of its lines in memory, and line after line.
 use mathlib.Core.Path.{_≡_, refl, ap, _∙_, sym}
 use mathlib.Core.Logic.{_⊎_, inl, inr, ⊎-elim}
-use mathlib.Core.List.{List, [], _∷_, _++_, map, map-append, append-assoc, append-nil}
+use mathlib.Core.List.{List, [], _∷_, _++_, map, map-append}
 use mathlib.Core.Bool.{false}
 use Prim.Native.Nat.{ℕ, zero, suc, _+_, _*_, _<_, _≤_}
 use native.Mathlib.Omega.{arith}
@@ -10,9 +10,9 @@ use lib.ListN.{length, length-append, replicate, length-replicate, getD-replicat
 use lib.Seq.{getD-at, ext-getD}
 use Rattle.definitions.specs.Lists.{nth, In}
 use Rattle.definitions.specs.Job.{Job}
-use Rattle.definitions.specs.Plan.{Line, processorsOf, descends}
+use Rattle.definitions.specs.Plan.{Line, descends}
 use Rattle.definitions.specs.Stops.{Stop}
-use Rattle.definitions.specs.Times.{ready, walk, copiesOf, copies}
+use Rattle.definitions.specs.Times.{ready, walk, copies}
 use Rattle.definitions.specs.Replay.{replay}
 use Rattle.definitions.proofs.Lists.{in-append, nth-in}
 use Rattle.definitions.proofs.Facts.{LineFacts, Ordered}
@@ -24,6 +24,7 @@ use Rattle.mirguneth.specs.Loading.{planIn}
 use Rattle.mirguneth.specs.Replaying.{StopsIn, ranIn, Running, FedBefore, Retimed, copiesIn, walked, LineRun, RisingIn, RoundRun}
 use Rattle.mirguneth.proofs.Held.{last-or-before, same-before, sizes, kept-wider}
 use Rattle.mirguneth.proofs.ShortLaws.{delays-kept}
+use Rattle.mirguneth.proofs.AgreeLaws.{copies-more}
 use Rattle.mirguneth.proofs.RunLaws.{retimed-none, retimed-then, cell-retimed, task-retimed, processor-retimed, job-retimed, fed-retimed, walked-append}
 
 -- Lines in order ------------------------------------------------------------------------------------------------------
@@ -104,16 +105,9 @@ module _ {mem : List ℕ} (s : Standing (nth mem 0) mem) (o : Ordered (jobIn mem
 
 -- Line after line -----------------------------------------------------------------------------------------------------
 
-copies-last : (j : Job) (ns : List Line) (n : Line) → copies j (ns ++ n ∷ []) ≡ copies j ns ++ copiesOf j (n .task) (processorsOf n)
-unfolding copies
-copies-last j [] n = append-nil (copiesOf j (n .task) (processorsOf n))
-copies-last j (m ∷ ns) n =
-    ap (copiesOf j (m .task) (processorsOf m) ++_) (copies-last j ns n)
-    ∙ sym (append-assoc (copiesOf j (m .task) (processorsOf m)) (copies j ns) (copiesOf j (n .task) (processorsOf n)))
-
 lines-more : (k w : ℕ) (mem : List ℕ) → copies (jobIn mem) (linesIn w k mem) ++ copiesIn k w mem ≡ copies (jobIn mem) (linesIn w (suc k) mem)
 unfolding linesIn copiesIn
-lines-more k w mem = sym (copies-last (jobIn mem) (linesIn w k mem) (lineIn w k mem))
+lines-more k w mem = sym (copies-more (jobIn mem) (linesIn w k mem) (lineIn w k mem))
 
 -- The replicas of a line are as they were.
 copies-retimed : {a n : ℕ} {d e : List ℕ} → Retimed a n d e → JobHeld d → (k c : ℕ) → c ≤ 8 → copiesIn k c e ≡ copiesIn k c d

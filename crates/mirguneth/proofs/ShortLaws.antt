@@ -12,7 +12,7 @@ use lib.ListN.{length, set, length-set, List·getD-eq-default}
 use lib.Seq.{getD-set-same, getD-set-other}
 use Rattle.definitions.specs.Lists.{if_then_else_, nth}
 use Rattle.definitions.specs.Job.{delay}
-use Rattle.definitions.specs.Times.{tick, never, later, sooner, after, least, largest}
+use Rattle.definitions.specs.Times.{tick, later, sooner, after, least, largest}
 use Rattle.mirguneth.specs.Layout.{jobSize}
 use Rattle.mirguneth.specs.Arrivals.{shortNever, shortIn, lastShort, DelayTable}
 use Rattle.mirguneth.specs.Schedule.{jobIn, neverCell, timeIn, rowOutcomes, Small, JobHeld}

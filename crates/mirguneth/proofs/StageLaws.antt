@@ -12,7 +12,7 @@ use Rattle.definitions.specs.Lists.{bytes, below, empty}
 use Rattle.definitions.specs.Limits.{document01}
 use Rattle.definitions.specs.Text.{found, refused, next, due, firstOf, line, lines}
 use Rattle.definitions.specs.Job.{Edge, JobHead, jobHeadOf, jobHead, jobHeadRule, outside, runRule, delayRule, edgeLine, edgeRule, remaining, circular, jobLines, readJob}
-use Rattle.definitions.proofs.Lists.{either-right}
+use Rattle.definitions.proofs.Lists.{either-right, not-outside}
 use Rattle.definitions.proofs.Reading.{job-head-parts}
 use Rattle.text.specs.declared.Step.{Step}
 use Rattle.text.specs.declared.Step.the-variants.{Next, Refused}
@@ -27,9 +27,6 @@ too-low low high n h = rw (lt-ltb n low h)
 
 pub too-high : (low high n : ℕ) → high < n → outside low high n ≡ true
 too-high low high n h = either-right (ltb n low) (lt-ltb high n h)
-
-within : (low high n : ℕ) → low ≤ n → n ≤ high → outside low high n ≡ false
-within low high n g h = rw (le-ltb n low g, le-ltb high n h)
 
 module _ (v m e x : ℕ) where
   pub head-tasks : outside 1 255 v ≡ true → 3 ≡ jobHeadRule document01 (record { tasks = v; processors = m; edges = e; losses = x })
@@ -52,7 +49,7 @@ module _ (v m e x : ℕ) where
 
   module _ (v1 : 1 ≤ v) (v2 : v ≤ 255) (m1 : 1 ≤ m) (m2 : m ≤ 16) (e2 : e ≤ 1024) (x2 : x ≤ 7) where
     head-within : (outside 1 255 v || outside 1 16 m || outside 0 1024 e || outside 0 7 x) ≡ false
-    head-within = rw (within 1 255 v v1 v2, within 1 16 m m1 m2, within 0 1024 e (omega arith) e2, within 0 7 x (omega arith) x2)
+    head-within = rw (not-outside 1 255 v v1 v2, not-outside 1 16 m m1 m2, not-outside 0 1024 e (omega arith) e2, not-outside 0 7 x (omega arith) x2)
 
     pub head-few : m < x + 1 → 4 ≡ jobHeadRule document01 (record { tasks = v; processors = m; edges = e; losses = x })
     unfolding jobHeadRule firstOf

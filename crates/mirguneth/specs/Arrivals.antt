@@ -13,10 +13,11 @@ use Rattle.mirguneth.specs.Layout.{lineAt}
 use Rattle.mirguneth.specs.Schedule.{jobIn, arrivalIn, rowOf, dataIn, Small}
 use Rattle.mirguneth.specs.declared.clocks.Clocks.{Clocks}
 
--- A time in a cell of 32 bits: the greatest number is never.
+-- Never in a cell of 32 bits: the greatest number.
 abbrev pub shortNever : ℕ
 shortNever = 4_294_967_295
 
+-- The time that such a cell holds.
 abbrev pub shortIn : ℕ → Time
 shortIn x = if eqb x shortNever then never else tick x
 
@@ -24,7 +25,7 @@ shortIn x = if eqb x shortNever then never else tick x
 abbrev pub lastShort : ℕ
 lastShort = 4_200_000_000
 
--- With a message.
+-- The last tick with a message added.
 abbrev pub lastArrival : ℕ
 lastArrival = 4_201_044_225
 
@@ -34,17 +35,19 @@ pub record DelayTable (delays mem : List ℕ) : Type 0 where
   pub cell : (q p : ℕ) → q < nth mem 1 → p < nth mem 1 → nth delays (q * 16 + p) ≡ delay (jobIn mem) q p
   pub most : (i : ℕ) → nth delays i ≤ document01 .delay
 
--- The line at a has early times that are short; it has early and late ticks that are.
+-- The early times of the line at a are short, or never.
 abbrev pub FirstShort : ℕ → List ℕ → Type 0
 FirstShort a mem = (c : ℕ) → c < nth mem 3 + 1 → Small lastShort (nth mem (a + (2 + 3 * c)))
 
+-- The early and the late ticks of the line at a are short.
 abbrev pub BothShort : ℕ → List ℕ → Type 0
 BothShort a mem = (c : ℕ) → c < nth mem 3 + 1 → (nth mem (a + (2 + 3 * c)) ≤ lastShort) × (nth mem (a + (3 + 3 * c)) ≤ lastShort)
 
--- Every predecessor of t has such a line.
+-- Every predecessor of t has a line, with early times that are short or never.
 abbrev pub FirstFed : ℕ → List ℕ → Type 0
 FirstFed t mem = (e : Edge) → In e (incoming (jobIn mem) t) → (0 < nth mem (lineAt + e .from)) × FirstShort (rowOf (e .from) mem) mem
 
+-- The same for early and late ticks.
 abbrev pub BothFed : ℕ → List ℕ → Type 0
 BothFed t mem = (e : Edge) → In e (incoming (jobIn mem) t) → (0 < nth mem (lineAt + e .from)) × BothShort (rowOf (e .from) mem) mem
 

@@ -1,15 +1,14 @@
 -- What the checker's tests speak of: a plan that was read, and the ticks of its lines.
 use mathlib.Core.Path.{_≡_}
-use mathlib.Core.List.{List, []}
+use mathlib.Core.List.{List}
 use mathlib.Core.Bool.{Bool, true, false}
-use Prim.Native.Nat.{ℕ, _+_, _*_, _≤_, _<_}
+use Prim.Native.Nat.{ℕ, _+_, _*_, _<_}
 use Rattle.definitions.specs.Lists.{if_then_else_, nth}
 use Rattle.definitions.specs.Limits.{document01}
 use Rattle.definitions.specs.Times.{Time}
 use Rattle.definitions.proofs.Facts.{PlanFacts}
-use Rattle.definitions.proofs.Tasks.{copyOf}
 use Rattle.mirguneth.specs.Layout.{rowAt}
-use Rattle.mirguneth.specs.Schedule.{jobIn, timeIn, choiceOf, placedIn, Standing, lineTicks}
+use Rattle.mirguneth.specs.Schedule.{jobIn, timeIn, placedIn, Standing}
 use Rattle.mirguneth.specs.Planning.{finishOn, ClocksHeld}
 use Rattle.mirguneth.specs.Loading.{planIn}
 use Rattle.mirguneth.specs.declared.clocks.Clocks.{Clocks}
@@ -34,9 +33,3 @@ AgreesTo k c mem = (late : Bool) (i : ℕ) → i < c → finishIn late k i mem �
 -- All of line k are.
 abbrev pub LineAgrees : ℕ → List ℕ → Type 0
 LineAgrees k mem = AgreesTo k (nth mem 3 + 1) mem
-
--- The ticks of the first k lines do not pass what k lines add up to.
-abbrev pub ShortTo : ℕ → List ℕ → Type 0
-ShortTo k mem =
-    (i c : ℕ) → i < k → c < nth mem 3 + 1
-    → (nth mem (rowAt i + (2 + 3 * c)) ≤ k * lineTicks) × (nth mem (rowAt i + (3 + 3 * c)) ≤ k * lineTicks)

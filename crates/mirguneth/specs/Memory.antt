@@ -3,7 +3,7 @@ use Prim.Native.Nat.{ℕ, zero, suc, _+_, _*_, _/_, _%_, _^_, _<_}
 use mathlib.Core.List.{List, [], _∷_, _++_, map}
 use mathlib.Core.Path.{_≡_}
 use mathlib.Core.Bool.{Bool, _&&_}
-use lib.Dec.{eqb}
+use lib.Dec.{eqb, ltb}
 use lib.ListN.{length, take, drop}
 use Rattle.definitions.specs.Lists.{if_then_else_, nth, any}
 use Rattle.definitions.specs.Limits.{document01}
@@ -18,6 +18,10 @@ edgeCell e = e .from + 256 * e .to + 65536 * e .volume
 -- The edge that a cell holds.
 abbrev pub edgeIn : ℕ → Edge
 edgeIn c = record { from = c % 256; to = c / 256 % 256; volume = c / 65536 }
+
+-- The edge in a cell leads to a task of a greater number.
+abbrev pub rises : ℕ → Bool
+rises c = ltb (edgeIn c .from) (edgeIn c .to)
 
 -- Rows one after another, each with its number in front, counted from k.
 unfoldable pub numbered : ℕ → List (List ℕ) → List ℕ

@@ -9,11 +9,11 @@ use Rattle.definitions.specs.Lists.{if_then_else_, nth, below, keep, any}
 use Rattle.definitions.specs.Limits.{document01}
 use Rattle.definitions.specs.Job.{Edge, Job, incoming}
 use Rattle.definitions.specs.Plan.{Replica}
-use Rattle.definitions.specs.Times.{Time, tick, after, least, largest, Outcome, ready, finish}
+use Rattle.definitions.specs.Times.{Time, tick, after, least, Outcome, ready, finish}
 use Rattle.definitions.specs.Planner.{tickOf, greatestOf, Waiting, waitingFrom, scale, trial, chosen, place, planFor}
 use Rattle.definitions.proofs.Tasks.{copyOf}
 use Rattle.mirguneth.specs.Layout.{levelAt, lineAt, blockedAt, priorityAt, rowAt, farAt}
-use Rattle.mirguneth.specs.Schedule.{jobIn, lineTicks, choiceOf, rowOutcomes, placedIn, rowReplicas, linesIn, topIn, KeptOutside, RowHeld, Standing, LinkedOut, FarFilled, LevelsFilled}
+use Rattle.mirguneth.specs.Schedule.{jobIn, choiceOf, rowOutcomes, placedIn, rowReplicas, linesIn, topIn, KeptOutside, RowHeld, Standing, LinkedOut, FarFilled, LevelsFilled, ShortTo}
 use Rattle.mirguneth.specs.declared.clocks.Clocks.{Clocks}
 
 -- The choice of a task ------------------------------------------------------------------------------------------
@@ -103,8 +103,7 @@ pub record Drawn (k : ℕ) (mem : List ℕ) : Type 0 where
   pub linked : LinkedOut mem
   pub far : FarFilled mem
   pub levels : LevelsFilled mem
-  pub early-tick : (i c : ℕ) → i < k → c < nth mem 3 + 1 → nth mem (rowAt i + (2 + 3 * c)) ≤ k * lineTicks
-  pub late-tick : (i c : ℕ) → i < k → c < nth mem 3 + 1 → nth mem (rowAt i + (3 + 3 * c)) ≤ k * lineTicks
+  pub ticks : ShortTo k mem
   pub rest : linesIn (nth mem 3 + 1) k mem
       ++ place (jobIn mem) (nth mem 3) (nth mem 0 - k) (waitingIn mem) (earliesIn k mem) (latesIn k mem)
       ≡ planFor (jobIn mem) (nth mem 3) .lines
@@ -117,7 +116,7 @@ pub record Ranked (es : List Edge) (mem : List ℕ) : Type 0 where
   pub priorities : (u : ℕ) → u < nth mem 0 → isFree mem u ≡ true
       → nth mem (priorityAt + u) ≡ tickOf (topIn u mem) * scale (jobIn mem) + nth mem (levelAt + u)
 
--- Line k is to be of task t, whose predecessors are placed, and which would finish at these ticks.
+-- Line k is to be of task t, which would finish at these ticks, early and late.
 pub record Tried (k t : ℕ) (early late : List ℕ) (clocks : Clocks) (mem : List ℕ) : Type 0 where
   pub drawn : Drawn k mem
   pub more : k < nth mem 0

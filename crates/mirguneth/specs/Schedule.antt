@@ -145,6 +145,12 @@ pub record Standing (k : ℕ) (mem : List ℕ) : Type 0 where
   pub placed : (t : ℕ) → t < nth mem 0 → (nth mem (lineAt + t) ≡ 0) ⊎ ((i : ℕ) × (i < k) × (nth mem (lineAt + t) ≡ suc i) × (nth mem (rowAt i) ≡ t))
   pub row : (i : ℕ) → i < k → RowHeld (rowAt i) mem
 
+-- The ticks of the first k lines do not pass what k lines add up to.
+abbrev pub ShortTo : ℕ → List ℕ → Type 0
+ShortTo k mem =
+    (i c : ℕ) → i < k → c < nth mem 3 + 1
+    → (nth mem (rowAt i + (2 + 3 * c)) ≤ k * lineTicks) × (nth mem (rowAt i + (3 + 3 * c)) ≤ k * lineTicks)
+
 -- Every predecessor of t has a line.
 abbrev pub FedIn : ℕ → List ℕ → Type 0
 FedIn t mem = (e : Edge) → In e (incoming (jobIn mem) t) → 0 < nth mem (lineAt + e .from)

@@ -6,7 +6,7 @@ ghost use lib.ListN.{length};
 ghost use Rattle.definitions.specs.Lists.{below, keep};
 ghost use Rattle.definitions.specs.Planner.{goesBefore};
 
-// How many of the processors before p go before it: those that do not finish later.
+// How many processors of lower number go before p: those that do not finish later.
 fn rank_below(finishes: &[u32], p: usize) -> u32
     requires { ⌜ (p < length (now finishes)) × (p < 16) ⌝ }
     ensures { λ r. ⌜ (r ≡ length (keep (goesBefore (now (finishes .entry)) p) (below p))) × (r ≤ p) ⌝ }
@@ -23,7 +23,7 @@ fn rank_below(finishes: &[u32], p: usize) -> u32
     n
 }
 
-// How many of the m processors go before p: after those before it, the ones that finish sooner.
+// How many of the m processors go before p: those of lower number, and of the others those that finish sooner.
 fn rank(finishes: &[u32], m: usize, p: usize) -> u32
     requires { ⌜ (m ≤ length (now finishes)) × (m ≤ 16) × (p < m) ⌝ }
     ensures { λ r. ⌜ r ≡ length (keep (goesBefore (now (finishes .entry)) p) (below m)) ⌝ }

@@ -6,7 +6,7 @@ ghost use Prim.Native.Nat.{_≤_};
 ghost use lib.Dec.{ltb};
 ghost use Rattle.definitions.specs.Lists.{any, all, below, empty};
 ghost use Rattle.definitions.specs.Job.{remaining};
-ghost use Rattle.mirguneth.specs.Memory.{edgeIn, Marks, isMarked, stays};
+ghost use Rattle.mirguneth.specs.Memory.{edgeIn, Marks, isMarked, stays, rises};
 
 // The tasks below v are marked.
 fn all_marked(v: usize) -> [u8; 256]
@@ -59,7 +59,7 @@ fn some_marked(marks: &[u8; 256], v: usize) -> bool
 
 // Every edge leads to a task of a greater number, so that there is no circle.
 fn all_rise(edges: &[u64]) -> bool
-    ensures { λ r. ⌜ r ≡ all (λ c. ltb (edgeIn c .from) (edgeIn c .to)) (now (edges .entry)) ⌝ }
+    ensures { λ r. ⌜ r ≡ all rises (now (edges .entry)) ⌝ }
 {
     let mut i = 0;
     while i < edges.len() {

@@ -111,8 +111,8 @@ fn place_task(mem: &mut [u64], delays: &[u16], k: usize, t: usize, clocks: Clock
     after
 }
 
-// The edges that leave t no longer block; a task that becomes free gets its priority and joins the list. The answer is the
-// list's new number.
+// The edges that leave t no longer block; a task that becomes free gets its priority and joins the list. The answer is how many
+// tasks the list then has.
 fn release(mem: &mut [u64], t: usize, free: &mut [u8], count: usize) -> usize
     requires { ⌜ ((k : ℕ) × Drawn k (now mem)) × Ranked (reverse (outgoing (jobIn (now mem)) t)) (now mem) × FreeList (now free) count (now mem) × (t < nth (now mem) 0) ⌝ }
     ensures { λ r. ⌜ KeptOutside blockedAt (rowAt 0) (now (mem .entry)) (now (mem .exit)) × Ranked [] (now (mem .exit)) × FreeList (now (free .exit)) r (now (mem .exit)) ⌝ }

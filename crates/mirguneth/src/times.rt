@@ -268,13 +268,13 @@ fn both_arrivals(
 }
 
 // For each processor an early and a late tick.
-pub struct Pair {
+pub struct Both {
     pub early: [u32; 16],
     pub late: [u32; 16],
 }
 
 // When all data of t is on each processor, by the first replicas and by the last.
-fn both_data(mem: &[u64], delays: &[u16], t: usize) -> Pair
+fn both_data(mem: &[u64], delays: &[u16], t: usize) -> Both
     requires { ⌜ ((k : ℕ) × Standing k (now mem)) × DelayTable (now delays) (now mem) × (t < nth (now mem) 0) × BothFed t (now mem) ⌝ }
     ensures { λ r. ⌜ BothReady t (now (mem .entry)) (r .early) (r .late) ⌝ }
 {
@@ -291,17 +291,17 @@ fn both_data(mem: &[u64], delays: &[u16], t: usize) -> Pair
         both_arrivals(mem, delays, a, (c / 65536) as u16, &mut early, &mut late);
         k = mem[IN_NEXT + (k - 1)] as usize;
     }
-    Pair { early, late }
+    Both { early, late }
 }
 
 // The early and the late finish of t on each processor, if it is ready at the clocks' ticks.
-pub fn finishes(mem: &[u64], delays: &[u16], t: usize, clocks: Clocks) -> Pair
+pub fn finishes(mem: &[u64], delays: &[u16], t: usize, clocks: Clocks) -> Both
     requires { ⌜ ((k : ℕ) × Standing k (now mem)) × DelayTable (now delays) (now mem) × (t < nth (now mem) 0) × BothFed t (now mem) × ShortClocks clocks (now mem) ⌝ }
     ensures { λ r. ⌜ BothFinish t clocks (now (mem .entry)) (r .early) (r .late) ⌝ }
 {
     let m = mem[1] as usize;
     let data = both_data(mem, delays, t);
-    let mut f = Pair {
+    let mut f = Both {
         early: [0; 16],
         late: [0; 16],
     };

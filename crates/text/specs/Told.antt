@@ -1,5 +1,6 @@
 -- What the answers of the leaves mean.
-use Prim.Native.Nat.{ℕ, _+_}
+use mathlib.Core.Path.{_≡_}
+use Prim.Native.Nat.{ℕ, _+_, _≤_}
 use mathlib.Core.List.{List}
 use lib.Dec.{leb}
 use lib.ListN.{length, drop}
@@ -16,10 +17,20 @@ abbrev pub numberTold : List ℕ → Num → Reading ℕ
 numberTold s (Value v next) = found v (drop next s)
 numberTold s Bad = refused 2
 
+-- The place after a number that was read in the text s is in it, or its end.
+abbrev pub Placed : List ℕ → Num → Type 0
+Placed s (Value v next) = next ≤ length s
+Placed s Bad = Unit {0}
+
 -- x was read in the text s, or the refusal.
 abbrev pub told : {A : Type 0} → List ℕ → A → Step → Reading A
 told s x (Next next) = found x (drop next s)
 told s x (Refused n) = refused n
+
+-- The place after what was read is p.
+abbrev pub PlacedAt : ℕ → Step → Type 0
+PlacedAt p (Next next) = next ≡ p
+PlacedAt p (Refused n) = Unit {0}
 
 -- The output d after t was written from `at` on; as it was, if t does not fit.
 abbrev pub written : List ℕ → ℕ → List ℕ → List ℕ

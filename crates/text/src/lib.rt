@@ -5,7 +5,7 @@ ghost use lib.ListN.{length, drop};
 ghost use Rattle.definitions.specs.Limits.{document01};
 ghost use Rattle.definitions.specs.Text.{digits, number, exactly, width, lowDigits, decimal};
 ghost use Rattle.slices.specs.Over.{over};
-ghost use Rattle.text.specs.Told.{numberTold, told, written, placeAfter};
+ghost use Rattle.text.specs.Told.{numberTold, Placed, told, PlacedAt, written, placeAfter};
 
 // A number and the place after it.
 pub enum Num {
@@ -43,6 +43,7 @@ fn wide(x: u8) -> u64
 fn more_digits(s: &[u8], at: usize, room: usize, value: u64) -> Num
     requires { ⌜ (at ≤ length (now s)) × (room ≤ 9) × (value < 10 ^ (10 - room)) ⌝ }
     ensures { λ r. ⌜ numberTold (now (s .entry)) r ≡ digits room value (drop at (now (s .entry))) ⌝ }
+    ensures placed { λ r. ⌜ Placed (now (s .entry)) r ⌝ }
 {
     let mut k = room;
     let mut acc = value;
@@ -68,6 +69,7 @@ fn more_digits(s: &[u8], at: usize, room: usize, value: u64) -> Num
 // The number that stands at `at`.
 pub fn read_number(s: &[u8], at: usize) -> Num
     ensures { λ r. ⌜ numberTold (now (s .entry)) r ≡ number document01 (drop at (now (s .entry))) ⌝ }
+    ensures placed { λ r. ⌜ Placed (now (s .entry)) r ⌝ }
 {
     if s.len() <= at {
         return Num::Bad;
@@ -88,6 +90,7 @@ pub fn read_number(s: &[u8], at: usize) -> Num
 // The place after the fixed bytes `opening`, if they stand at `at`.
 pub fn read_fixed(s: &[u8], at: usize, opening: &[u8]) -> Step
     ensures { λ r. ⌜ told (now (s .entry)) tt r ≡ exactly (now (opening .entry)) (drop at (now (s .entry))) ⌝ }
+    ensures placed { λ r. ⌜ PlacedAt (at + length (now (opening .entry))) r ⌝ }
 {
     let mut i = 0;
     let mut p = at;

@@ -22,13 +22,13 @@ shared-slice-read-d : tie.Need-shared-slice-read-d Inv-loop μ-loop
 shared-slice-read-d c = search needs
 
 returns : tie.Need-returns Inv-loop μ-loop
-returns c = digits-stop _ _ _ _ (c .before .before .loop-test .taken) (digit-low _ (c .if1 .taken)) ∙ c .before .before .before .loop .inv .3
+returns c = (digits-stop _ _ _ _ (c .before .before .loop-test .taken) (digit-low _ (c .if1 .taken)) ∙ c .before .before .before .loop .inv .3, c .before .before .before .loop .inv .0)
 
 returns-2 : tie.Need-returns-2 Inv-loop μ-loop
-returns-2 c = digits-stop _ _ _ _ (c .before .before .before .loop-test .taken) (digit-high _ (c .if2 .taken)) ∙ c .before .before .before .before .loop .inv .3
+returns-2 c = (digits-stop _ _ _ _ (c .before .before .before .loop-test .taken) (digit-high _ (c .if2 .taken)) ∙ c .before .before .before .before .loop .inv .3, c .before .before .before .before .loop .inv .0)
 
 returns-3 : tie.Need-returns-3 Inv-loop μ-loop
-returns-3 c = digits-full _ _ _ _ (c .before .before .before .before .loop-test .taken) (digit-yes _ (c .before .before .if1 .left) (c .before .if2 .left)) (c .if3 .taken) ∙ c .before .before .before .before .before .loop .inv .3
+returns-3 c = (digits-full _ _ _ _ (c .before .before .before .before .loop-test .taken) (digit-yes _ (c .before .before .if1 .left) (c .before .if2 .left)) (c .if3 .taken) ∙ c .before .before .before .before .before .loop .inv .3, tt)
 
 sub-k : tie.Need-sub-k Inv-loop μ-loop
 sub-k c = search needs
@@ -57,7 +57,7 @@ loop-again c = (
 )
 
 returns-4 : tie.Need-returns-4 Inv-loop μ-loop
-returns-4 c = digits-end _ _ _ _ (c .loop-test .left) ∙ c .before .loop .inv .3
+returns-4 c = (digits-end _ _ _ _ (c .loop-test .left) ∙ c .before .loop .inv .3, c .before .loop .inv .0)
 
 pub more-digits-spec : {M : Type 1} → statement M
 more-digits-spec =

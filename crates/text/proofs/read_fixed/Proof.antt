@@ -1,6 +1,6 @@
 -- The bytes left to compare give the whole answer.
 use mathlib.Core.Path.{_≡_, refl, _∙_}
-use Prim.Native.Nat.{_≤_, _-_}
+use Prim.Native.Nat.{_≤_, _-_, _+_}
 use native.Mathlib.Omega.{arith}
 use borrow.Author.Needs.{needs}
 use lib.ListN.{length, drop}
@@ -10,16 +10,16 @@ use Rattle.text.proofs.read_fixed.Statement.{statement}
 use Rattle.text.proofs.read_fixed.Tie as tie
 
 abbrev Inv-loop : tie.InvT-loop
-Inv-loop s at opening i₀ p₀ i p = (i ≤ length opening) × (exactly (drop i opening) (drop p s) ≡ exactly opening (drop at s))
+Inv-loop s at opening i₀ p₀ i p = (i ≤ length opening) × (p ≡ at + i) × (exactly (drop i opening) (drop p s) ≡ exactly opening (drop at s))
 
 abbrev μ-loop : tie.MeasureT-loop
 μ-loop s at opening i₀ p₀ i p = length opening - i
 
 loop-holds : tie.Need-loop-holds Inv-loop μ-loop
-loop-holds c = (search needs, refl)
+loop-holds c = (search needs, omega arith, refl)
 
 returns : tie.Need-returns Inv-loop μ-loop
-returns c = fixed-end _ _ _ _ (c .before .loop-test .taken) (c .if1 .taken) ∙ c .before .before .loop .inv .1
+returns c = (fixed-end _ _ _ _ (c .before .loop-test .taken) (c .if1 .taken) ∙ c .before .before .loop .inv .2, tt)
 
 shared-slice-read-if2 : tie.Need-shared-slice-read-if2 Inv-loop μ-loop
 shared-slice-read-if2 c = search needs
@@ -28,7 +28,7 @@ shared-slice-read-if2-2 : tie.Need-shared-slice-read-if2-2 Inv-loop μ-loop
 shared-slice-read-if2-2 c = search needs
 
 returns-2 : tie.Need-returns-2 Inv-loop μ-loop
-returns-2 c = fixed-no _ _ _ _ (c .before .before .before .before .loop-test .taken) (c .before .before .before .if1 .left) (λ e. omega arith) ∙ c .before .before .before .before .before .loop .inv .1
+returns-2 c = (fixed-no _ _ _ _ (c .before .before .before .before .loop-test .taken) (c .before .before .before .if1 .left) (λ e. omega arith) ∙ c .before .before .before .before .before .loop .inv .2, tt)
 
 add-i : tie.Need-add-i Inv-loop μ-loop
 add-i c = search needs
@@ -40,10 +40,10 @@ loop-less : tie.Need-loop-less Inv-loop μ-loop
 loop-less c = search needs
 
 loop-again : tie.Need-loop-again Inv-loop μ-loop
-loop-again c = (search needs, fixed-yes _ _ _ _ (c .before .before .before .before .loop-test .taken) (c .before .before .before .if1 .left) (omega arith) ∙ c .before .before .before .before .before .loop .inv .1)
+loop-again c = (search needs, omega (arith, c .before .before .before .before .before .loop .inv .1), fixed-yes _ _ _ _ (c .before .before .before .before .loop-test .taken) (c .before .before .before .if1 .left) (omega arith) ∙ c .before .before .before .before .before .loop .inv .2)
 
 returns-3 : tie.Need-returns-3 Inv-loop μ-loop
-returns-3 c = fixed-done (c .before .before .args .s .now) _ _ (c .before .loop .p) (c .loop-test .left) ∙ c .before .loop .inv .1
+returns-3 c = (fixed-done (c .before .before .args .s .now) _ _ (c .before .loop .p) (c .loop-test .left) ∙ c .before .loop .inv .2, omega (arith, c .loop-test .left, c .before .loop .inv))
 
 pub read-fixed-spec : {M : Type 1} → statement M
 read-fixed-spec =

@@ -6,16 +6,16 @@ use Rattle.text.proofs.read_number.Statement.{statement}
 use Rattle.text.proofs.read_number.Tie as tie
 
 returns : tie.Need-returns
-returns c = number-end _ _ _ (c .if1 .taken)
+returns c = (number-end _ _ _ (c .if1 .taken), tt)
 
 shared-slice-read-b : tie.Need-shared-slice-read-b
 shared-slice-read-b c = search needs
 
 returns-2 : tie.Need-returns-2
-returns-2 c = number-no _ _ _ (c .before .before .if1 .left) (digit-low _ (c .if2 .taken))
+returns-2 c = (number-no _ _ _ (c .before .before .if1 .left) (digit-low _ (c .if2 .taken)), tt)
 
 returns-3 : tie.Need-returns-3
-returns-3 c = number-no _ _ _ (c .before .before .before .if1 .left) (digit-high _ (c .if3 .taken))
+returns-3 c = (number-no _ _ _ (c .before .before .before .if1 .left) (digit-high _ (c .if3 .taken)), tt)
 
 add-more-digits : tie.Need-add-more-digits
 add-more-digits c = search needs
@@ -24,7 +24,7 @@ more-digits-requires : tie.Need-more-digits-requires
 more-digits-requires c κs = search needs
 
 returns-4 : tie.Need-returns-4
-returns-4 c = c .more-digits .ensures ∙ number-zero _ _ _ (c .before .before .before .before .before .if1 .left) (digit-yes _ (c .before .before .before .if2 .left) (c .before .before .if3 .left)) (c .before .if4 .taken)
+returns-4 c = (c .more-digits .ensures .0 ∙ number-zero _ _ _ (c .before .before .before .before .before .if1 .left) (digit-yes _ (c .before .before .before .if2 .left) (c .before .before .if3 .left)) (c .before .if4 .taken), c .more-digits .ensures .1)
 
 add-more-digits-2 : tie.Need-add-more-digits-2
 add-more-digits-2 c = search needs
@@ -36,9 +36,11 @@ more-digits-requires-2 : tie.Need-more-digits-requires-2
 more-digits-requires-2 c κs = search needs
 
 returns-5 : tie.Need-returns-5
-returns-5 c =
-    c .more-digits2 .ensures
-    ∙ rw (c .before .wide .ensures) (number-more _ _ _ (c .before .before .before .before .before .before .if1 .left) (digit-yes _ (c .before .before .before .before .if2 .left) (c .before .before .before .if3 .left)) (c .before .before .if4 .left))
+returns-5 c = (
+  c .more-digits2 .ensures .0
+      ∙ rw (c .before .wide .ensures) (number-more _ _ _ (c .before .before .before .before .before .before .if1 .left) (digit-yes _ (c .before .before .before .before .if2 .left) (c .before .before .before .if3 .left)) (c .before .before .if4 .left)),
+  c .more-digits2 .ensures .1,
+)
 
 pub read-number-spec : {M : Type 1} → statement M
 read-number-spec =

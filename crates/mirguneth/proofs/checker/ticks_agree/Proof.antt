@@ -4,7 +4,8 @@ use Prim.Native.Nat.{ℕ, _≤_, _<_, _-_}
 use native.Mathlib.Omega.{arith}
 use borrow.Author.Needs.{needs}
 use mathlib.Core.Bool.{false≢true}
-use Rattle.mirguneth.specs.Checking.{ClocksAfter, LineAgrees, ShortTo}
+use Rattle.mirguneth.specs.Schedule.{ShortTo}
+use Rattle.mirguneth.specs.Checking.{ClocksAfter, LineAgrees}
 use Rattle.mirguneth.proofs.Held.{sizes}
 use Rattle.mirguneth.proofs.AgreeLaws.{clocks-new, ticks-yes, ticks-no, agreed-next}
 use Rattle.mirguneth.proofs.checker.ticks_agree.Statement.{statement}

@@ -4,7 +4,8 @@ use borrow.Author.Needs.{needs}
 use borrow.Author.Tests.{lt-ltb, le-ltb}
 use lib.ListN.{length, drop, drop-of-length-le}
 use Rattle.definitions.specs.Lists.{all}
-use Rattle.mirguneth.proofs.MarkLaws.{rises, all-drop}
+use Rattle.mirguneth.specs.Memory.{rises}
+use Rattle.mirguneth.proofs.MarkLaws.{all-drop}
 use Rattle.mirguneth.proofs.circle.all_rise.Statement.{statement}
 use Rattle.mirguneth.proofs.circle.all_rise.Tie as tie
 

@@ -26,10 +26,10 @@ same-length : tie.Need-same-length
 same-length c = search needs
 
 returns : tie.Need-returns
-returns c = c .before .before .read-numbers .ensures ∙ line-open _ _ _ _ _ (sym (c .before .before .before .before .before .before .before .read-fixed .ensures) ∙ ap (told (c .before .before .before .before .before .before .before .before .before .before .before .args .s .now) tt) (c .before .before .before .before .before .p .given .1))
+returns c = c .before .before .read-numbers .ensures ∙ line-open _ _ _ _ _ (sym (c .before .before .before .before .before .before .before .read-fixed .ensures .0) ∙ ap (told (c .before .before .before .before .before .before .before .before .before .before .before .args .s .now) tt) (c .before .before .before .before .before .p .given .1))
 
 returns-2 : tie.Need-returns-2
-returns-2 c = line-no _ _ _ _ _ (sym (c .before .before .before .read-fixed .ensures) ∙ ap (told (c .before .before .before .before .before .before .before .args .s .now) tt) (c .before .n .given .1))
+returns-2 c = line-no _ _ _ _ _ (sym (c .before .before .before .read-fixed .ensures .0) ∙ ap (told (c .before .before .before .before .before .before .before .args .s .now) tt) (c .before .n .given .1))
 
 pub line-at-spec : {M : Type 1} → statement M
 line-at-spec =

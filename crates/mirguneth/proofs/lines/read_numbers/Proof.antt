@@ -41,7 +41,7 @@ same-length c = search needs
 returns : tie.Need-returns Inv-loop μ-loop
 returns c =
     let l = c .before .before .before .before .loop in
-    numbers-bad document01 (c .before .before .before .before .before .before .before .args .s .now) (take (l .i) (l .vals)) _ (l .i) (l .p) (c .before .before .before .loop-test .taken) (sym (c .before .before .read-number .ensures) ∙ ap (numberTold _) (c .enum-told .given .1)) ∙ l .inv .2
+    numbers-bad document01 (c .before .before .before .before .before .before .before .args .s .now) (take (l .i) (l .vals)) _ (l .i) (l .p) (c .before .before .before .loop-test .taken) (sym (c .before .before .read-number .ensures .0) ∙ ap (numberTold _) (c .enum-told .given .1)) ∙ l .inv .2
 
 mul-vals : tie.Need-mul-vals Inv-loop μ-loop
 mul-vals c = search needs
@@ -71,7 +71,7 @@ loop-again : tie.Need-loop-again Inv-loop μ-loop
 loop-again c =
     let s = c .before .before .before .before .before .before .before .before .before .before .before .before .before .args .s .now in
     let l = c .before .before .before .before .before .before .before .before .before .before .loop in
-    let e = sym (c .before .before .before .before .before .before .before .before .read-number .ensures) ∙ ap (numberTold s) (c .before .before .before .before .before .before .v .given .1) in
+    let e = sym (c .before .before .before .before .before .before .before .before .read-number .ensures .0) ∙ ap (numberTold s) (c .before .before .before .before .before .before .v .given .1) in
     let f = rw (c .before .before .before .before .mark-after .ensures) at (sym (c .before .before .before .read-byte .ensures) ∙ ap (told s tt) (c .before .after .given .1)) in (
       search needs,
       search needs,
@@ -88,7 +88,7 @@ returns-2 : tie.Need-returns-2 Inv-loop μ-loop
 returns-2 c =
     let s = c .before .before .before .before .before .before .before .before .before .before .before .before .before .args .s .now in
     let l = c .before .before .before .before .before .before .before .before .before .before .loop in
-    let e = sym (c .before .before .before .before .before .before .before .before .read-number .ensures) ∙ ap (numberTold s) (c .before .before .before .before .before .before .v .given .1) in
+    let e = sym (c .before .before .before .before .before .before .before .before .read-number .ensures .0) ∙ ap (numberTold s) (c .before .before .before .before .before .before .v .given .1) in
     let f = rw (c .before .before .before .before .mark-after .ensures) at (sym (c .before .before .before .read-byte .ensures) ∙ ap (told s tt) (c .before .n .given .1)) in
     numbers-no document01 s (take (l .i) (l .vals)) _ (l .i) (l .p) _ (c .before .before .before .before .before .before .v .given .0 .1 .0) (c .before .before .before .before .before .before .before .before .before .loop-test .taken) e _ f ∙ l .inv .2
 

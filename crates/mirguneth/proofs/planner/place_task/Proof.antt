@@ -5,6 +5,7 @@ use native.Mathlib.Omega.{arith}
 use borrow.Author.Needs.{needs}
 use lib.ListN.{length, length-set}
 use Rattle.mirguneth.proofs.Held.{sizes}
+use Rattle.mirguneth.proofs.Placed.{fed-all}
 use Rattle.mirguneth.proofs.Drawing.{clocks-short, fed-short, task-below, task-fed}
 use Rattle.mirguneth.proofs.NextLine.{laid, laid-kept, tried, taken, drawn-next, ranked-next, clocks-next}
 use Rattle.mirguneth.proofs.planner.place_task.Statement.{statement}
@@ -22,7 +23,7 @@ finishes-requires c κs =
     let s = c .before .before .before in
     let p = s .pre in
     let t = s .args .t in
-    ((s .args .k, p .1 .standing), p .0, task-below (p .1) (p .3) (p .2) t (p .4), fed-short (p .1) t (task-fed (p .1) (p .3) (p .2) t (p .4)), clocks-short (p .1) (p .5))
+    ((s .args .k, p .1 .standing), p .0, task-below (p .1) (p .3) (p .2) t (p .4), fed-short (p .1 .standing) (omega arith) (p .1 .ticks) t (fed-all (p .1 .standing) t (task-fed (p .1) (p .3) (p .2) t (p .4))), clocks-short (p .1 .standing) (omega arith) (p .1 .ticks) (p .5))
 
 fill-line-requires : tie.Need-fill-line-requires
 fill-line-requires c κs = let s = c .before .before .before .before .before .before .before in let p = s .pre in tried (p .1) (p .3) (p .2) (s .args .t) (p .4) (p .5) (c .before .before .before .finishes .ensures)
