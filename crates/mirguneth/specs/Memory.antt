@@ -55,7 +55,7 @@ ruleOf Delays = delayRule document01
 abbrev pub pairBit : List ℕ → ℕ → ℕ → ℕ
 pairBit table a b = nth table (a * 32 + b / 8) / 2 ^ (b % 8) % 2
 
--- It is 1 if one of the edges goes from a to b, else 0.
+-- The table of the pairs of some edges: the bit of a and b is 1 if one of them goes from a to b, else 0.
 pub record Pairs (es : List Edge) (table : List ℕ) : Type 0 where
   pub size : length table ≡ 8192
   pub holds : (a b : ℕ) → a < 256 → b < 256 → pairBit table a b ≡ (if any (λ d. eqb (d .from) a && eqb (d .to) b) es then 1 else 0)

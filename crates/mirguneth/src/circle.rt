@@ -1,4 +1,4 @@
-// Whether the edges form a circle: tasks that none of the rest precedes are taken away, round by round.
+// Whether the edges form a circle: not if each rises; else tasks that none of the rest precedes are taken away, round by round.
 ghost use mathlib.Core.Path.{_≡_};
 ghost use mathlib.Core.List.{map};
 ghost use mathlib.Core.Bool.{not};
