@@ -50,7 +50,7 @@ module _ (s d mem : List ℕ) (n : ℕ) where
   unfolding jobAnswer
   answer-done h g =
       let (j, e, l, f) = loaded-next (readJob document01 s) mem n h in
-      rw (e, ← l, le-ltb (length d) n g, f) (ap Done l, refl)
+      rw (e, ← l, le-ltb (length d) n g, f) (ap good l, refl)
 
 -- What a good answer wrote fits the output.
 pub done-fits : {A : Type 0} (x : Result A) (f : A → List ℕ) (room : ℕ) (d e : List ℕ) (n : ℕ) → Answered (andThen x (λ a. fitting room (f a))) d e (Done n) → n ≤ room

@@ -4,6 +4,7 @@ pub mod ReaderLaws
 pub mod RowLaws
 pub mod MarkLaws
 pub mod EdgeLaws
+pub mod Answers
 pub mod AnswerLaws
 pub mod CellLaws
 pub mod StageLaws

@@ -10,6 +10,7 @@ use lib.ListN.{length, set, length-set}
 use lib.Seq.{getD-set-same, getD-set-other}
 use Rattle.definitions.specs.Lists.{nth}
 use Rattle.definitions.specs.Limits.{document01}
+use Rattle.definitions.specs.Text.{good}
 use Rattle.definitions.specs.Job.{readJob}
 use Rattle.definitions.specs.Plan.{Plan, planText}
 use Rattle.definitions.specs.Times.{end}
@@ -155,7 +156,7 @@ module _ {d mem : List ℕ} (h : JobHeld d) (k : KeptOutside inHeadAt memorySize
           → z ≡ over out 0 (planText document01 (jobIn complete) (planIn complete)) → Answered (fitting (length out) (planned document01 (jobIn d))) out z (Done r)
       put-done l r z q o =
           rw (le-ltb (length out) (length (planned document01 (jobIn d))) (omega (arith, ap length text-is)))
-          (ap Done (q ∙ ap length text-is), o ∙ ap (over out 0) text-is)
+          (ap good (q ∙ ap length text-is), o ∙ ap (over out 0) text-is)
 
 -- The job's text was refused, or loaded.
 module _ (s mem d : List ℕ) (n : ℕ) where

@@ -118,7 +118,7 @@ module _ {d e cells : List ℕ} (h : PlanHeld d) (r : RoundRun cells d e) where
     unfolding replayIn
     run-done l m z a o =
         let (ss, f, i) = stops-read (readStops document01 (jobIn d) stops) cells k g in
-        rw (f, ← run-text ss i, le-ltb (length out) (length (replayText document01 (jobIn e) (outcomesIn e))) (omega arith)) (ap Done a, o)
+        rw (f, ← run-text ss i, le-ltb (length out) (length (replayText document01 (jobIn e) (outcomesIn e))) (omega arith)) (ap good a, o)
 
 pub run-refused : (d cells stops out : List ℕ) (n : ℕ) → StopsLoaded (readStops document01 (jobIn d) stops) cells (Refused n)
     → Answered (replayIn d stops (length out)) out out (Refusal n)

@@ -1,7 +1,7 @@
 -- What the public functions' answers mean: document 01's numbers and values.
 use Prim.Native.Nat.{ℕ}
 use mathlib.Core.Path.{_≡_}
-use mathlib.Core.List.{List}
+use mathlib.Core.List.{List, [], _∷_}
 use lib.ListN.{length, take}
 use Rattle.definitions.specs.Limits.{document01}
 use Rattle.definitions.specs.Text.{Result, good, bad, andThen}
@@ -10,18 +10,29 @@ use Rattle.definitions.specs.Lists.{In}
 use Rattle.definitions.specs.Tools.{fitting, Verdict, accepted, doubled, rejected}
 use Rattle.slices.specs.Over.{over}
 use Rattle.text.specs.declared.Step.{Step}
-use Rattle.text.specs.declared.Step.the-variants.{Next, Refused}
+use Rattle.text.specs.Told.{stepTold}
 use Rattle.mirguneth.specs.Memory.{jobCells}
 use Rattle.mirguneth.specs.declared.Answer.{Answer}
 use Rattle.mirguneth.specs.declared.Answer.the-variants.{Done, Refusal}
 use Rattle.mirguneth.specs.declared.Checked.{Checked}
 use Rattle.mirguneth.specs.declared.Checked.the-variants as Checked
 
+-- Document 01's number and values for each case of an answer: how many cells or bytes were written, or the number of the refusal.
+abbrev pub resultOf : Answer → Result ℕ
+resultOf (Done n) = good n
+resultOf (Refusal n) = bad n
+
+-- Document 01's number and values for each case of the checker's answer: none if the plan is accepted; with 12 the task.
+abbrev pub refusalOf : Checked → List ℕ
+refusalOf Checked.Accepted = []
+refusalOf (Checked.Doubled t) = 12 ∷ t ∷ []
+refusalOf (Checked.Refused n) = n ∷ []
+
 -- The answer r, and what the output holds after it, e, if it held d: on a good answer its cells or bytes stand at the
 -- front and the rest is untouched; on a refusal all of it is untouched.
 abbrev pub Answered : Result (List ℕ) → List ℕ → List ℕ → Answer → Type 0
-Answered (good t) d e r = (r ≡ Done (length t)) × (e ≡ over d 0 t)
-Answered (bad n) d e r = (r ≡ Refusal n) × (e ≡ d)
+Answered (good t) d e r = (resultOf r ≡ good (length t)) × (e ≡ over d 0 t)
+Answered (bad n) d e r = (resultOf r ≡ bad n) × (e ≡ d)
 
 -- The reader of jobs: the job's cells, or the number. The job, then 8.
 unfoldable pub jobAnswer : List ℕ → ℕ → Result (List ℕ)
@@ -29,11 +40,11 @@ jobAnswer text room = andThen (readJob document01 text) (λ j. fitting room (job
 
 -- The job that was read stands at the front of a memory, and its number of cells is the answer; or the refusal.
 abbrev pub Loaded : Result Job → List ℕ → Step → Type 0
-Loaded (good j) mem r = (r ≡ Next (length (jobCells j))) × (take (length (jobCells j)) mem ≡ jobCells j)
-Loaded (bad n) mem r = r ≡ Refused n
+Loaded (good j) mem r = (stepTold r ≡ good (length (jobCells j))) × (take (length (jobCells j)) mem ≡ jobCells j)
+Loaded (bad n) mem r = stepTold r ≡ bad n
 
 -- The checker's answer r: with 12 one of the tasks of which it is true.
 abbrev pub Judged : Verdict → Checked → Type 0
-Judged accepted r = r ≡ Checked.Accepted
-Judged (doubled ts) r = (t : ℕ) × (r ≡ Checked.Doubled t) × In t ts
-Judged (rejected n) r = r ≡ Checked.Refused n
+Judged accepted r = refusalOf r ≡ []
+Judged (doubled ts) r = (t : ℕ) × (refusalOf r ≡ 12 ∷ t ∷ []) × In t ts
+Judged (rejected n) r = refusalOf r ≡ n ∷ []

@@ -22,6 +22,7 @@ use Rattle.definitions.proofs.Tasks.{in-task}
 use Rattle.definitions.proofs.Reading.{andThen-good, job-facts, plan-facts}
 use Rattle.mirguneth.specs.Answers.{Answered}
 use Rattle.mirguneth.specs.declared.Answer.the-variants.{Done}
+use Rattle.mirguneth.proofs.Answers.{answered-done}
 
 -- Lines ---------------------------------------------------------------------------------------------------------------
 
@@ -139,8 +140,4 @@ module _ (job plan stops : List ℕ) where
       by (bad n) e = refl
 
   pub done-most : (d e : List ℕ) (n : ℕ) → Answered (replayed document01 job plan stops) d e (Done n) → n ≤ 5113
-  done-most d e n h = by (replayed document01 job plan stops) refl h
-    where
-      by : (x : Result (List ℕ)) → replayed document01 job plan stops ≡ x → Answered x d e (Done n) → n ≤ 5113
-      by (good t) q (a, _) = let z : n ≡ length t = cc in omega (arith, replay-most t q)
-      by (bad k) q (a, _) = absurd (let z : _≡_ {A = ℕ} 0 1 = cc in omega arith)
+  done-most d e n h = let (t, q, l, _) = answered-done (replayed document01 job plan stops) d e n h in omega (arith, replay-most t q)

@@ -5,7 +5,7 @@ use mathlib.Core.List.{List}
 use lib.Dec.{leb}
 use lib.ListN.{length, drop}
 use Rattle.definitions.specs.Lists.{if_then_else_}
-use Rattle.definitions.specs.Text.{Reading, found, refused}
+use Rattle.definitions.specs.Text.{Reading, found, refused, Result, good, bad}
 use Rattle.slices.specs.Over.{over}
 use Rattle.text.specs.declared.Num.{Num}
 use Rattle.text.specs.declared.Num.the-variants.{Value, Bad}
@@ -26,6 +26,11 @@ Placed s Bad = Unit {0}
 abbrev pub told : {A : Type 0} → List ℕ → A → Step → Reading A
 told s x (Next next) = found x (drop next s)
 told s x (Refused n) = refused n
+
+-- Document 01's number and values for each case of a step: the place after what was read, or the number of the refusal.
+abbrev pub stepTold : Step → Result ℕ
+stepTold (Next next) = good next
+stepTold (Refused n) = bad n
 
 -- The place after what was read is p.
 abbrev pub PlacedAt : ℕ → Step → Type 0

@@ -1,0 +1,36 @@
+-- What a caller learns from an answer: each case is that of the definitions, with their number and values.
+use mathlib.Core.Path.{_≡_, refl}
+use mathlib.Core.List.{List}
+use Prim.Native.Nat.{ℕ}
+use native.Mathlib.Omega.{arith}
+use lib.ListN.{length}
+use Rattle.definitions.specs.Lists.{In}
+use Rattle.definitions.specs.Text.{Result, good, bad}
+use Rattle.definitions.specs.Tools.{Verdict, accepted, doubled, rejected}
+use Rattle.slices.specs.Over.{over}
+use Rattle.mirguneth.specs.Answers.{Answered, Judged}
+use Rattle.mirguneth.specs.declared.Answer.the-variants.{Done, Refusal}
+use Rattle.mirguneth.specs.declared.Checked.the-variants.{Accepted, Doubled, Refused}
+
+pub answered-done : (x : Result (List ℕ)) (d e : List ℕ) (n : ℕ) → Answered x d e (Done n) → (t : List ℕ) × (x ≡ good t) × (n ≡ length t) × (e ≡ over d 0 t)
+answered-done (good t) d e n (r, f) = (t, refl, cc, f)
+answered-done (bad k) d e n (r, _) = absurd (let z : _≡_ {A = ℕ} 0 1 = cc in omega arith)
+
+pub answered-refused : (x : Result (List ℕ)) (d e : List ℕ) (n : ℕ) → Answered x d e (Refusal n) → (x ≡ bad n) × (e ≡ d)
+answered-refused (good t) d e n (r, _) = absurd (let z : _≡_ {A = ℕ} 0 1 = cc in omega arith)
+answered-refused (bad k) d e n (r, f) = (cc, f)
+
+pub judged-accepted : (x : Verdict) → Judged x Accepted → x ≡ accepted
+judged-accepted accepted r = refl
+judged-accepted (doubled ts) (t, r, _) = absurd (let z : _≡_ {A = ℕ} 0 1 = cc in omega arith)
+judged-accepted (rejected k) r = absurd (let z : _≡_ {A = ℕ} 0 1 = cc in omega arith)
+
+pub judged-doubled : (x : Verdict) (n : ℕ) → Judged x (Doubled n) → (ts : List ℕ) × (x ≡ doubled ts) × In n ts
+judged-doubled accepted n r = absurd (let z : _≡_ {A = ℕ} 0 1 = cc in omega arith)
+judged-doubled (doubled ts) n (t, r, i) = let l : n ≡ t = cc in (ts, refl, rw l i)
+judged-doubled (rejected k) n r = absurd (let z : _≡_ {A = ℕ} 0 1 = cc in omega arith)
+
+pub judged-refused : (x : Verdict) (n : ℕ) → Judged x (Refused n) → x ≡ rejected n
+judged-refused accepted n r = absurd (let z : _≡_ {A = ℕ} 0 1 = cc in omega arith)
+judged-refused (doubled ts) n (t, r, _) = absurd (let z : _≡_ {A = ℕ} 0 1 = cc in omega arith)
+judged-refused (rejected k) n r = cc
