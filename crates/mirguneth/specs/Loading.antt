@@ -10,7 +10,7 @@ use Rattle.definitions.specs.Plan.{Line, Plan, readPlan}
 use Rattle.definitions.specs.Stops.{Stop}
 use Rattle.definitions.specs.Times.{stopTime}
 use Rattle.text.specs.declared.Step.{Step}
-use Rattle.text.specs.declared.Step.the-variants.{Next, Refused}
+use Rattle.text.specs.Told.{stepTold}
 use Rattle.mirguneth.specs.Layout.{bestAt, worstAt}
 use Rattle.mirguneth.specs.Schedule.{jobIn, rowReplicas, linesIn, timeIn, Small, LinkedOut, Standing}
 
@@ -24,8 +24,8 @@ planIn mem = record { best = nth mem bestAt; worst = nth mem worstAt; lines = li
 
 -- The plan that was read stands in the memory, each line in its row; or the refusal.
 abbrev pub PlanLoaded : Result Plan → List ℕ → Step → Type 0
-PlanLoaded (good p) mem r = ((n : ℕ) × (r ≡ Next n)) × (planIn mem ≡ p) × Standing (nth mem 0) mem
-PlanLoaded (bad n) mem r = r ≡ Refused n
+PlanLoaded (good p) mem r = ((n : ℕ) × (stepTold r ≡ good n)) × (planIn mem ≡ p) × Standing (nth mem 0) mem
+PlanLoaded (bad n) mem r = stepTold r ≡ bad n
 
 -- A job's text, then a plan's for that job.
 unfoldable pub readBoth : List ℕ → List ℕ → Result (Job × Plan)
@@ -33,10 +33,10 @@ readBoth job plan = andThen (readJob document01 job) λ j. andThen (readPlan doc
 
 -- The job and the plan that were read stand in one memory, with all links between edges; or the refusal.
 abbrev pub BothLoaded : Result (Job × Plan) → List ℕ → Step → Type 0
-BothLoaded (good (j, p)) mem r = ((n : ℕ) × (r ≡ Next n)) × (jobIn mem ≡ j) × (planIn mem ≡ p) × Standing (nth mem 0) mem × LinkedOut mem
-BothLoaded (bad n) mem r = r ≡ Refused n
+BothLoaded (good (j, p)) mem r = ((n : ℕ) × (stepTold r ≡ good n)) × (jobIn mem ≡ j) × (planIn mem ≡ p) × Standing (nth mem 0) mem × LinkedOut mem
+BothLoaded (bad n) mem r = stepTold r ≡ bad n
 
 -- The stop tick of each processor is in its cell, never for one that does not stop; or the refusal.
 abbrev pub StopsLoaded : Result (List Stop) → List ℕ → Step → Type 0
-StopsLoaded (good ss) cells r = ((n : ℕ) × (r ≡ Next n)) × ((p : ℕ) → p < 16 → (timeIn (nth cells p) ≡ stopTime ss p) × Small (document01 .tick) (nth cells p))
-StopsLoaded (bad n) cells r = r ≡ Refused n
+StopsLoaded (good ss) cells r = ((n : ℕ) × (stepTold r ≡ good n)) × ((p : ℕ) → p < 16 → (timeIn (nth cells p) ≡ stopTime ss p) × Small (document01 .tick) (nth cells p))
+StopsLoaded (bad n) cells r = stepTold r ≡ bad n
