@@ -49,10 +49,10 @@ pub extern "C" fn mirguneth_replay(
     ensures { λ r. ⌜ Bears (now (job .entry)) (now (plan .entry)) (now (stops .entry)) ⌝ }
 {
     match mirguneth::replay(job, plan, stops, out) {
-        Answer::Done(n) => {
-            *written = n as u64;
+        Answer::Done(k) => {
+            *written = k as u64;
             0
         }
-        Answer::Refusal(x) => x,
+        Answer::Refusal(y) => y,
     }
 }
