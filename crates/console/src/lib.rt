@@ -1,6 +1,11 @@
 // What the three programs share: a file's bytes, and the line of a refusal.
+ghost use mathlib.Core.List.{[], _∷_};
+ghost use mathlib.Core.Path.{_≡_};
+ghost use Rattle.definitions.specs.Limits.{document01};
+ghost use Rattle.definitions.specs.Lists.{bytes};
+ghost use Rattle.definitions.specs.Text.{lineText};
 ghost use Rattle.io.specs.Counts.{Counts};
-use libc::STDOUT_FILENO;
+ghost use Rattle.text.specs.Told.{placeAfter, written};
 
 // What the file holds, from the start of buf on, and how many bytes; 0 if it cannot be opened.
 pub fn load(path: &[u8], buf: &mut [u8]) -> usize
@@ -15,9 +20,35 @@ pub fn load(path: &[u8], buf: &mut [u8]) -> usize
     n
 }
 
-// `N,` and the number of a refusal.
-pub fn refuse(x: u64) {
-    io::write_all(STDOUT_FILENO, b"N,");
-    io::print_decimal(STDOUT_FILENO, x);
-    io::write_all(STDOUT_FILENO, b"\n");
+// A line of one number, written at the front of `out`, if it fits. The answer is its length, or 0.
+fn write_line(out: &mut [u8], opening: &[u8], n: u64) -> usize
+    ensures { λ r. ⌜ r ≡ placeAfter (now (out .entry)) 0 (lineText document01 (now (opening .entry)) (n ∷ [])) ⌝ }
+    ensures holds { λ r. ⌜ now (out .exit) ≡ written (now (out .entry)) 0 (lineText document01 (now (opening .entry)) (n ∷ [])) ⌝ }
+{
+    let d = text::width_of(n);
+    if out.len() < opening.len() {
+        return 0;
+    }
+    if out.len() - opening.len() <= d {
+        return 0;
+    }
+    let a = text::write_fixed(out, 0, opening);
+    let b = text::write_number(out, a, n);
+    text::write_fixed(out, b, b"\n")
+}
+
+// `N,` and the number of a refusal, a line at the front of `out`, if it fits. The answer is its length, or 0.
+pub fn write_refusal(out: &mut [u8], x: u64) -> usize
+    ensures { λ r. ⌜ r ≡ placeAfter (now (out .entry)) 0 (lineText document01 (bytes "N,") (x ∷ [])) ⌝ }
+    ensures holds { λ r. ⌜ now (out .exit) ≡ written (now (out .entry)) 0 (lineText document01 (bytes "N,") (x ∷ [])) ⌝ }
+{
+    write_line(out, b"N,", x)
+}
+
+// `N,12,` and the task, the same way.
+pub fn write_doubled(out: &mut [u8], task: u64) -> usize
+    ensures { λ r. ⌜ r ≡ placeAfter (now (out .entry)) 0 (lineText document01 (bytes "N,") (12 ∷ task ∷ [])) ⌝ }
+    ensures holds { λ r. ⌜ now (out .exit) ≡ written (now (out .entry)) 0 (lineText document01 (bytes "N,") (12 ∷ task ∷ [])) ⌝ }
+{
+    write_line(out, b"N,12,", task)
 }

@@ -153,16 +153,20 @@ module _ (l : Limits) (j : Job) (facts : JobFacts l j) where
           ticks-most = λ n i r k. omega (arith, ticks-within l j facts own own-ordered own-count own-due n i r k);
         }
 
-    own-read : readPlan l j (planned l j) ≡ good own
+    pub own-fits : length (planned l j) ≤ l .textLength
     unfolding planned
-    own-read = plan-back l roomy j own facts own-facts
-        (omega (
+    own-fits =
+        omega (
           arith,
           plan-length l j facts own own-facts
               (best-within l j facts own own-ordered own-count own-due)
               (worst-within l j facts own own-ordered own-count own-due)
               (ticks-within l j facts own own-ordered own-count own-due),
-        ))
+        )
+
+    own-read : readPlan l j (planned l j) ≡ good own
+    unfolding planned
+    own-read = plan-back l roomy j own facts own-facts own-fits
 
 pub own-accepted : (l : Limits) → Roomy l → OwnAccepted l
 own-accepted l roomy job j h =

@@ -1,9 +1,10 @@
 -- What the three tools answer to given bytes, and what the three programs print.
 use Prim.Native.Nat.{ℕ}
+use mathlib.Core.Path.{_≡_}
 use mathlib.Core.List.{List, [], _∷_}
 use lib.Dec.{ltb, eqb}
 use lib.ListN.{length}
-use Rattle.definitions.specs.Lists.{if_then_else_, bytes, countFrom, keep, any, all, sameNumbers, distinct, sum, greatest}
+use Rattle.definitions.specs.Lists.{if_then_else_, bytes, In, countFrom, keep, any, all, sameNumbers, distinct, sum, greatest}
 use Rattle.definitions.specs.Limits.{Limits, document01}
 use Rattle.definitions.specs.Text.{firstOf, digits, exactly, number, numbers, line, widthFrom, width, lowDigits, decimal, numbersText, lineText, lines, linesToEnd, Result, good, bad, andThen}
 use Rattle.definitions.specs.Job.{Job, runTime, delay, incoming, outgoing, edgeOrder, preceded, remaining, circular, jobHead, jobHeadRule, runRule, delayRule, edgeLine, edgeRule, jobLines, readJob}
@@ -23,6 +24,12 @@ pub data Verdict : Type 0 where
   accepted : Verdict
   doubled : List ℕ → Verdict
   rejected : ℕ → Verdict
+
+-- The number and values that the checker answers: none if the plan is accepted; with 12 "a task of which this is true".
+abbrev pub Says : Verdict → List ℕ → Type 0
+Says accepted ns = ns ≡ []
+Says (doubled ts) ns = (t : ℕ) × (ns ≡ 12 ∷ t ∷ []) × In t ts
+Says (rejected n) ns = ns ≡ n ∷ []
 
 module _ (l : Limits) where
   -- The plan that the planner gives for a job.
@@ -67,6 +74,12 @@ module _ (l : Limits) where
   abbrev pub printed : Result (List ℕ) → List ℕ
   printed (good answer) = answer
   printed (bad n) = lineText l (bytes "N,") (n ∷ [])
+
+  -- The check program "answers `OK`", and prints "`N,` and the number on a refusal, for 12 also a comma and the task": what it prints
+  -- where the checker answers this number and these values.
+  abbrev pub checkPrinted : List ℕ → List ℕ
+  checkPrinted [] = bytes "OK\n"
+  checkPrinted (n ∷ ns) = lineText l (bytes "N,") (n ∷ ns)
 
 -- The entries for tables held outside: document 01's limits, and everything above unfolds with them.
 

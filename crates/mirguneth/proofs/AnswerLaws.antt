@@ -1,17 +1,13 @@
 -- What the answer of the reader of jobs says, and the public answer that is made of it.
 use mathlib.Core.Path.{_≡_, refl, ap}
 use mathlib.Core.List.{List}
-use mathlib.Core.Bool.{Bool, true, false}
 use Prim.Native.Nat.{ℕ, _<_, _≤_}
 use native.Mathlib.Omega.{arith}
-use borrow.Author.Tests.{lt-ltb, le-ltb, ltb-false}
-use lib.Dec.{ltb}
+use borrow.Author.Tests.{lt-ltb, le-ltb}
 use lib.ListN.{length, take, length-take, replicate, length-replicate}
-use Rattle.definitions.specs.Lists.{if_then_else_}
 use Rattle.definitions.specs.Limits.{document01}
-use Rattle.definitions.specs.Text.{Result, good, bad, andThen}
+use Rattle.definitions.specs.Text.{Result, good, bad}
 use Rattle.definitions.specs.Job.{Job, readJob}
-use Rattle.definitions.specs.Tools.{fitting}
 use Rattle.slices.specs.Over.{over}
 use Rattle.text.specs.declared.Step.the-variants.{Next, Refused}
 use Rattle.mirguneth.specs.Memory.{jobCells}
@@ -51,12 +47,3 @@ module _ (s d mem : List ℕ) (n : ℕ) where
   answer-done h g =
       let (j, e, l, f) = loaded-next (readJob document01 s) mem n h in
       rw (e, ← l, le-ltb (length d) n g, f) (ap good l, refl)
-
--- What a good answer wrote fits the output.
-pub done-fits : {A : Type 0} (x : Result A) (f : A → List ℕ) (room : ℕ) (d e : List ℕ) (n : ℕ) → Answered (andThen x (λ a. fitting room (f a))) d e (Done n) → n ≤ room
-done-fits (bad k) f room d e n (q, _) = absurd (let z : _≡_ {A = ℕ} 0 1 = cc in omega arith)
-done-fits (good a) f room d e n h = by (ltb room (length (f a))) refl h
-  where
-    by : (b : Bool) → ltb room (length (f a)) ≡ b → Answered (if b then bad 8 else good (f a)) d e (Done n) → n ≤ room
-    by true p (q, _) = absurd (let z : _≡_ {A = ℕ} 0 1 = cc in omega arith)
-    by false p (q, _) = let l : n ≡ length (f a) = cc in omega (arith, ltb-false room (length (f a)) p)

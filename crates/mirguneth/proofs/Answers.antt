@@ -1,12 +1,13 @@
 -- What a caller learns from an answer: each case is that of the definitions, with their number and values.
-use mathlib.Core.Path.{_≡_, refl}
-use mathlib.Core.List.{List}
+use mathlib.Core.Path.{_≡_, refl, ap}
+use mathlib.Core.List.{List, [], _∷_}
 use Prim.Native.Nat.{ℕ}
 use native.Mathlib.Omega.{arith}
 use lib.ListN.{length}
-use Rattle.definitions.specs.Lists.{In}
-use Rattle.definitions.specs.Text.{Result, good, bad}
-use Rattle.definitions.specs.Tools.{Verdict, accepted, doubled, rejected}
+use Rattle.definitions.specs.Lists.{bytes, In}
+use Rattle.definitions.specs.Limits.{document01}
+use Rattle.definitions.specs.Text.{Result, good, bad, lineText}
+use Rattle.definitions.specs.Tools.{Verdict, accepted, doubled, rejected, printed}
 use Rattle.slices.specs.Over.{over}
 use Rattle.mirguneth.specs.Answers.{Answered, Judged}
 use Rattle.mirguneth.specs.declared.Answer.the-variants.{Done, Refusal}
@@ -34,3 +35,12 @@ pub judged-refused : (x : Verdict) (n : ℕ) → Judged x (Refused n) → x ≡ 
 judged-refused accepted n r = absurd (let z : _≡_ {A = ℕ} 0 1 = cc in omega arith)
 judged-refused (doubled ts) n (t, r, _) = absurd (let z : _≡_ {A = ℕ} 0 1 = cc in omega arith)
 judged-refused (rejected k) n r = cc
+
+-- What the program prints: the bytes that were written, or the line of the refusal, and then the output is as it was.
+pub done-printed : (x : Result (List ℕ)) (d e : List ℕ) (n : ℕ) → Answered x d e (Done n)
+    → (n ≡ length (printed document01 x)) × (e ≡ over d 0 (printed document01 x))
+done-printed x d e n h = let (t, q, l, f) = answered-done x d e n h in rw q (l, f)
+
+pub refusal-printed : (x : Result (List ℕ)) (d e : List ℕ) (n : ℕ) → Answered x d e (Refusal n)
+    → (printed document01 x ≡ lineText document01 (bytes "N,") (n ∷ [])) × (e ≡ d)
+refusal-printed x d e n h = let (q, f) = answered-refused x d e n h in (ap (printed document01) q, f)

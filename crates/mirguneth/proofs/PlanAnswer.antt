@@ -30,7 +30,7 @@ use Rattle.mirguneth.specs.Checking.{PlanHeld}
 use Rattle.mirguneth.specs.declared.Answer.{Answer}
 use Rattle.mirguneth.specs.declared.Answer.the-variants.{Done, Refusal}
 use Rattle.mirguneth.proofs.Held.{equal-or-not, sizes, placed-same, lines-same, same-behind, kept-all, kept-set, job-kept, standing-choice}
-use Rattle.mirguneth.proofs.AnswerLaws.{loaded-no, done-fits}
+use Rattle.mirguneth.proofs.AnswerLaws.{loaded-no}
 use Rattle.mirguneth.proofs.Loads.{loaded-held}
 use Rattle.mirguneth.proofs.Drawing.{drawn-lines}
 use Rattle.mirguneth.proofs.JudgeLaws.{best-differs, worst-decides}
@@ -171,8 +171,3 @@ module _ (s mem d : List ℕ) (n : ℕ) where
     pub plan-put : (e : List ℕ) (r : Answer) → Answered (fitting (length d) (planned document01 (jobIn mem))) d e r → Answered (planAnswer document01 s (length d)) d e r
     unfolding planAnswer
     plan-put e r a = rw (loaded-held s mem n l h .0) a
-
--- A plan that was written fits the output.
-pub plan-fits : (s d e : List ℕ) (n : ℕ) → Answered (planAnswer document01 s (length d)) d e (Done n) → n ≤ length d
-unfolding planAnswer
-plan-fits s d e n = done-fits (readJob document01 s) (planned document01) (length d) d e n

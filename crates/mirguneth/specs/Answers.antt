@@ -6,8 +6,7 @@ use lib.ListN.{length, take}
 use Rattle.definitions.specs.Limits.{document01}
 use Rattle.definitions.specs.Text.{Result, good, bad, andThen}
 use Rattle.definitions.specs.Job.{Job, readJob}
-use Rattle.definitions.specs.Lists.{In}
-use Rattle.definitions.specs.Tools.{fitting, Verdict, accepted, doubled, rejected}
+use Rattle.definitions.specs.Tools.{fitting, Verdict, Says}
 use Rattle.slices.specs.Over.{over}
 use Rattle.text.specs.declared.Step.{Step}
 use Rattle.text.specs.Told.{stepTold}
@@ -43,8 +42,6 @@ abbrev pub Loaded : Result Job → List ℕ → Step → Type 0
 Loaded (good j) mem r = (stepTold r ≡ good (length (jobCells j))) × (take (length (jobCells j)) mem ≡ jobCells j)
 Loaded (bad n) mem r = stepTold r ≡ bad n
 
--- The checker's answer r: with 12 one of the tasks of which it is true.
+-- The checker's answer r to texts of which this is the verdict.
 abbrev pub Judged : Verdict → Checked → Type 0
-Judged accepted r = refusalOf r ≡ []
-Judged (doubled ts) r = (t : ℕ) × (refusalOf r ≡ 12 ∷ t ∷ []) × In t ts
-Judged (rejected n) r = refusalOf r ≡ n ∷ []
+Judged v r = Says v (refusalOf r)

@@ -14,15 +14,13 @@ use Rattle.definitions.specs.Plan.{Line, processorsOf, readPlan}
 use Rattle.definitions.specs.Stops.{Stop, readStops}
 use Rattle.definitions.specs.Times.{Time, tick, never, same, least, Copy, Outcome, ofTask, walk, copiesOf, copies}
 use Rattle.definitions.specs.Replay.{replay, firstFinish, lowest, firstBox, roundEnd, resultLine, resultLines, endLine, replayText}
-use Rattle.definitions.specs.Tools.{fitting, replayed, replayAnswer}
+use Rattle.definitions.specs.Tools.{fitting, replayed, replayAnswer, printed, replayPrinted}
 use Rattle.definitions.proofs.Lists.{in-append, in-map, in-keep, in-below, length-count}
 use Rattle.definitions.proofs.Facts.{Ordered}
 use Rattle.definitions.proofs.Decimal.{width-powers, width-monotone, length-decimal, length-none, length-numbers, length-line}
 use Rattle.definitions.proofs.Tasks.{in-task}
 use Rattle.definitions.proofs.Reading.{andThen-good, job-facts, plan-facts}
-use Rattle.mirguneth.specs.Answers.{Answered}
-use Rattle.mirguneth.specs.declared.Answer.the-variants.{Done}
-use Rattle.mirguneth.proofs.Answers.{answered-done}
+use Rattle.console.proofs.Shown.{refusal-most}
 
 -- Lines ---------------------------------------------------------------------------------------------------------------
 
@@ -139,5 +137,13 @@ module _ (job plan stops : List ℕ) where
       by (good t) e = rw (le-ltb room (length t) (omega (arith, replay-most t e)))
       by (bad n) e = refl
 
-  pub done-most : (d e : List ℕ) (n : ℕ) → Answered (replayed document01 job plan stops) d e (Done n) → n ≤ 5113
-  done-most d e n h = let (t, q, l, _) = answered-done (replayed document01 job plan stops) d e n h in omega (arith, replay-most t q)
+  pub replay-printed : replayPrinted job plan stops ≡ printed document01 (replayed document01 job plan stops)
+  unfolding replayPrinted
+  replay-printed = refl
+
+  pub printed-most : length (replayPrinted job plan stops) ≤ 5113
+  printed-most = rw replay-printed (by (replayed document01 job plan stops) refl)
+    where
+      by : (x : Result (List ℕ)) → replayed document01 job plan stops ≡ x → length (printed document01 x) ≤ 5113
+      by (good t) e = replay-most t e
+      by (bad n) e = omega (arith, refusal-most (n ∷ []))

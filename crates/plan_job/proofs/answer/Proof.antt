@@ -1,9 +1,10 @@
--- A plan that was written fits the output.
-use mathlib.Core.Path.{sym}
+-- The plan's bytes are printed, or the line of the refusal.
 use native.Mathlib.Omega.{arith}
 use borrow.Author.Needs.{needs}
-use lib.Seq.{length-take-le}
-use Rattle.mirguneth.proofs.PlanAnswer.{plan-fits}
+use lib.ListN.{length}
+use Rattle.definitions.specs.Tools.{planPrinted}
+use Rattle.console.proofs.Shown.{shown-done, shown-refusal}
+use Rattle.plan_job.proofs.Printed.{said, plan-printed, all-fits, printed-most}
 use Rattle.plan_job.proofs.answer.Statement.{statement}
 use Rattle.plan_job.proofs.answer.Tie as tie
 
@@ -13,37 +14,32 @@ plan-requires c κs = search needs
 enum-known-k : tie.Need-enum-known-k
 enum-known-k c = search needs
 
-slice-reshare-prefix-write-all : tie.Need-slice-reshare-prefix-write-all
-slice-reshare-prefix-write-all c =
-    let a = c .before .before .before .before .before .before .before .before .before .args in let w = c .before .before .before .before .before .plan in
-    omega (arith, plan-fits (a .job .now) (a .out .now) (w .last .1 .0) (c .before .k .given .0 .0) (rw (c .before .k .given .1) at (w .ensures)), w .kept .1 .0)
-
-slice-aggregate-write-all : tie.Need-slice-aggregate-write-all
-slice-aggregate-write-all c =
-    let a = c .before .before .before .before .before .before .before .before .before .before .args in let w = c .before .before .before .before .before .before .plan in
-    let k = c .before .before .k in
-    sym (length-take-le (k .given .0 .0) (w .last .1 .0) (omega (arith, plan-fits (a .job .now) (a .out .now) (w .last .1 .0) (k .given .0 .0) (rw (k .given .1) at (w .ensures)), w .kept .1 .0)))
-
-write-all-requires : tie.Need-write-all-requires
-write-all-requires c κs = search needs
-
 enum-known-x : tie.Need-enum-known-x
 enum-known-x c = search needs
 
-refuse-requires : tie.Need-refuse-requires
-refuse-requires c κs = search needs
+write-refusal-requires : tie.Need-write-refusal-requires
+write-refusal-requires c κs = search needs
 
 same-length : tie.Need-same-length
 same-length c = search needs
 
 returns : tie.Need-returns
-returns c = search needs
+returns c =
+    let a = c .before .before .before .before .before .before .before .before .before .args in
+    let w = c .before .before .before .before .before .plan in
+    let k = c .before .k in
+    shown-done (said (a .job .now)) (planPrinted (a .job .now)) (a .out .now) (w .last .1 .0) (k .given .0 .0) (plan-printed (a .job .now)) (omega (arith, printed-most (a .job .now), c .before .before .before .before .before .before .before .before .before .pre)) (rw (k .given .1, all-fits (a .job .now) (length (a .out .now)) (c .before .before .before .before .before .before .before .before .before .pre)) at (w .ensures))
 
 same-length-2 : tie.Need-same-length-2
 same-length-2 c = search needs
 
 returns-2 : tie.Need-returns-2
-returns-2 c = search needs
+returns-2 c =
+    let a = c .before .before .before .before .before .before .before .before .before .before .before .before .before .args in
+    let w = c .before .before .before .before .before .before .before .before .before .plan in
+    let x = c .before .before .before .before .before .x in
+    let z = c .before .before .write-refusal in
+    shown-refusal (said (a .job .now)) (planPrinted (a .job .now)) (a .out .now) (w .last .1 .0) (x .given .0 .0) (plan-printed (a .job .now)) (omega (arith, printed-most (a .job .now), c .before .before .before .before .before .before .before .before .before .before .before .before .before .pre)) (rw (x .given .1, all-fits (a .job .now) (length (a .out .now)) (c .before .before .before .before .before .before .before .before .before .before .before .before .before .pre)) at (w .ensures)) (z .last .0) (z .result) (z .ensures .0) (z .ensures .1)
 
 pub answer-spec : {M : Type 1} → statement M
 answer-spec =
@@ -51,11 +47,8 @@ answer-spec =
     (tie.spec
     plan-requires
     enum-known-k
-    slice-reshare-prefix-write-all
-    slice-aggregate-write-all
-    write-all-requires
     enum-known-x
-    refuse-requires
+    write-refusal-requires
     same-length
     returns
     same-length-2

@@ -1,0 +1,53 @@
+-- What a program prints stands at the front of its output, and the output's part that is printed holds it.
+use mathlib.Core.Path.{_≡_, ap, _∙_}
+use mathlib.Core.List.{List, [], _∷_}
+use Prim.Native.Nat.{ℕ, _+_, _*_, _≤_}
+use native.Mathlib.Omega.{arith}
+use lib.ListN.{length}
+use Rattle.definitions.specs.Lists.{bytes}
+use Rattle.definitions.specs.Limits.{document01}
+use Rattle.definitions.specs.Text.{Result, lineText}
+use Rattle.definitions.specs.Tools.{printed}
+use Rattle.definitions.proofs.Decimal.{length-line}
+use Rattle.slices.specs.Over.{over}
+use Rattle.slices.proofs.Over.{length-over}
+use Rattle.text.specs.Told.{written, placeAfter}
+use Rattle.text.proofs.Writing.{written-fits, place-fits}
+use Rattle.mirguneth.specs.Answers.{Answered}
+use Rattle.mirguneth.specs.declared.Answer.the-variants.{Done, Refusal}
+use Rattle.mirguneth.proofs.Answers.{done-printed, refusal-printed}
+use Rattle.mirguneth.proofs.WriteLaws.{numbers-most}
+use Rattle.io.specs.Counts.{Counts}
+use Rattle.io.proofs.Counting.{counts}
+
+-- The bytes s fit the output d, and e is d with them at the front.
+front : (d e s : List ℕ) (n : ℕ) → length s ≤ length d → n ≡ length s → e ≡ over d 0 s → Counts n e
+front d e s n h l f = counts n e (omega (arith, ap length f, length-over d 0 s (omega arith)))
+
+-- A writer was given the output d and the bytes s, which fit it.
+module _ (d e s : List ℕ) (n : ℕ) (h : length s ≤ length d) (l : n ≡ placeAfter d 0 s) (f : e ≡ written d 0 s) where
+  pub written-front : (n ≡ length s) × ((e ≡ over d 0 s) × Counts n e)
+  written-front =
+      let k : n ≡ length s = omega (arith, l ∙ place-fits d 0 s (omega arith)) in
+      let g = f ∙ written-fits d 0 s (omega arith) in
+      (k, (g, front d e s n h k g))
+
+-- A line of refusal has at most 11 bytes for each number.
+pub refusal-most : (ns : List ℕ) → length (lineText document01 (bytes "N,") ns) ≤ 2 + 11 * length ns
+refusal-most ns = omega (arith, length-line document01 (bytes "N,") ns, numbers-most ns)
+
+-- The answer x is printed as p, which fits the output d; e is what the output holds after the answer.
+module _ (x : Result (List ℕ)) (p d e : List ℕ) (n : ℕ) (q : p ≡ printed document01 x) (h : length p ≤ length d) where
+  pub shown-done : Answered x d e (Done n) → (n ≡ length p) × ((e ≡ over d 0 p) × Counts n e)
+  shown-done a =
+      let (l, f) = done-printed x d e n a in
+      let k : n ≡ length p = rw q l in
+      let g : e ≡ over d 0 p = rw q f in
+      (k, (g, front d e p n h k g))
+
+  pub shown-refusal : Answered x d e (Refusal n) → (f : List ℕ) (k : ℕ) → k ≡ placeAfter e 0 (lineText document01 (bytes "N,") (n ∷ []))
+      → f ≡ written e 0 (lineText document01 (bytes "N,") (n ∷ [])) → (k ≡ length p) × ((f ≡ over d 0 p) × Counts k f)
+  shown-refusal a f k l g =
+      let (r, s) = refusal-printed x d e n a in
+      let t : lineText document01 (bytes "N,") (n ∷ []) ≡ p = rw (q, r) in
+      written-front d f p k h (rw (s, t) at l) (rw (s, t) at g)
