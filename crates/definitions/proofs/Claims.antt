@@ -153,6 +153,7 @@ module _ (l : Limits) (j : Job) (facts : JobFacts l j) where
           ticks-most = λ n i r k. omega (arith, ticks-within l j facts own own-ordered own-count own-due n i r k);
         }
 
+    -- Their text is not too long.
     pub own-fits : length (planned l j) ≤ l .textLength
     unfolding planned
     own-fits =

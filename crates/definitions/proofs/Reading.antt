@@ -47,15 +47,18 @@ rule-found x rule f b r h =
     let (z, g′) = due-found (rule a) (f a) s b r g in
     (a, s, e, z, g′)
 
--- A whole text that is good was found with nothing left over.
+-- What is good at its end was found with nothing left over.
+pub ended-good : {A : Type 0} (x : Reading A) (a : A) → ended x ≡ good a → x ≡ found a []
+ended-good (found c []) a h = cc
+ended-good (found c (d ∷ r)) a h = absurd (bad≢good h)
+ended-good (refused n) a h = absurd (bad≢good h)
+
 pub whole-good : {A : Type 0} (l : Limits) (q : Reader A) (s : List ℕ) (a : A) → whole l q s ≡ good a → q s ≡ found a []
 whole-good {A} l q s a h = by (ltb (l .textLength) (length s)) (q s) h
   where
     by : (b : Bool) (x : Reading A) → (if b then bad 1 else ended x) ≡ good a → x ≡ found a []
     by true x h = absurd (bad≢good h)
-    by false (found c []) h = cc
-    by false (found c (d ∷ r)) h = absurd (bad≢good h)
-    by false (refused n) h = absurd (bad≢good h)
+    by false x h = ended-good x a h
 
 -- Where two texts are good, each is.
 pub andThen-good : {A B : Type 0} (x : Result A) (f : A → Result B) (b : B) → andThen x f ≡ good b → (a : A) × (x ≡ good a) × (f a ≡ good b)

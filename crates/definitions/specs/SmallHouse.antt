@@ -49,18 +49,30 @@ answer (checked job plan) = let r = checkNumber (bytes job) (bytes plan) in r .0
 abbrev pub row : Given → List ℕ → Row
 row g e = record { given = g; expected = e }
 
+-- Each row is marked with its case in the list "To be proved".
 abbrev pub table : List Row
 table =
+    -- (a) this plan
     row (planned house) (bytes housePlan)
+    -- (b) scaled bottom levels 80 and 26
     ∷ row (levelled house) (80 ∷ 26 ∷ [])
+    -- (c) stop 0 at 3: ends 11
     ∷ row (replayed house housePlan "S,0,3\n") (bytes "R,0,1,6\nR,1,1,11\nL,11\n")
+    -- (d) stop 0 at 8: 11
     ∷ row (replayed house housePlan "S,0,8\n") (bytes "R,0,0,4\nR,1,1,11\nL,11\n")
+    -- (e) stop 0 at 9: 9, finish equal to stop
     ∷ row (replayed house housePlan "S,0,9\n") (bytes "R,0,0,4\nR,1,0,9\nL,9\n")
+    -- (f) stop 1 at 5: 9
     ∷ row (replayed house housePlan "S,1,5\n") (bytes "R,0,0,4\nR,1,0,9\nL,9\n")
+    -- (g) no stop: 9
     ∷ row (replayed house housePlan "") (bytes "R,0,0,4\nR,1,0,9\nL,9\n")
+    -- (h) 0 and 1 at 0: both tasks undone
     ∷ row (replayed house housePlan "S,0,0\nS,1,0\n") (bytes "R,0,-,-\nR,1,-,-\nL,-\n")
+    -- (i) copies of task 0 on box 0 twice: 12
     ∷ row (checked house doubledPlan) (12 ∷ 0 ∷ [])
+    -- (j) M given as 12: 14
     ∷ row (checked house loweredPlan) (14 ∷ [])
+    -- "the check program answers `OK`" to the plan of (a)
     ∷ row (checked house housePlan) (0 ∷ [])
     ∷ []
 

@@ -60,79 +60,79 @@ outcomes-line late a c mem = sym (ap reverse (outcomes-row late a c mem) ∙ rev
 
 -- A line of a plan that was read ------------------------------------------------------------------------------------
 
-module _ {mem : List ℕ} (h : PlanHeld mem) (k : ℕ) (l : k < nth mem 0) where
+module _ {rooms : ℕ} {mem : List ℕ} (h : PlanHeld rooms mem) (k : ℕ) (l : k < nth mem 0) where
   -- Its predecessors have their lines before it.
-  line-fed : FedBy k (nth mem (rowAt k)) mem
+  line-fed : FedBy rooms k (nth mem (rowAt rooms k)) mem
   line-fed e i =
       let (us, f, m) = line-facts h k l in
       let (n, g, q) = m (e .from) (f .fed e i) in
       let o = h .standing .line-of n (omega arith) in
-      let z : nth mem (lineAt + e .from) ≡ suc n = rw q at o in
+      let z : nth mem (lineAt rooms + e .from) ≡ suc n = rw q at o in
       omega arith
 
   -- It does not feed itself.
-  line-apart : (e : Edge) → In e (incoming (jobIn mem) (nth mem (rowAt k))) → nth mem (rowAt k) ≡ e .from → ⊥
+  line-apart : (e : Edge) → In e (incoming (jobIn mem) (nth mem (rowAt rooms k))) → nth mem (rowAt rooms k) ≡ e .from → ⊥
   line-apart e i q =
       let o = h .standing .line-of k l in
-      let z : nth mem (lineAt + e .from) ≡ suc k = rw q at o in
+      let z : nth mem (lineAt rooms + e .from) ≡ suc k = rw q at o in
       let (_, g) = line-fed e i in
       omega arith
 
   -- Its ticks are in range.
-  ticks-most : (late : Bool) (c : ℕ) → c < nth mem 3 + 1 → cellOf late (rowAt k) c mem ≤ document01 .tick
+  ticks-most : (late : Bool) (c : ℕ) → c < nth mem 3 + 1 → cellOf late (rowAt rooms k) c mem ≤ document01 .tick
   unfolding planIn
   ticks-most late c g =
       let w = nth mem 3 + 1 in
-      let (e, x) = h .facts .ticks-most (lineIn (rowAt k) mem) (line-among k (nth mem 0) mem l) (replicaAt (rowAt k) c mem) (in-replicas (rowAt k) w c mem g) in
+      let (e, x) = h .facts .ticks-most (lineIn (rowAt rooms k) mem) (line-among rooms k (nth mem 0) mem l) (replicaAt (rowAt rooms k) c mem) (in-replicas (rowAt rooms k) w c mem g) in
       by late e x
     where
-      by : (late : Bool) → nth mem (rowAt k + (2 + 3 * c)) ≤ document01 .tick → nth mem (rowAt k + (3 + 3 * c)) ≤ document01 .tick → cellOf late (rowAt k) c mem ≤ document01 .tick
+      by : (late : Bool) → nth mem (rowAt rooms k + (2 + 3 * c)) ≤ document01 .tick → nth mem (rowAt rooms k + (3 + 3 * c)) ≤ document01 .tick → cellOf late (rowAt rooms k) c mem ≤ document01 .tick
       by true e x = x
       by false e x = e
 
-  tick-in : (late : Bool) (c : ℕ) → c < nth mem 3 + 1 → timeIn (cellOf late (rowAt k) c mem) ≡ tick (cellOf late (rowAt k) c mem)
-  tick-in late c g = let m = ticks-most late c g in time-tick (cellOf late (rowAt k) c mem) (λ e. omega arith)
+  tick-in : (late : Bool) (c : ℕ) → c < nth mem 3 + 1 → timeIn (cellOf late (rowAt rooms k) c mem) ≡ tick (cellOf late (rowAt rooms k) c mem)
+  tick-in late c g = let m = ticks-most late c g in time-tick (cellOf late (rowAt rooms k) c mem) (λ e. omega arith)
 
 -- Short ticks -------------------------------------------------------------------------------------------------------
 
-module _ {mem : List ℕ} (h : PlanHeld mem) (k : ℕ) (l : k ≤ nth mem 0) (s : ShortTo k mem) where
-  placed-on : (late : Bool) (i : ℕ) → i ≤ nth mem 0 → (d : Outcome) → In d (placedIn late (nth mem 3 + 1) i mem) → d .processor < nth mem 1
+module _ {rooms : ℕ} {mem : List ℕ} (h : PlanHeld rooms mem) (k : ℕ) (l : k ≤ nth mem 0) (s : ShortTo rooms k mem) where
+  placed-on : (late : Bool) (i : ℕ) → i ≤ nth mem 0 → (d : Outcome) → In d (placedIn rooms late (nth mem 3 + 1) i mem) → d .processor < nth mem 1
   unfolding placedIn
   placed-on late (suc i) g d m =
       ⊎-elim
-      (row-on late (rowAt i) (nth mem 3 + 1) (nth mem 1) mem (h .standing .row i (omega arith) .processor-of) d)
+      (row-on late (rowAt rooms i) (nth mem 3 + 1) (nth mem 1) mem (h .standing .row i (omega arith) .processor-of) d)
       (placed-on late i (omega arith) d)
-      (in-append d (rowOutcomes late (rowAt i) (nth mem 3 + 1) mem) (placedIn late (nth mem 3 + 1) i mem) m)
+      (in-append d (rowOutcomes late (rowAt rooms i) (nth mem 3 + 1) mem) (placedIn rooms late (nth mem 3 + 1) i mem) m)
 
-  placed-short : (late : Bool) → PlacedWithin (jobIn mem) (k * lineTicks) (placedIn late (nth mem 3 + 1) k mem)
+  placed-short : (late : Bool) → PlacedWithin (jobIn mem) (k * lineTicks) (placedIn rooms late (nth mem 3 + 1) k mem)
   placed-short late d i = let (y, e, m) = all-come (h .standing) l s late d i in (rw (processors-in mem) (placed-on late k l d i), rw e m)
 
-module _ {mem : List ℕ} (h : PlanHeld mem) (k : ℕ) (l : k < nth mem 0) (s : ShortTo k mem) where
+module _ {rooms : ℕ} {mem : List ℕ} (h : PlanHeld rooms mem) (k : ℕ) (l : k < nth mem 0) (s : ShortTo rooms k mem) where
   -- What the code asks for, to compute the finishes of line k.
-  pub finishes-asked : (delays : List ℕ) (clocks : Clocks) → DelayTable delays mem → ClocksAfter k mem clocks
-      → ((n : ℕ) × Standing n mem) × DelayTable delays mem × (nth mem (rowAt k) < nth mem 0) × BothFed (nth mem (rowAt k)) mem × ShortClocks clocks mem
+  pub finishes-asked : (delays : List ℕ) (clocks : Clocks) → DelayTable delays mem → ClocksAfter rooms k mem clocks
+      → ((n : ℕ) × Standing rooms n mem) × DelayTable delays mem × (nth mem (rowAt rooms k) < nth mem 0) × BothFed rooms (nth mem (rowAt rooms k)) mem × ShortClocks clocks mem
   finishes-asked delays clocks d c = (
     (nth mem 0, h .standing),
     d,
     h .standing .task-of k l,
-    fed-short (h .standing) (omega arith) s (nth mem (rowAt k)) (line-fed h k l),
+    fed-short (h .standing) (omega arith) s (nth mem (rowAt rooms k)) (line-fed h k l),
     clocks-short (h .standing) (omega arith) s c,
   )
 
   -- If the ticks of line k are the equations', they are short too.
-  short-here : (late : Bool) (c : ℕ) → c < nth mem 3 + 1 → LineAgrees k mem → cellOf late (rowAt k) c mem ≤ k * lineTicks + lineTicks
+  short-here : (late : Bool) (c : ℕ) → c < nth mem 3 + 1 → LineAgrees rooms k mem → cellOf late (rowAt rooms k) c mem ≤ k * lineTicks + lineTicks
   unfolding finishOn
   short-here late c g a =
-      let p = nth mem (rowAt k + (1 + 3 * c)) in
+      let p = nth mem (rowAt rooms k + (1 + 3 * c)) in
       rw (a late c g ∙ tick-in h k l late c g) at
-      (finish-most document01 (jobIn mem) (h .standing .job .facts) (choiceOf late) (by late) [] (k * lineTicks) (placedIn late (nth mem 3 + 1) k mem) (nth mem (rowAt k)) p
+      (finish-most document01 (jobIn mem) (h .standing .job .facts) (choiceOf late) (by late) [] (k * lineTicks) (placedIn rooms late (nth mem 3 + 1) k mem) (nth mem (rowAt rooms k)) p
       (rw (tasks-in mem) (h .standing .task-of k l)) (rw (processors-in mem) (h .standing .row k l .processor-of c g)) (placed-short h k (omega arith) s late))
     where
       by : (late : Bool) → Bounded (choiceOf late)
       by true = largest-within
       by false = least-within
 
-  pub short-next : LineAgrees k mem → ShortTo (k + 1) mem
+  pub short-next : LineAgrees rooms k mem → ShortTo rooms (k + 1) mem
   short-next a i c g m =
       ⊎-elim
       (λ (e : i ≡ k). rw e (let x = short-here false c m a in let y = short-here true c m a in (omega arith, omega arith)))
@@ -142,30 +142,30 @@ module _ {mem : List ℕ} (h : PlanHeld mem) (k : ℕ) (l : k < nth mem 0) (s : 
 -- The clocks --------------------------------------------------------------------------------------------------------
 
 -- At first all processors are ready at 0.
-pub clocks-new : (clocks : Clocks) (mem : List ℕ) → JobHeld mem → clocks .early ≡ replicate 16 0 → clocks .late ≡ replicate 16 0
-    → ClocksAfter 0 mem clocks
+pub clocks-new : {rooms : ℕ} (clocks : Clocks) (mem : List ℕ) → JobHeld rooms mem → clocks .early ≡ replicate 16 0 → clocks .late ≡ replicate 16 0
+    → ClocksAfter rooms 0 mem clocks
 unfolding placedIn
 clocks-new clocks mem h e f = outset-clocks (h .facts .processors-most) e f
 
-module _ {mem : List ℕ} (h : PlanHeld mem) (k : ℕ) (l : k < nth mem 0) where
+module _ {rooms : ℕ} {mem : List ℕ} (h : PlanHeld rooms mem) (k : ℕ) (l : k < nth mem 0) where
   abbrev after-row : Bool → ℕ → List Outcome
-  after-row late c = rowOutcomes late (rowAt k) c mem ++ placedIn late (nth mem 3 + 1) k mem
+  after-row late c = rowOutcomes late (rowAt rooms k) c mem ++ placedIn rooms late (nth mem 3 + 1) k mem
 
-  pub clocks-first : (clocks : Clocks) → ClocksAfter k mem clocks
+  pub clocks-first : (clocks : Clocks) → ClocksAfter rooms k mem clocks
       → ClocksHeld clocks (jobIn mem) (after-row false 0) (after-row true 0)
   unfolding rowOutcomes
   clocks-first clocks s = s
 
   pub clocks-next : (clocks next : Clocks) (c : ℕ) → c < nth mem 3 + 1
-      → next .early ≡ set (clocks .early) (nth mem (rowAt k + (1 + 3 * c))) (nth mem (rowAt k + (2 + 3 * c)))
-      → next .late ≡ set (clocks .late) (nth mem (rowAt k + (1 + 3 * c))) (nth mem (rowAt k + (3 + 3 * c)))
+      → next .early ≡ set (clocks .early) (nth mem (rowAt rooms k + (1 + 3 * c))) (nth mem (rowAt rooms k + (2 + 3 * c)))
+      → next .late ≡ set (clocks .late) (nth mem (rowAt rooms k + (1 + 3 * c))) (nth mem (rowAt rooms k + (3 + 3 * c)))
       → ClocksHeld clocks (jobIn mem) (after-row false c) (after-row true c)
       → ClocksHeld next (jobIn mem) (after-row false (c + 1)) (after-row true (c + 1))
   unfolding rowOutcomes
   clocks-next clocks next c g e f s =
-      let p = nth mem (rowAt k + (1 + 3 * c)) in
-      let x = nth mem (rowAt k + (2 + 3 * c)) in
-      let y = nth mem (rowAt k + (3 + 3 * c)) in
+      let p = nth mem (rowAt rooms k + (1 + 3 * c)) in
+      let x = nth mem (rowAt rooms k + (2 + 3 * c)) in
+      let y = nth mem (rowAt rooms k + (3 + 3 * c)) in
       let b = h .standing .row k l .processor-of c g in
       let m = sizes (h .standing .job) .processors-most in
       rw (add-one c)
@@ -177,57 +177,57 @@ module _ {mem : List ℕ} (h : PlanHeld mem) (k : ℕ) (l : k < nth mem 0) where
       })
 
   pub clocks-done : (clocks : Clocks) (c : ℕ) → c ≡ nth mem 3 + 1 → ClocksHeld clocks (jobIn mem) (after-row false c) (after-row true c)
-      → ClocksAfter (k + 1) mem clocks
+      → ClocksAfter rooms (k + 1) mem clocks
   unfolding placedIn
   clocks-done clocks c e s = rw (add-one k) (rw e at s)
 
 -- The ticks of a line -----------------------------------------------------------------------------------------------
 
-module _ {mem : List ℕ} (h : PlanHeld mem) (k : ℕ) (l : k < nth mem 0) (c : ℕ) (g : c < nth mem 3 + 1) where
+module _ {rooms : ℕ} {mem : List ℕ} (h : PlanHeld rooms mem) (k : ℕ) (l : k < nth mem 0) (c : ℕ) (g : c < nth mem 3 + 1) where
   abbrev here : ℕ
-  here = nth mem (rowAt k + (1 + 3 * c))
+  here = nth mem (rowAt rooms k + (1 + 3 * c))
 
   -- The processor of replica c.
-  box-below : nth mem (rowAt k + (1 + 3 * c)) < nth mem 1
+  box-below : nth mem (rowAt rooms k + (1 + 3 * c)) < nth mem 1
   box-below = h .standing .row k l .processor-of c g
 
-  pub box-most : nth mem (rowAt k + (1 + 3 * c)) < 16
+  pub box-most : nth mem (rowAt rooms k + (1 + 3 * c)) < 16
   box-most = omega (arith, box-below, sizes (h .standing .job) .processors-most)
 
   -- It is ready at x, and what the code computes is the finish by the equations.
-  finish-found : (late : Bool) (x : ℕ) → tick x ≡ ready (jobIn mem) here (placedIn late (nth mem 3 + 1) k mem)
-      → (r : ℕ) → tick r ≡ after (runTime (jobIn mem) (nth mem (rowAt k)) here) (later (tick x) (dataIn late (nth mem (rowAt k)) here mem)) → tick r ≡ finishIn late k c mem
-  finish-found late x e r f = f ∙ finish-at (h .standing) (omega arith) late (nth mem (rowAt k)) here x (line-fed h k l) e
+  finish-found : (late : Bool) (x : ℕ) → tick x ≡ ready (jobIn mem) here (placedIn rooms late (nth mem 3 + 1) k mem)
+      → (r : ℕ) → tick r ≡ after (runTime (jobIn mem) (nth mem (rowAt rooms k)) here) (later (tick x) (dataIn rooms late (nth mem (rowAt rooms k)) here mem)) → tick r ≡ finishIn rooms late k c mem
+  finish-found late x e r f = f ∙ finish-at (h .standing) (omega arith) late (nth mem (rowAt rooms k)) here x (line-fed h k l) e
 
-  module _ (clocks : Clocks) (s : ClocksAfter k mem clocks) (es ls : List ℕ) (b : BothFinish (nth mem (rowAt k)) clocks mem es ls) where
-    early-found : tick (nth es here) ≡ finishIn false k c mem
+  module _ (clocks : Clocks) (s : ClocksAfter rooms k mem clocks) (es ls : List ℕ) (b : BothFinish rooms (nth mem (rowAt rooms k)) clocks mem es ls) where
+    early-found : tick (nth es here) ≡ finishIn rooms false k c mem
     early-found = finish-found false (nth (clocks .early) here) (s .early-ready here (rw (processors-in mem) box-below)) (nth es here) (b .early-finish here box-below)
 
-    late-found : tick (nth ls here) ≡ finishIn true k c mem
+    late-found : tick (nth ls here) ≡ finishIn rooms true k c mem
     late-found = finish-found true (nth (clocks .late) here) (s .late-ready here (rw (processors-in mem) box-below)) (nth ls here) (b .late-finish here box-below)
 
-    pub agrees-next : nth es (nth mem (rowAt k + (1 + 3 * c))) ≡ nth mem (rowAt k + (2 + 3 * c)) → nth ls (nth mem (rowAt k + (1 + 3 * c))) ≡ nth mem (rowAt k + (3 + 3 * c))
-        → AgreesTo k c mem → AgreesTo k (c + 1) mem
+    pub agrees-next : nth es (nth mem (rowAt rooms k + (1 + 3 * c))) ≡ nth mem (rowAt rooms k + (2 + 3 * c)) → nth ls (nth mem (rowAt rooms k + (1 + 3 * c))) ≡ nth mem (rowAt rooms k + (3 + 3 * c))
+        → AgreesTo rooms k c mem → AgreesTo rooms k (c + 1) mem
     agrees-next p q a late i m =
         ⊎-elim (λ (o : i ≡ c). rw o (by late)) (λ (o : i < c). a late i o) (last-or-before c i (omega arith))
       where
-        by : (late : Bool) → finishIn late k c mem ≡ timeIn (cellOf late (rowAt k) c mem)
+        by : (late : Bool) → finishIn rooms late k c mem ≡ timeIn (cellOf late (rowAt rooms k) c mem)
         by true = sym late-found ∙ ap tick q ∙ sym (tick-in h k l true c g)
         by false = sym early-found ∙ ap tick p ∙ sym (tick-in h k l false c g)
 
     -- A tick that differs from the equations'.
-    pub early-not : (nth es (nth mem (rowAt k + (1 + 3 * c))) ≡ nth mem (rowAt k + (2 + 3 * c)) → ⊥) → LineAgrees k mem → ⊥
+    pub early-not : (nth es (nth mem (rowAt rooms k + (1 + 3 * c))) ≡ nth mem (rowAt rooms k + (2 + 3 * c)) → ⊥) → LineAgrees rooms k mem → ⊥
     early-not n a = n (ap tickOf (early-found ∙ a false c g ∙ tick-in h k l false c g))
 
-    pub late-not : (nth ls (nth mem (rowAt k + (1 + 3 * c))) ≡ nth mem (rowAt k + (3 + 3 * c)) → ⊥) → LineAgrees k mem → ⊥
+    pub late-not : (nth ls (nth mem (rowAt rooms k + (1 + 3 * c))) ≡ nth mem (rowAt rooms k + (3 + 3 * c)) → ⊥) → LineAgrees rooms k mem → ⊥
     late-not n a = n (ap tickOf (late-found ∙ a true c g ∙ tick-in h k l true c g))
 
-pub agrees-none : (k : ℕ) (mem : List ℕ) → AgreesTo k 0 mem
-agrees-none k mem late i g = absurd (omega arith)
+pub agrees-none : (rooms : ℕ) (k : ℕ) (mem : List ℕ) → AgreesTo rooms k 0 mem
+agrees-none rooms k mem late i g = absurd (omega arith)
 
 -- One line more.
-pub agreed-next : (mem : List ℕ) (k : ℕ) → LineAgrees k mem → ((i : ℕ) → i < k → LineAgrees i mem) → (i : ℕ) → i < k + 1 → LineAgrees i mem
-agreed-next mem k a b i g = ⊎-elim (λ (e : i ≡ k). rw e a) (λ (l : i < k). b i l) (last-or-before k i (omega arith))
+pub agreed-next : (rooms : ℕ) (mem : List ℕ) (k : ℕ) → LineAgrees rooms k mem → ((i : ℕ) → i < k → LineAgrees rooms i mem) → (i : ℕ) → i < k + 1 → LineAgrees rooms i mem
+agreed-next rooms mem k a b i g = ⊎-elim (λ (e : i ≡ k). rw e a) (λ (l : i < k). b i l) (last-or-before k i (omega arith))
 
 -- The walk over lines -----------------------------------------------------------------------------------------------
 
@@ -291,23 +291,23 @@ module _ (j : Job) (choose : List Time → Time) where
 
 -- The walk over the lines in memory ---------------------------------------------------------------------------------
 
-module _ {mem : List ℕ} (h : PlanHeld mem) (one : doubledTasks (planIn mem .lines) ≡ []) where
+module _ {rooms : ℕ} {mem : List ℕ} (h : PlanHeld rooms mem) (one : doubledTasks (planIn rooms mem .lines) ≡ []) where
   abbrev wide : ℕ
   wide = nth mem 3 + 1
 
   abbrev line : ℕ → Line
-  line k = lineIn (rowAt k) mem
+  line k = lineIn (rowAt rooms k) mem
 
   -- The copies of line k, after the lines before it as they are written.
   abbrev lineWalk : Bool → ℕ → List Outcome
-  lineWalk late k = walk (jobIn mem) (choiceOf late) [] (placedIn late wide k mem) (copiesOf (jobIn mem) (line k .task) (processorsOf (line k)))
+  lineWalk late k = walk (jobIn mem) (choiceOf late) [] (placedIn rooms late wide k mem) (copiesOf (jobIn mem) (line k .task) (processorsOf (line k)))
 
   -- The copies of the first k lines.
   abbrev linesWalk : Bool → ℕ → List Outcome
-  linesWalk late k = walk (jobIn mem) (choiceOf late) [] [] (copies (jobIn mem) (linesIn wide k mem))
+  linesWalk late k = walk (jobIn mem) (choiceOf late) [] [] (copies (jobIn mem) (linesIn rooms wide k mem))
 
   abbrev finishBy : Bool → ℕ → Replica → Time
-  finishBy late k r = finishOn late k mem (line k .task) (r .processor)
+  finishBy late k r = finishOn rooms late k mem (line k .task) (r .processor)
 
   line-distinct : (k : ℕ) → k < nth mem 0 → distinct (processorsOf (line k)) ≡ true
   unfolding planIn
@@ -315,30 +315,30 @@ module _ {mem : List ℕ} (h : PlanHeld mem) (one : doubledTasks (planIn mem .li
     where
       by : (b : Bool) → distinct (processorsOf (line k)) ≡ b → b ≡ true
       by true d = refl
-      by false d = let i : In (line k .task) [] = rw one at (doubled-in (line k) (linesIn wide (nth mem 0) mem) (line-among k (nth mem 0) mem l) (rw d refl)) in absurd i
+      by false d = let i : In (line k .task) [] = rw one at (doubled-in (line k) (linesIn rooms wide (nth mem 0) mem) (line-among rooms k (nth mem 0) mem l) (rw d refl)) in absurd i
 
-  line-walk : (late : Bool) (k : ℕ) → k < nth mem 0 → lineWalk late k ≡ map (λ r. outcomeOn (jobIn mem) (choiceOf late) (placedIn late wide k mem) (line k .task) (r .processor)) (line k .replicas)
+  line-walk : (late : Bool) (k : ℕ) → k < nth mem 0 → lineWalk late k ≡ map (λ r. outcomeOn (jobIn mem) (choiceOf late) (placedIn rooms late wide k mem) (line k .task) (r .processor)) (line k .replicas)
   line-walk late k l =
-      walk-apart (jobIn mem) (choiceOf late) (line k .task) (line-apart h k l) (processorsOf (line k)) (line-distinct k l) (placedIn late wide k mem)
-      ∙ map-map (outcomeOn (jobIn mem) (choiceOf late) (placedIn late wide k mem) (line k .task)) (λ r. r .processor) (line k .replicas)
+      walk-apart (jobIn mem) (choiceOf late) (line k .task) (line-apart h k l) (processorsOf (line k)) (line-distinct k l) (placedIn rooms late wide k mem)
+      ∙ map-map (outcomeOn (jobIn mem) (choiceOf late) (placedIn rooms late wide k mem) (line k .task)) (λ r. r .processor) (line k .replicas)
 
-  line-agreed : (late : Bool) (k : ℕ) → k < nth mem 0 → LineAgrees k mem → lineWalk late k ≡ reverse (rowOutcomes late (rowAt k) wide mem)
+  line-agreed : (late : Bool) (k : ℕ) → k < nth mem 0 → LineAgrees rooms k mem → lineWalk late k ≡ reverse (rowOutcomes late (rowAt rooms k) wide mem)
   unfolding finishOn
   line-agreed late k l a =
       line-walk late k l
-      ∙ map-same (λ r. outcomeOn (jobIn mem) (choiceOf late) (placedIn late wide k mem) (line k .task) (r .processor)) (outcomeOf late (line k .task)) (line k .replicas)
-      (λ r i. let (c, g, e) = replicas-in (rowAt k) wide mem r i in
-      rw (← e) (ap (outcome (copyOf (jobIn mem) (line k .task) (nth mem (rowAt k + (1 + 3 * c))))) (a late c g ∙ ap timeIn (sym (written-at late (rowAt k) c mem)))))
-      ∙ outcomes-line late (rowAt k) wide mem
+      ∙ map-same (λ r. outcomeOn (jobIn mem) (choiceOf late) (placedIn rooms late wide k mem) (line k .task) (r .processor)) (outcomeOf late (line k .task)) (line k .replicas)
+      (λ r i. let (c, g, e) = replicas-in (rowAt rooms k) wide mem r i in
+      rw (← e) (ap (outcome (copyOf (jobIn mem) (line k .task) (nth mem (rowAt rooms k + (1 + 3 * c))))) (a late c g ∙ ap timeIn (sym (written-at late (rowAt rooms k) c mem)))))
+      ∙ outcomes-line late (rowAt rooms k) wide mem
 
   -- Lines whose ticks are the equations' walk to what is written.
-  pub agreed-walk : (late : Bool) (k : ℕ) → k ≤ nth mem 0 → ((i : ℕ) → i < k → LineAgrees i mem) → linesWalk late k ≡ reverse (placedIn late wide k mem)
+  pub agreed-walk : (late : Bool) (k : ℕ) → k ≤ nth mem 0 → ((i : ℕ) → i < k → LineAgrees rooms i mem) → linesWalk late k ≡ reverse (placedIn rooms late wide k mem)
   unfolding walk copies linesIn placedIn
   agreed-walk late zero l a = refl
   agreed-walk late (suc k) l a =
-      walk-line (jobIn mem) (choiceOf late) (linesIn wide k mem) (line k)
-      ∙ rw (agreed-walk late k (omega arith) (λ i g. a i (omega arith)), reverse-reverse (placedIn late wide k mem), line-agreed late k (omega arith) (a k (omega arith)))
-      (sym (reverse-append (rowOutcomes late (rowAt k) wide mem) (placedIn late wide k mem)))
+      walk-line (jobIn mem) (choiceOf late) (linesIn rooms wide k mem) (line k)
+      ∙ rw (agreed-walk late k (omega arith) (λ i g. a i (omega arith)), reverse-reverse (placedIn rooms late wide k mem), line-agreed late k (omega arith) (a k (omega arith)))
+      (sym (reverse-append (rowOutcomes late (rowAt rooms k) wide mem) (placedIn rooms late wide k mem)))
 
   -- The times of line k's copies, and the written ones.
   abbrev tell : Bool → Replica → Time
@@ -348,58 +348,58 @@ module _ {mem : List ℕ} (h : PlanHeld mem) (one : doubledTasks (planIn mem .li
   unfolding finishOn
   line-times late k l =
       ap times (line-walk late k l)
-      ∙ map-map (λ d. d .time) (λ r. outcomeOn (jobIn mem) (choiceOf late) (placedIn late wide k mem) (line k .task) (r .processor)) (line k .replicas)
+      ∙ map-map (λ d. d .time) (λ r. outcomeOn (jobIn mem) (choiceOf late) (placedIn rooms late wide k mem) (line k .task) (r .processor)) (line k .replicas)
 
-  line-told : (late : Bool) (k : ℕ) → k < nth mem 0 → LineAgrees k mem → times (lineWalk late k) ≡ map (tell late) (line k .replicas)
+  line-told : (late : Bool) (k : ℕ) → k < nth mem 0 → LineAgrees rooms k mem → times (lineWalk late k) ≡ map (tell late) (line k .replicas)
   line-told late k l a =
       line-times late k l
       ∙ map-same (finishBy late k) (tell late) (line k .replicas)
-      (λ r i. let (c, g, e) = replicas-in (rowAt k) wide mem r i in
-      rw (← e) (a late c g ∙ tick-in h k l late c g ∙ ap tick (sym (written-at late (rowAt k) c mem))))
+      (λ r i. let (c, g, e) = replicas-in (rowAt rooms k) wide mem r i in
+      rw (← e) (a late c g ∙ tick-in h k l late c g ∙ ap tick (sym (written-at late (rowAt rooms k) c mem))))
 
-  told-line : (k : ℕ) → k < nth mem 0 → ((late : Bool) → times (lineWalk late k) ≡ map (tell late) (line k .replicas)) → LineAgrees k mem
+  told-line : (k : ℕ) → k < nth mem 0 → ((late : Bool) → times (lineWalk late k) ≡ map (tell late) (line k .replicas)) → LineAgrees rooms k mem
   told-line k l t late c g =
-      map-at (finishBy late k) (tell late) (line k .replicas) (sym (line-times late k l) ∙ t late) (replicaAt (rowAt k) c mem) (in-replicas (rowAt k) wide c mem g)
-      ∙ ap tick (written-at late (rowAt k) c mem) ∙ sym (tick-in h k l late c g)
+      map-at (finishBy late k) (tell late) (line k .replicas) (sym (line-times late k l) ∙ t late) (replicaAt (rowAt rooms k) c mem) (in-replicas (rowAt rooms k) wide c mem g)
+      ∙ ap tick (written-at late (rowAt rooms k) c mem) ∙ sym (tick-in h k l late c g)
 
   -- The times of the first k lines are the written ones exactly if their ticks are the equations'.
   abbrev Told : Bool → ℕ → Type 0
-  Told late k = times (linesWalk late k) ≡ map (tell late) (replicasOf (linesIn wide k mem))
+  Told late k = times (linesWalk late k) ≡ map (tell late) (replicasOf (linesIn rooms wide k mem))
 
-  agreed-told : (late : Bool) (k : ℕ) → k ≤ nth mem 0 → ((i : ℕ) → i < k → LineAgrees i mem) → Told late k
+  agreed-told : (late : Bool) (k : ℕ) → k ≤ nth mem 0 → ((i : ℕ) → i < k → LineAgrees rooms i mem) → Told late k
   unfolding walk copies replicasOf linesIn
   agreed-told late zero l a = refl
   agreed-told late (suc k) l a =
-      let first : (i : ℕ) → i < k → LineAgrees i mem = λ i g. a i (omega arith) in
-      let back : reverse (linesWalk late k) ≡ placedIn late wide k mem = ap reverse (agreed-walk late k (omega arith) first) ∙ reverse-reverse (placedIn late wide k mem) in
-      let turn : linesWalk late (suc k) ≡ linesWalk late k ++ lineWalk late k = rw back at (walk-line (jobIn mem) (choiceOf late) (linesIn wide k mem) (line k)) in
+      let first : (i : ℕ) → i < k → LineAgrees rooms i mem = λ i g. a i (omega arith) in
+      let back : reverse (linesWalk late k) ≡ placedIn rooms late wide k mem = ap reverse (agreed-walk late k (omega arith) first) ∙ reverse-reverse (placedIn rooms late wide k mem) in
+      let turn : linesWalk late (suc k) ≡ linesWalk late k ++ lineWalk late k = rw back at (walk-line (jobIn mem) (choiceOf late) (linesIn rooms wide k mem) (line k)) in
       let joined : times (linesWalk late (suc k)) ≡ times (linesWalk late k) ++ times (lineWalk late k) = ap times turn ∙ map-append (λ d. d .time) (linesWalk late k) (lineWalk late k) in
       joined
-      ∙ rw (agreed-told late k (omega arith) first, line-told late k (omega arith) (a k (omega arith)), replicas-more (linesIn wide k mem) (line k))
-      (sym (map-append (tell late) (replicasOf (linesIn wide k mem)) (line k .replicas)))
+      ∙ rw (agreed-told late k (omega arith) first, line-told late k (omega arith) (a k (omega arith)), replicas-more (linesIn rooms wide k mem) (line k))
+      (sym (map-append (tell late) (replicasOf (linesIn rooms wide k mem)) (line k .replicas)))
 
-  told-agreed : (k : ℕ) → k ≤ nth mem 0 → ((late : Bool) → Told late k) → (i : ℕ) → i < k → LineAgrees i mem
+  told-agreed : (k : ℕ) → k ≤ nth mem 0 → ((late : Bool) → Told late k) → (i : ℕ) → i < k → LineAgrees rooms i mem
   unfolding linesIn
   told-agreed zero l t i g = absurd (omega arith)
   told-agreed (suc k) l t i g =
-      let ns = linesIn wide k mem in
-      let first : (i : ℕ) → i < k → LineAgrees i mem =
+      let ns = linesIn rooms wide k mem in
+      let first : (i : ℕ) → i < k → LineAgrees rooms i mem =
       told-agreed k (omega arith) (λ late. written-before (jobIn mem) (choiceOf late) (tell late) ns (line k) (t late) .0) in
       ⊎-elim
       (λ (e : i ≡ k). rw e (told-line k (omega arith)
-      (λ late. rw (agreed-walk late k (omega arith) first, reverse-reverse (placedIn late wide k mem)) at (written-before (jobIn mem) (choiceOf late) (tell late) ns (line k) (t late) .1))))
+      (λ late. rw (agreed-walk late k (omega arith) first, reverse-reverse (placedIn rooms late wide k mem)) at (written-before (jobIn mem) (choiceOf late) (tell late) ns (line k) (t late) .1))))
       (λ (o : i < k). first i o)
       (last-or-before k i g)
 
   -- All ticks are the equations', or those of some line are not.
-  pub ticks-yes : (k : ℕ) → k ≡ nth mem 0 → ((i : ℕ) → i < k → LineAgrees i mem) → true ≡ ticksAgree (jobIn mem) (planIn mem .lines)
+  pub ticks-yes : (k : ℕ) → k ≡ nth mem 0 → ((i : ℕ) → i < k → LineAgrees rooms i mem) → true ≡ ticksAgree (jobIn mem) (planIn rooms mem .lines)
   unfolding ticksAgree earlies lates planIn
   ticks-yes k e a =
-      let b : (i : ℕ) → i < nth mem 0 → LineAgrees i mem = λ i l. a i (omega arith) in
-      let rs = replicasOf (linesIn wide (nth mem 0) mem) in
+      let b : (i : ℕ) → i < nth mem 0 → LineAgrees rooms i mem = λ i l. a i (omega arith) in
+      let rs = replicasOf (linesIn rooms wide (nth mem 0) mem) in
       sym (rw (agreed-told false (nth mem 0) (omega arith) b, agreed-told true (nth mem 0) (omega arith) b) (both-true (times-same (map (tell false) rs)) (times-same (map (tell true) rs))))
 
-  pub ticks-all : ticksAgree (jobIn mem) (planIn mem .lines) ≡ true → (i : ℕ) → i < nth mem 0 → LineAgrees i mem
+  pub ticks-all : ticksAgree (jobIn mem) (planIn rooms mem .lines) ≡ true → (i : ℕ) → i < nth mem 0 → LineAgrees rooms i mem
   unfolding ticksAgree earlies lates planIn
   ticks-all t =
       let (e, f) = both _ _ t in
@@ -409,9 +409,9 @@ module _ {mem : List ℕ} (h : PlanHeld mem) (one : doubledTasks (planIn mem .li
       by e f true = f
       by e f false = e
 
-  pub ticks-no : (k : ℕ) → k < nth mem 0 → (LineAgrees k mem → ⊥) → false ≡ ticksAgree (jobIn mem) (planIn mem .lines)
-  ticks-no k l n = by (ticksAgree (jobIn mem) (planIn mem .lines)) refl
+  pub ticks-no : (k : ℕ) → k < nth mem 0 → (LineAgrees rooms k mem → ⊥) → false ≡ ticksAgree (jobIn mem) (planIn rooms mem .lines)
+  ticks-no k l n = by (ticksAgree (jobIn mem) (planIn rooms mem .lines)) refl
     where
-      by : (b : Bool) → ticksAgree (jobIn mem) (planIn mem .lines) ≡ b → false ≡ b
+      by : (b : Bool) → ticksAgree (jobIn mem) (planIn rooms mem .lines) ≡ b → false ≡ b
       by true t = absurd (n (ticks-all t k l))
       by false t = refl

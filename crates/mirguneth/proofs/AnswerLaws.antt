@@ -4,7 +4,7 @@ use mathlib.Core.List.{List}
 use Prim.Native.Nat.{ℕ, _<_, _≤_}
 use native.Mathlib.Omega.{arith}
 use borrow.Author.Tests.{lt-ltb, le-ltb}
-use lib.ListN.{length, take, length-take, replicate, length-replicate}
+use lib.ListN.{length, take, length-take}
 use Rattle.definitions.specs.Limits.{document01}
 use Rattle.definitions.specs.Text.{Result, good, bad}
 use Rattle.definitions.specs.Job.{Job, readJob}
@@ -24,10 +24,7 @@ pub loaded-next : (x : Result Job) (mem : List ℕ) (n : ℕ) → Loaded x mem (
 loaded-next (good j) mem n (e, f) = let l : n ≡ length (jobCells j) = cc in (j, refl, l, rw l f)
 loaded-next (bad k) mem n e = absurd (let z : _≡_ {A = ℕ} 0 1 = cc in omega arith)
 
--- A new memory has room for a job; the cells of a job that was loaded stand in the memory.
-pub new-room : 5640 ≤ length (replicate {A = ℕ} 5640 0)
-new-room = rw (length-replicate {A = ℕ} 5640 0) (omega arith)
-
+-- The cells of a job that was loaded stand in the memory.
 pub loaded-fits : (x : Result Job) (mem : List ℕ) (n : ℕ) → Loaded x mem (Next n) → n ≤ length mem
 loaded-fits x mem n h = let (j, _, l, f) = loaded-next x mem n h in omega (arith, length-take n mem, ap length f)
 

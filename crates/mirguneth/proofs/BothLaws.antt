@@ -28,7 +28,7 @@ pub record Offered (volume a : ℕ) (mem l : List ℕ) (c : ℕ) (low g : List �
   pub first-most : (p : ℕ) → p < nth mem 1 → 0 < c → nth low p ≤ lastArrival
   pub last-most : (p : ℕ) → p < nth mem 1 → nth l p ≤ lastArrival → nth g p ≤ lastArrival
 
-module _ (volume a : ℕ) (mem l : List ℕ) (s : Sizes mem) where
+module _ {rooms : ℕ} (volume a : ℕ) (mem l : List ℕ) (s : Sizes rooms mem) where
   pub offer-none : length l ≡ 16 → Offered volume a mem l 0 (replicate 16 shortNever) l
   unfolding chosenBy rowOutcomes least largest
   offer-none h =
@@ -98,66 +98,66 @@ module _ (volume a : ℕ) (mem l : List ℕ) (s : Sizes mem) where
 -- All data of a task ------------------------------------------------------------------------------------------------
 
 -- The edges from link k on are still to be seen; e and l have for each processor the largest times of the others that enter t.
-pub record BothGathering (t : ℕ) (mem e l : List ℕ) (k : ℕ) : Type 0 where
+pub record BothGathering (rooms t : ℕ) (mem e l : List ℕ) (k : ℕ) : Type 0 where
   pub early-size : length e ≡ 16
   pub late-size : length l ≡ 16
   pub most : k ≤ nth mem 2
-  pub early : (p : ℕ) → p < nth mem 1 → Gathering (arrives false p mem) t mem (tick (nth e p)) k
-  pub late : (p : ℕ) → p < nth mem 1 → Gathering (arrives true p mem) t mem (tick (nth l p)) k
+  pub early : (p : ℕ) → p < nth mem 1 → Gathering rooms (arrives rooms false p mem) t mem (tick (nth e p)) k
+  pub late : (p : ℕ) → p < nth mem 1 → Gathering rooms (arrives rooms true p mem) t mem (tick (nth l p)) k
   pub early-most : (p : ℕ) → p < nth mem 1 → nth e p ≤ lastArrival
   pub late-most : (p : ℕ) → p < nth mem 1 → nth l p ≤ lastArrival
 
-module _ (n t : ℕ) (mem : List ℕ) (s : Standing n mem) where
+module _ {rooms : ℕ} (n t : ℕ) (mem : List ℕ) (s : Standing rooms n mem) where
   nothing : (p : ℕ) → p < nth mem 1 → nth (replicate 16 0) p ≡ 0
   nothing p h = let w = sizes (s .job) in getD-replicate {A = ℕ} 16 p 0 0 (omega (arith, w .processors-most))
 
-  pub both-first : t < nth mem 0 → BothGathering t mem (replicate 16 0) (replicate 16 0) (nth mem (inHeadAt + t))
+  pub both-first : t < nth mem 0 → BothGathering rooms t mem (replicate 16 0) (replicate 16 0) (nth mem (inHeadAt rooms + t))
   both-first h =
       record {
         early-size = length-replicate {A = ℕ} 16 0;
         late-size = length-replicate {A = ℕ} 16 0;
         most = s .linked .head-most t h;
-        early = λ p j. rw (nothing p j) (gather-first (arrives false p mem) n t mem s h);
-        late = λ p j. rw (nothing p j) (gather-first (arrives true p mem) n t mem s h);
+        early = λ p j. rw (nothing p j) (gather-first (arrives rooms false p mem) n t mem s h);
+        late = λ p j. rw (nothing p j) (gather-first (arrives rooms true p mem) n t mem s h);
         early-most = λ p j. omega (arith, nothing p j);
         late-most = λ p j. omega (arith, nothing p j);
       }
 
-  module _ {e l : List ℕ} {k : ℕ} (g : BothGathering t mem e l k) where
+  module _ {e l : List ℕ} {k : ℕ} (g : BothGathering rooms t mem e l k) where
     module _ (h : 0 < k) where
       abbrev here : Edge
       here = edgeIn (nth mem (edgeAt mem (k - 1)))
 
-      some : Gathering (arrives false 0 mem) t mem (tick (nth e 0)) k
+      some : Gathering rooms (arrives rooms false 0 mem) t mem (tick (nth e 0)) k
       some = g .early 0 (sizes (s .job) .some-processor)
 
-      pub both-edge : BothFed t mem → Feeds here mem × BothShort (rowOf (here .from) mem) mem
+      pub both-edge : BothFed rooms t mem → Feeds rooms here mem × BothShort (rowOf rooms (here .from) mem) mem
       both-edge d =
-          (gather-edge (arrives false 0 mem) n t mem s some h (λ e i. d e i .0), d here (gather-enters (arrives false 0 mem) n t mem s some h) .1)
+          (gather-edge (arrives rooms false 0 mem) n t mem s some h (λ e i. d e i .0), d here (gather-enters (arrives rooms false 0 mem) n t mem s some h) .1)
 
-      pub both-next : (x y : List ℕ) → BothRaised (here .volume) (rowOf (here .from) mem) mem e x l y → BothGathering t mem x y (nth mem (inNextAt + (k - 1)))
+      pub both-next : (x y : List ℕ) → BothRaised (here .volume) (rowOf rooms (here .from) mem) mem e x l y → BothGathering rooms t mem x y (nth mem (inNextAt rooms + (k - 1)))
       both-next x y r =
           record {
             early-size = r .early-size;
             late-size = r .late-size;
-            most = gather-next (arrives false 0 mem) n t mem s some h (later (arrives false 0 mem here) (tick (nth e 0))) refl .most;
-            early = λ p j. gather-next (arrives false p mem) n t mem s (g .early p j) h (tick (nth x p)) (r .early-raised p j ∙ later-comm (tick (nth e p)) (arrives false p mem here));
-            late = λ p j. gather-next (arrives true p mem) n t mem s (g .late p j) h (tick (nth y p)) (r .late-raised p j ∙ later-comm (tick (nth l p)) (arrives true p mem here));
+            most = gather-next (arrives rooms false 0 mem) n t mem s some h (later (arrives rooms false 0 mem here) (tick (nth e 0))) refl .most;
+            early = λ p j. gather-next (arrives rooms false p mem) n t mem s (g .early p j) h (tick (nth x p)) (r .early-raised p j ∙ later-comm (tick (nth e p)) (arrives rooms false p mem here));
+            late = λ p j. gather-next (arrives rooms true p mem) n t mem s (g .late p j) h (tick (nth y p)) (r .late-raised p j ∙ later-comm (tick (nth l p)) (arrives rooms true p mem here));
             early-most = λ p j. r .early-most p j (g .early-most p j);
             late-most = λ p j. r .late-most p j (g .late-most p j);
           }
 
-      pub both-falls : nth mem (inNextAt + (k - 1)) < k
-      both-falls = gather-falls (arrives false 0 mem) n t mem s some h
+      pub both-falls : nth mem (inNextAt rooms + (k - 1)) < k
+      both-falls = gather-falls (arrives rooms false 0 mem) n t mem s some h
 
-    pub both-done : k ≡ 0 → BothReady t mem e l
+    pub both-done : k ≡ 0 → BothReady rooms t mem e l
     unfolding dataIn
     both-done z =
         record {
           early-size = g .early-size;
           late-size = g .late-size;
-          early-ready = λ p j. gather-done (arrives false p mem) n t mem s (g .early p j) z;
-          late-ready = λ p j. gather-done (arrives true p mem) n t mem s (g .late p j) z;
+          early-ready = λ p j. gather-done (arrives rooms false p mem) n t mem s (g .early p j) z;
+          late-ready = λ p j. gather-done (arrives rooms true p mem) n t mem s (g .late p j) z;
           early-most = g .early-most;
           late-most = g .late-most;
         }
@@ -165,11 +165,11 @@ module _ (n t : ℕ) (mem : List ℕ) (s : Standing n mem) where
 -- Finishes ----------------------------------------------------------------------------------------------------------
 
 -- The tick x is the finish of t on p, if it is ready at the tick of its clock.
-abbrev pub Finish : Bool → ℕ → List ℕ → List ℕ → ℕ → ℕ → Type 0
-Finish late t clocks mem p x = tick x ≡ after (runTime (jobIn mem) t p) (later (tick (nth clocks p)) (dataIn late t p mem))
+abbrev pub Finish : ℕ → Bool → ℕ → List ℕ → List ℕ → ℕ → ℕ → Type 0
+Finish rooms late t clocks mem p x = tick x ≡ after (runTime (jobIn mem) t p) (later (tick (nth clocks p)) (dataIn rooms late t p mem))
 
-pub finish-cell : (late : Bool) (t : ℕ) (clocks mem : List ℕ) (p y x : ℕ) → t < nth mem 0 → p < nth mem 1
-    → tick y ≡ dataIn late t p mem
+pub finish-cell : (rooms : ℕ) (late : Bool) (t : ℕ) (clocks mem : List ℕ) (p y x : ℕ) → t < nth mem 0 → p < nth mem 1
+    → tick y ≡ dataIn rooms late t p mem
     → x ≡ max (nth clocks p) y
-    → Finish late t clocks mem p (x + nth mem (4 + t * (nth mem 1 + 1) + (p + 1)))
-finish-cell late t clocks mem p y x h g d e = rw (e, run-in mem t p h g, ← d)
+    → Finish rooms late t clocks mem p (x + nth mem (4 + t * (nth mem 1 + 1) + (p + 1)))
+finish-cell rooms late t clocks mem p y x h g d e = rw (e, run-in mem t p h g, ← d)

@@ -121,12 +121,13 @@ head-cells (a ∷ b ∷ c ∷ e ∷ d) h = refl
 pub lent-headed : (d x ys : List ℕ) (a : ℕ) → x ≡ putMid a (length d - a) d ys → length ys ≡ length (midOf a (length d - a) d) → 4 ≤ a → a ≤ length d
     → Headed d → Headed x
 lent-headed d x ys a e l g h w =
+    let n : length x ≡ length d = rw (e, same-len-mid a (length d - a) d ys l) in
     record {
       some-task = rw (lent-nth d x ys a e h 0 (omega arith)) (w .some-task);
       tasks-most = rw (lent-nth d x ys a e h 0 (omega arith)) (w .tasks-most);
       processors-most = rw (lent-nth d x ys a e h 1 (omega arith)) (w .processors-most);
       edges-most = rw (lent-nth d x ys a e h 2 (omega arith)) (w .edges-most);
-      room = rw (e, same-len-mid a (length d - a) d ys l) (w .room);
+      room = rw (lent-nth d x ys a e h 0 (omega arith), lent-nth d x ys a e h 1 (omega arith), lent-nth d x ys a e h 2 (omega arith), n) (w .room);
     }
 
 -- The memory d, with a head: its cells from a stage on were lent and came back as ys, and x is the memory then.

@@ -134,21 +134,21 @@ module _ (a : ℕ) (mem : List ℕ) where
 
 -- Line by line ------------------------------------------------------------------------------------------------------
 
-lines-split : (k v : ℕ) (mem : List ℕ) → k < v → (ys : List Line) × (linesIn (nth mem 3 + 1) v mem ≡ linesIn (nth mem 3 + 1) k mem ++ lineIn (rowAt k) mem ∷ ys)
+lines-split : (rooms : ℕ) (k v : ℕ) (mem : List ℕ) → k < v → (ys : List Line) × (linesIn rooms (nth mem 3 + 1) v mem ≡ linesIn rooms (nth mem 3 + 1) k mem ++ lineIn (rowAt rooms k) mem ∷ ys)
 unfolding linesIn
-lines-split k zero mem l = absurd (omega arith)
-lines-split k (suc v) mem l =
+lines-split rooms k zero mem l = absurd (omega arith)
+lines-split rooms k (suc v) mem l =
     ⊎-elim
     (λ (e : k ≡ v). rw (← e) ([], refl))
     (λ (g : k < v).
-    let (ys, e) = lines-split k v mem g in
-    (ys ++ lineIn (rowAt v) mem ∷ [], rw e (append-assoc (linesIn (nth mem 3 + 1) k mem) (lineIn (rowAt k) mem ∷ ys) (lineIn (rowAt v) mem ∷ []))))
+    let (ys, e) = lines-split rooms k v mem g in
+    (ys ++ lineIn (rowAt rooms v) mem ∷ [], rw e (append-assoc (linesIn rooms (nth mem 3 + 1) k mem) (lineIn (rowAt rooms k) mem ∷ ys) (lineIn (rowAt rooms v) mem ∷ []))))
     (last-or-before v k l)
 
-pub line-among : (k v : ℕ) (mem : List ℕ) → k < v → In (lineIn (rowAt k) mem) (linesIn (nth mem 3 + 1) v mem)
-line-among k v mem l =
-    let (ys, e) = lines-split k v mem l in
-    rw e (append-right (lineIn (rowAt k) mem) (linesIn (nth mem 3 + 1) k mem) (lineIn (rowAt k) mem ∷ ys) (inl refl))
+pub line-among : (rooms : ℕ) (k v : ℕ) (mem : List ℕ) → k < v → In (lineIn (rowAt rooms k) mem) (linesIn rooms (nth mem 3 + 1) v mem)
+line-among rooms k v mem l =
+    let (ys, e) = lines-split rooms k v mem l in
+    rw e (append-right (lineIn (rowAt rooms k) mem) (linesIn rooms (nth mem 3 + 1) k mem) (lineIn (rowAt rooms k) mem ∷ ys) (inl refl))
 
 -- Tasks with two copies on one processor ----------------------------------------------------------------------------
 
@@ -169,21 +169,21 @@ doubled-in n ns i d = map-in (λ n. n .task) n (keep (λ n. not (distinct (proce
 
 module _ (mem : List ℕ) (k : ℕ) where
   -- The first k lines, none of which has a processor twice; and line k.
-  pub doubled-none : doubledTasks (linesIn (nth mem 3 + 1) 0 mem) ≡ []
+  pub doubled-none : (rooms : ℕ) → doubledTasks (linesIn rooms (nth mem 3 + 1) 0 mem) ≡ []
   unfolding doubledTasks keep linesIn
-  doubled-none = refl
+  doubled-none rooms = refl
 
-  pub doubled-next : false ≡ not (distinct (processorsOf (lineIn (rowAt k) mem))) → doubledTasks (linesIn (nth mem 3 + 1) k mem) ≡ [] → doubledTasks (linesIn (nth mem 3 + 1) (k + 1) mem) ≡ []
+  pub doubled-next : (rooms : ℕ) → false ≡ not (distinct (processorsOf (lineIn (rowAt rooms k) mem))) → doubledTasks (linesIn rooms (nth mem 3 + 1) k mem) ≡ [] → doubledTasks (linesIn rooms (nth mem 3 + 1) (k + 1) mem) ≡ []
   unfolding linesIn
-  doubled-next d e = rw (add-one k) (doubled-more (linesIn (nth mem 3 + 1) k mem) (lineIn (rowAt k) mem) (not-false (distinct (processorsOf (lineIn (rowAt k) mem))) (sym d)) ∙ e)
+  doubled-next rooms d e = rw (add-one k) (doubled-more (linesIn rooms (nth mem 3 + 1) k mem) (lineIn (rowAt rooms k) mem) (not-false (distinct (processorsOf (lineIn (rowAt rooms k) mem))) (sym d)) ∙ e)
 
-  pub doubled-here : k < nth mem 0 → true ≡ not (distinct (processorsOf (lineIn (rowAt k) mem))) → In (nth mem (rowAt k)) (doubledTasks (planIn mem .lines))
+  pub doubled-here : (rooms : ℕ) → k < nth mem 0 → true ≡ not (distinct (processorsOf (lineIn (rowAt rooms k) mem))) → In (nth mem (rowAt rooms k)) (doubledTasks (planIn rooms mem .lines))
   unfolding planIn
-  doubled-here l d = doubled-in (lineIn (rowAt k) mem) (linesIn (nth mem 3 + 1) (nth mem 0) mem) (line-among k (nth mem 0) mem l) d
+  doubled-here rooms l d = doubled-in (lineIn (rowAt rooms k) mem) (linesIn rooms (nth mem 3 + 1) (nth mem 0) mem) (line-among rooms k (nth mem 0) mem l) d
 
-  pub doubled-done : nth mem 0 ≤ k → k ≤ nth mem 0 → doubledTasks (linesIn (nth mem 3 + 1) k mem) ≡ [] → doubledTasks (planIn mem .lines) ≡ []
+  pub doubled-done : (rooms : ℕ) → nth mem 0 ≤ k → k ≤ nth mem 0 → doubledTasks (linesIn rooms (nth mem 3 + 1) k mem) ≡ [] → doubledTasks (planIn rooms mem .lines) ≡ []
   unfolding planIn
-  doubled-done l h e = let q : k ≡ nth mem 0 = omega arith in rw q at e
+  doubled-done rooms l h e = let q : k ≡ nth mem 0 = omega arith in rw q at e
 
 -- A line of a plan that was read ------------------------------------------------------------------------------------
 
@@ -195,14 +195,14 @@ ordered-at j seen (m ∷ ms) n ns (o, os) =
     let (us, f, h) = ordered-at j (m .task ∷ seen) ms n ns os in
     (us, f, λ u i. ⊎-elim (⊎-elim (λ e. inr (inl e)) inl) (λ k. inr (inr k)) (h u i))
 
-module _ {mem : List ℕ} (h : PlanHeld mem) (k : ℕ) (l : k < nth mem 0) where
-  pub line-facts : (us : List ℕ) × LineFacts (jobIn mem) us (lineIn (rowAt k) mem) × ((u : ℕ) → In u us → (i : ℕ) × (i < k) × (nth mem (rowAt i) ≡ u))
+module _ {rooms : ℕ} {mem : List ℕ} (h : PlanHeld rooms mem) (k : ℕ) (l : k < nth mem 0) where
+  pub line-facts : (us : List ℕ) × LineFacts (jobIn mem) us (lineIn (rowAt rooms k) mem) × ((u : ℕ) → In u us → (i : ℕ) × (i < k) × (nth mem (rowAt rooms i) ≡ u))
   unfolding planIn
   line-facts =
       let w = nth mem 3 + 1 in
-      let (ns, e) = lines-split k (nth mem 0) mem l in
-      let (us, f, m) = ordered-at (jobIn mem) [] (linesIn w k mem) (lineIn (rowAt k) mem) ns (rw e at (h .facts .ordered)) in
-      (us, f, λ u i. in-tasks-row w mem k u (⊎-elim absurd (λ k. k) (m u i)))
+      let (ns, e) = lines-split rooms k (nth mem 0) mem l in
+      let (us, f, m) = ordered-at (jobIn mem) [] (linesIn rooms w k mem) (lineIn (rowAt rooms k) mem) ns (rw e at (h .facts .ordered)) in
+      (us, f, λ u i. in-tasks-row rooms w mem k u (⊎-elim absurd (λ k. k) (m u i)))
 
-  pub line-ascends : descends (processorsOf (lineIn (rowAt k) mem)) ≡ false
+  pub line-ascends : descends (processorsOf (lineIn (rowAt rooms k) mem)) ≡ false
   line-ascends = let (us, f, m) = line-facts in f .ascends

@@ -82,11 +82,11 @@ unfolding rowOutcomes
 row-come late a (suc c) b mem g h d (inl e) = rw (← e) (time-back (nth mem (a + ((if late then 3 else 2) + 3 * c))) b (h c (omega arith)) g)
 row-come late a (suc c) b mem g h d (inr i) = row-come late a c b mem g (λ i l. h i (omega arith)) d i
 
-pub placed-come : (late : Bool) (w k b : ℕ) (mem : List ℕ) → b < neverCell → ((i c : ℕ) → i < k → c < w → nth mem (rowAt i + ((if late then 3 else 2) + 3 * c)) ≤ b) → AllCome b (placedIn late w k mem)
+pub placed-come : (rooms : ℕ) (late : Bool) (w k b : ℕ) (mem : List ℕ) → b < neverCell → ((i c : ℕ) → i < k → c < w → nth mem (rowAt rooms i + ((if late then 3 else 2) + 3 * c)) ≤ b) → AllCome b (placedIn rooms late w k mem)
 unfolding placedIn
-placed-come late w (suc k) b mem g h d i =
-    ⊎-elim (row-come late (rowAt k) w b mem g (λ c l. h k c (omega arith) l) d) (placed-come late w k b mem g (λ i c l m. h i c (omega arith) m) d)
-    (in-append d (rowOutcomes late (rowAt k) w mem) (placedIn late w k mem) i)
+placed-come rooms late w (suc k) b mem g h d i =
+    ⊎-elim (row-come late (rowAt rooms k) w b mem g (λ c l. h k c (omega arith) l) d) (placed-come rooms late w k b mem g (λ i c l m. h i c (omega arith) m) d)
+    (in-append d (rowOutcomes late (rowAt rooms k) w mem) (placedIn rooms late w k mem) i)
 
 pub ready-comes : (j : Job) (p b : ℕ) (ds : List Outcome) → AllCome b ds → Comes b (ready j p ds)
 unfolding ready
@@ -108,34 +108,34 @@ row-on late a (suc c) m mem h d (inl e) = rw (← e) (h c (omega arith))
 row-on late a (suc c) m mem h d (inr i) = row-on late a c m mem (λ i l. h i (omega arith)) d i
 
 -- From the tick at which p is ready: the finish of t on p is that of the definition.
-pub finish-at : {n k : ℕ} {mem : List ℕ} → Standing n mem → k ≤ n → (late : Bool) (t p x : ℕ) → FedBy k t mem
-    → tick x ≡ ready (jobIn mem) p (placedIn late (nth mem 3 + 1) k mem)
-    → after (runTime (jobIn mem) t p) (later (tick x) (dataIn late t p mem)) ≡ finishOn late k mem t p
+pub finish-at : {rooms n k : ℕ} {mem : List ℕ} → Standing rooms n mem → k ≤ n → (late : Bool) (t p x : ℕ) → FedBy rooms k t mem
+    → tick x ≡ ready (jobIn mem) p (placedIn rooms late (nth mem 3 + 1) k mem)
+    → after (runTime (jobIn mem) t p) (later (tick x) (dataIn rooms late t p mem)) ≡ finishOn rooms late k mem t p
 unfolding finishOn finish stopTime
 finish-at {k = k} s l late t p x f e = rw (e, start-placed s k t l f late p)
 
 -- The first k lines have ticks that do not pass k times those of a line.
-module _ {n k : ℕ} {mem : List ℕ} (s : Standing n mem) (l : k ≤ n) (h : ShortTo k mem) where
+module _ {rooms n k : ℕ} {mem : List ℕ} (s : Standing rooms n mem) (l : k ≤ n) (h : ShortTo rooms k mem) where
   -- So they are short.
   pub short-most : k * lineTicks ≤ lastShort
   short-most = let w = sizes (s .job) in let c = s .count in omega arith
 
-  pub cells-most : (late : Bool) (i c : ℕ) → i < k → c < nth mem 3 + 1 → nth mem (rowAt i + ((if late then 3 else 2) + 3 * c)) ≤ k * lineTicks
+  pub cells-most : (late : Bool) (i c : ℕ) → i < k → c < nth mem 3 + 1 → nth mem (rowAt rooms i + ((if late then 3 else 2) + 3 * c)) ≤ k * lineTicks
   cells-most true i c g m = h i c g m .1
   cells-most false i c g m = h i c g m .0
 
-  pub all-come : (late : Bool) → AllCome (k * lineTicks) (placedIn late (nth mem 3 + 1) k mem)
-  all-come late = let f = short-most in placed-come late (nth mem 3 + 1) k (k * lineTicks) mem (omega arith) (cells-most late)
+  pub all-come : (late : Bool) → AllCome (k * lineTicks) (placedIn rooms late (nth mem 3 + 1) k mem)
+  all-come late = let f = short-most in placed-come rooms late (nth mem 3 + 1) k (k * lineTicks) mem (omega arith) (cells-most late)
 
   -- A processor's ready tick.
-  clock-most : (late : Bool) (p x : ℕ) → tick x ≡ ready (jobIn mem) p (placedIn late (nth mem 3 + 1) k mem) → x ≤ lastShort
+  clock-most : (late : Bool) (p x : ℕ) → tick x ≡ ready (jobIn mem) p (placedIn rooms late (nth mem 3 + 1) k mem) → x ≤ lastShort
   clock-most late p x e =
-      let (y, f, m) = ready-comes (jobIn mem) p (k * lineTicks) (placedIn late (nth mem 3 + 1) k mem) (all-come late) in
+      let (y, f, m) = ready-comes (jobIn mem) p (k * lineTicks) (placedIn rooms late (nth mem 3 + 1) k mem) (all-come late) in
       let q : x ≡ y = ap tickOf (e ∙ f) in
       omega (arith, short-most)
 
   -- The clocks have short ticks.
-  pub clocks-short : {clocks : Clocks} → ClocksHeld clocks (jobIn mem) (earliesIn k mem) (latesIn k mem) → ShortClocks clocks mem
+  pub clocks-short : {clocks : Clocks} → ClocksHeld clocks (jobIn mem) (earliesIn rooms k mem) (latesIn rooms k mem) → ShortClocks clocks mem
   clocks-short {clocks} c =
       record {
         early-size = c .early-size;
@@ -145,29 +145,29 @@ module _ {n k : ℕ} {mem : List ℕ} (s : Standing n mem) (l : k ≤ n) (h : Sh
       }
 
   -- The lines of a task's predecessors have short ticks.
-  pub fed-short : (t : ℕ) → FedBy k t mem → BothFed t mem
+  pub fed-short : (t : ℕ) → FedBy rooms k t mem → BothFed rooms t mem
   fed-short t f e i =
       let (g, m) = f e i in
       let b = short-most in
-      (g, λ c o. let (x, y) = h (nth mem (lineAt + e .from) - 1) c (omega arith) o in (omega arith, omega arith))
+      (g, λ c o. let (x, y) = h (nth mem (lineAt rooms + e .from) - 1) c (omega arith) o in (omega arith, omega arith))
 
-module _ {k : ℕ} {mem : List ℕ} (s : Drawn k mem) where
+module _ {rooms k : ℕ} {mem : List ℕ} (s : Drawn rooms k mem) where
   abbrev wide : ℕ
   wide = nth mem 3 + 1
 
   -- The top level of a task whose predecessors are placed is that of the definition.
-  pub top-here : (t : ℕ) → FedIn t mem → tickOf (topIn t mem) * scale (jobIn mem) ≡ topLevel (jobIn mem) (earliesIn k mem) t
+  pub top-here : (t : ℕ) → FedIn rooms t mem → tickOf (topIn rooms t mem) * scale (jobIn mem) ≡ topLevel (jobIn mem) (earliesIn rooms k mem) t
   top-here t f = sym (level-placed (s .standing) k t (omega arith) (fed-all (s .standing) t f) (s .far))
 
-  module _ (t p : ℕ) (f : FedIn t mem) (ht : t < nth mem 0) (hp : p < nth mem 1) where
+  module _ (t p : ℕ) (f : FedIn rooms t mem) (ht : t < nth mem 0) (hp : p < nth mem 1) where
     -- The data of one predecessor comes a message after its replicas.
-    arrival-comes : (late : Bool) (e : Edge) → In e (incoming (jobIn mem) t) → Comes (k * lineTicks + 1044225) (arrival (jobIn mem) (choiceOf late) (placedIn late wide k mem) p e)
+    arrival-comes : (late : Bool) (e : Edge) → In e (incoming (jobIn mem) t) → Comes (k * lineTicks + 1044225) (arrival (jobIn mem) (choiceOf late) (placedIn rooms late wide k mem) p e)
     unfolding arrival
     arrival-comes late e i =
         let b = fed-all (s .standing) t f in
         let (l, m) = b e i in
-        let a = rowOf (e .from) mem in
-        let n = nth mem (lineAt + e .from) - 1 in
+        let a = rowOf rooms (e .from) mem in
+        let n = nth mem (lineAt rooms + e .from) - 1 in
         let g : n < k = omega arith in
         let (o, _) = in-incoming (jobIn mem) t e i in
         rw (feeding-line (s .standing) k t (omega arith) b late e i)
@@ -178,73 +178,73 @@ module _ {k : ℕ} {mem : List ℕ} (s : Drawn k mem) where
         (row-come late a wide (k * lineTicks) mem (omega (arith, short-most (s .standing) (omega arith) (s .ticks))) (λ c h. cells-most (s .standing) (omega arith) (s .ticks) late n c g h) d i)))
 
     -- The finish of t on p.
-    pub finish-comes : (late : Bool) → Comes (k * lineTicks + lineTicks) (finish (jobIn mem) (choiceOf late) [] (placedIn late wide k mem) (copyOf (jobIn mem) t p))
+    pub finish-comes : (late : Bool) → Comes (k * lineTicks + lineTicks) (finish (jobIn mem) (choiceOf late) [] (placedIn rooms late wide k mem) (copyOf (jobIn mem) t p))
     unfolding finish start dataReady stopTime
     finish-comes late =
         let r = s .standing .job .facts .run-most t p (rw (tasks-in mem) ht) (rw (processors-in mem) hp) in
-        let d = comes-largest (arrival (jobIn mem) (choiceOf late) (placedIn late wide k mem) p) (incoming (jobIn mem) t) (arrival-comes late) in
-        let a = comes-wider {c = k * lineTicks + 1044225} (omega arith) (ready-comes (jobIn mem) p (k * lineTicks) (placedIn late wide k mem) (all-come (s .standing) (omega arith) (s .ticks) late)) in
+        let d = comes-largest (arrival (jobIn mem) (choiceOf late) (placedIn rooms late wide k mem) p) (incoming (jobIn mem) t) (arrival-comes late) in
+        let a = comes-wider {c = k * lineTicks + 1044225} (omega arith) (ready-comes (jobIn mem) p (k * lineTicks) (placedIn rooms late wide k mem) (all-come (s .standing) (omega arith) (s .ticks) late)) in
         comes-wider (omega arith) (comes-after 1000000 (runTime (jobIn mem) t p) r (comes-later a d))
 
 -- What a change elsewhere leaves as it was --------------------------------------------------------------------------
 
 -- Task t as it waits.
-abbrev pub waitingAt : List ℕ → ℕ → Waiting
-waitingAt mem t = record { task = t; bottom = nth mem (levelAt + t) }
+abbrev pub waitingAt : ℕ → List ℕ → ℕ → Waiting
+waitingAt rooms mem t = record { task = t; bottom = nth mem (levelAt rooms + t) }
 
-pub waiting-map : (mem : List ℕ) → waitingIn mem ≡ map (waitingAt mem) (keep (λ t. eqb (nth mem (lineAt + t)) 0) (below (nth mem 0)))
+pub waiting-map : (rooms : ℕ) (mem : List ℕ) → waitingIn rooms mem ≡ map (waitingAt rooms mem) (keep (λ t. eqb (nth mem (lineAt rooms + t)) 0) (below (nth mem 0)))
 unfolding waitingIn
-waiting-map mem =
-    rw (waiting-from (λ t. nth mem (levelAt + t)) 0 (nth mem 0))
-    (sym (map-keep (waitingAt mem) (λ w. eqb (nth mem (lineAt + w .task)) 0) (below (nth mem 0))))
+waiting-map rooms mem =
+    rw (waiting-from (λ t. nth mem (levelAt rooms + t)) 0 (nth mem 0))
+    (sym (map-keep (waitingAt rooms mem) (λ w. eqb (nth mem (lineAt rooms + w .task)) 0) (below (nth mem 0))))
 
-module _ {d e : List ℕ} (w : Sizes d) (j : Same 0 blockedAt d e) where
-  waiting-same : waitingIn e ≡ waitingIn d
+module _ {rooms : ℕ} {d e : List ℕ} (w : Sizes rooms d) (j : Same 0 (blockedAt rooms) d e) where
+  waiting-same : waitingIn rooms e ≡ waitingIn rooms d
   waiting-same =
       let v : nth e 0 ≡ nth d 0 = j .cell 0 (omega arith) (omega arith) in
       let low : (t : ℕ) → In t (below (nth d 0)) → t < nth d 0 = in-below (nth d 0) in
-      let kept = keep (λ t. eqb (nth d (lineAt + t)) 0) (below (nth d 0)) in
-      waiting-map e
-      ∙ rw (v, keep-same (λ t. eqb (nth e (lineAt + t)) 0) (λ t. eqb (nth d (lineAt + t)) 0) (below (nth d 0)) (λ t i. rw (j .cell (lineAt + t) (omega arith) (omega (arith, low t i)))))
-      (map-same (waitingAt e) (waitingAt d) kept
-      (λ t i. rw (j .cell (levelAt + t) (omega arith) (omega (arith, low t (in-keep (λ t. eqb (nth d (lineAt + t)) 0) t (below (nth d 0)) i .0))))))
-      ∙ sym (waiting-map d)
+      let kept = keep (λ t. eqb (nth d (lineAt rooms + t)) 0) (below (nth d 0)) in
+      waiting-map rooms e
+      ∙ rw (v, keep-same (λ t. eqb (nth e (lineAt rooms + t)) 0) (λ t. eqb (nth d (lineAt rooms + t)) 0) (below (nth d 0)) (λ t i. rw (j .cell (lineAt rooms + t) (omega arith) (omega (arith, low t i)))))
+      (map-same (waitingAt rooms e) (waitingAt rooms d) kept
+      (λ t i. rw (j .cell (levelAt rooms + t) (omega arith) (omega (arith, low t (in-keep (λ t. eqb (nth d (lineAt rooms + t)) 0) t (below (nth d 0)) i .0))))))
+      ∙ sym (waiting-map rooms d)
 
 -- The job with its links and levels, the table of lines, the first k lines and the table of largest delays are as they were.
-drawn-same : {k : ℕ} {d e : List ℕ} → length e ≡ length d → Same 0 blockedAt d e → Same (rowAt 0) (rowAt k) d e → Same farAt memorySize d e → Drawn k d → Drawn k e
-drawn-same {k} {d} {e} z j r f s =
+drawn-same : {rooms k : ℕ} {d e : List ℕ} → length e ≡ length d → Same 0 (blockedAt rooms) d e → Same (rowAt rooms 0) (rowAt rooms k) d e → Same (farAt rooms) (memorySize rooms) d e → Drawn rooms k d → Drawn rooms k e
+drawn-same {rooms} {k} {d} {e} z j r f s =
     let h = s .standing .job in
     let w = sizes h in
-    let a : Same 0 jobSize d e = same-part 0 jobSize j (omega arith) (omega arith) in
-    let b : Same 0 levelAt d e = same-part 0 levelAt j (omega arith) (omega arith) in
+    let a : Same 0 (jobSize rooms) d e = same-part 0 (jobSize rooms) j (omega arith) (omega arith) in
+    let b : Same 0 (levelAt rooms) d e = same-part 0 (levelAt rooms) j (omega arith) (omega arith) in
     let v : nth e 0 ≡ nth d 0 = j .cell 0 (omega arith) (omega arith) in
     let l : nth e 3 ≡ nth d 3 = j .cell 3 (omega arith) (omega arith) in
     let c = s .standing .count in
     let few : nth d 3 + 1 ≤ 8 = omega (arith, w .losses-most) in
     record {
-      standing = standing-same z b (same-part lineAt blockedAt j (omega arith) (omega arith)) r (s .standing);
+      standing = standing-same z b (same-part (lineAt rooms) (blockedAt rooms) j (omega arith) (omega arith)) r (s .standing);
       linked = linked-out-same h b (s .linked);
       far = far-same h a f (s .far);
-      levels = levels-same h a (same-part levelAt raisedAt j (omega arith) (omega arith)) (s .levels);
+      levels = levels-same h a (same-part (levelAt rooms) (raisedAt rooms) j (omega arith) (omega arith)) (s .levels);
       ticks = λ i c g m.
           let n : c < nth d 3 + 1 = rw l at m in
           let (x, y) = s .ticks i c g n in
-          (rw (r .cell (rowAt i + (2 + 3 * c)) (omega arith) (omega arith)) x, rw (r .cell (rowAt i + (3 + 3 * c)) (omega arith) (omega arith)) y);
-      rest = rw (l, v, job-same w a, waiting-same w j, lines-same d e (nth d 3 + 1) k few r, placed-same d e false (nth d 3 + 1) k few r, placed-same d e true (nth d 3 + 1) k few r) (s .rest);
+          (rw (r .cell (rowAt rooms i + (2 + 3 * c)) (omega arith) (omega arith)) x, rw (r .cell (rowAt rooms i + (3 + 3 * c)) (omega arith) (omega arith)) y);
+      rest = rw (l, v, job-same w a, waiting-same w j, lines-same d e rooms (nth d 3 + 1) k few r, placed-same d e rooms false (nth d 3 + 1) k few r, placed-same d e rooms true (nth d 3 + 1) k few r) (s .rest);
     }
 
 -- A change among what serves the choice of a task.
-pub drawn-choice : {k low high : ℕ} {d e : List ℕ} → KeptOutside low high d e → Drawn k d → blockedAt ≤ low → high ≤ rowAt 0 → Drawn k e
-drawn-choice {k} c s a b = drawn-same (c .size) (same-before 0 blockedAt c a) (same-behind (rowAt 0) (rowAt k) c b) (same-behind farAt memorySize c (omega arith)) s
+pub drawn-choice : {rooms k low high : ℕ} {d e : List ℕ} → KeptOutside low high d e → Drawn rooms k d → blockedAt rooms ≤ low → high ≤ rowAt rooms 0 → Drawn rooms k e
+drawn-choice {rooms} {k} c s a b = drawn-same (c .size) (same-before 0 (blockedAt rooms) c a) (same-behind (rowAt rooms 0) (rowAt rooms k) c b) (same-behind (farAt rooms) (memorySize rooms) c (omega arith)) s
 
 -- The clocks, when what serves the choice of a task changes.
-pub clocks-choice : {k : ℕ} {d e : List ℕ} {clocks : Clocks} → KeptOutside blockedAt (rowAt 0) d e → Drawn k d → ClocksHeld clocks (jobIn d) (earliesIn k d) (latesIn k d)
-    → ClocksHeld clocks (jobIn e) (earliesIn k e) (latesIn k e)
-clocks-choice {k} {d} {e} c s h =
+pub clocks-choice : {rooms k : ℕ} {d e : List ℕ} {clocks : Clocks} → KeptOutside (blockedAt rooms) (rowAt rooms 0) d e → Drawn rooms k d → ClocksHeld clocks (jobIn d) (earliesIn rooms k d) (latesIn rooms k d)
+    → ClocksHeld clocks (jobIn e) (earliesIn rooms k e) (latesIn rooms k e)
+clocks-choice {rooms} {k} {d} {e} c s h =
     let w = sizes (s .standing .job) in
-    let r : Same (rowAt 0) (rowAt k) d e = same-behind (rowAt 0) (rowAt k) c (omega arith) in
+    let r : Same (rowAt rooms 0) (rowAt rooms k) d e = same-behind (rowAt rooms 0) (rowAt rooms k) c (omega arith) in
     let few : nth d 3 + 1 ≤ 8 = omega (arith, w .losses-most) in
-    rw (job-same w (same-before 0 jobSize c (omega arith)), c .before 3 (omega arith), placed-same d e false (nth d 3 + 1) k few r, placed-same d e true (nth d 3 + 1) k few r) h
+    rw (job-same w (same-before 0 (jobSize rooms) c (omega arith)), c .before 3 (omega arith), placed-same d e rooms false (nth d 3 + 1) k few r, placed-same d e rooms true (nth d 3 + 1) k few r) h
 
 -- A line that is begun ----------------------------------------------------------------------------------------------
 
@@ -273,45 +273,45 @@ clock-more j ticks ds o x z h e q g = by (eqb (o .processor) q) refl
     by false f = let n = eqb-false (o .processor) q f in ap tick (getD-set-other ticks (o .processor) q x 0 (λ m. n (sym m))) ∙ g
 
 module _ {k t : ℕ} {d : List ℕ} {clocks : Clocks} where
-  pub begun-none : ClocksHeld clocks (jobIn d) (earliesIn k d) (latesIn k d) → Begun k t [] clocks d d
+  pub begun-none : {rooms : ℕ} → ClocksHeld clocks (jobIn d) (earliesIn rooms k d) (latesIn rooms k d) → Begun rooms k t [] clocks d d
   unfolding rowReplicas
   begun-none c = record { kept = kept-all; replicas = refl; clocks-after = c }
 
   -- One replica more.
-  module _ {ps : List ℕ} {mem e : List ℕ} (b : Begun k t ps clocks d mem) (p x y : ℕ) (f : Wrote (rowAt k) (length ps) p x y mem e)
-      (early : tick x ≡ finishOn false k d t p) (late : tick y ≡ finishOn true k d t p) where
-    begun-more : k < 255 → length ps < 8 → p < 16 → (next : Clocks) → next .early ≡ set (clocks .early) p x → next .late ≡ set (clocks .late) p y → Begun k t (ps ++ p ∷ []) next d e
+  module _ {rooms : ℕ} {ps : List ℕ} {mem e : List ℕ} (b : Begun rooms k t ps clocks d mem) (p x y : ℕ) (f : Wrote (rowAt rooms k) (length ps) p x y mem e)
+      (early : tick x ≡ finishOn rooms false k d t p) (late : tick y ≡ finishOn rooms true k d t p) where
+    begun-more : k < 8 * rooms → length ps < 8 → p < 16 → (next : Clocks) → next .early ≡ set (clocks .early) p x → next .late ≡ set (clocks .late) p y → Begun rooms k t (ps ++ p ∷ []) next d e
     unfolding rowReplicas
     begun-more hk few hp next g h =
-        let a = rowAt k in
+        let a = rowAt rooms k in
         let c = length ps in
         let n : length (ps ++ p ∷ []) ≡ suc c = length-append ps (p ∷ []) ∙ add-one c in
         let cs = b .clocks-after in
-        let r : replicaAt a c e ≡ replicaOn k d t p = rw (f .processor, f .early-finish, f .late-finish, ← early, ← late) in
+        let r : replicaAt a c e ≡ replicaOn rooms k d t p = rw (f .processor, f .early-finish, f .late-finish, ← early, ← late) in
         let more : (o : ℕ → Outcome) (ds : List Outcome) → reverseAux (map o (ps ++ p ∷ [])) ds ≡ o p ∷ reverseAux (map o ps) ds =
         λ o ds. rw (map-append o ps (p ∷ [])) (reverseAux-append (map o ps) (o p ∷ []) ds) in
         record {
-          kept = kept-then (b .kept) (kept-wider (rowAt k) farAt (f .kept) (omega arith) (omega arith));
-          replicas = rw (n, replicas-same mem e a c (same-before a (a + (1 + 3 * c)) (f .kept) (omega arith)), r, b .replicas) (sym (map-append (replicaOn k d t) ps (p ∷ [])));
+          kept = kept-then (b .kept) (kept-wider (rowAt rooms k) (farAt rooms) (f .kept) (omega arith) (omega arith));
+          replicas = rw (n, replicas-same mem e a c (same-before a (a + (1 + 3 * c)) (f .kept) (omega arith)), r, b .replicas) (sym (map-append (replicaOn rooms k d t) ps (p ∷ [])));
           clocks-after = record {
             early-size = rw (g, length-set (clocks .early) p x) (cs .early-size);
             late-size = rw (h, length-set (clocks .late) p y) (cs .late-size);
-            early-ready = λ q l. rw (g, more (earlyOutcome k d t) (earliesIn k d)) (clock-more (jobIn d) (clocks .early) (reverseAux (map (earlyOutcome k d t) ps) (earliesIn k d)) (earlyOutcome k d t p) x (cs .early-size) hp (sym early) q (cs .early-ready q l));
-            late-ready = λ q l. rw (h, more (lateOutcome k d t) (latesIn k d)) (clock-more (jobIn d) (clocks .late) (reverseAux (map (lateOutcome k d t) ps) (latesIn k d)) (lateOutcome k d t p) y (cs .late-size) hp (sym late) q (cs .late-ready q l));
+            early-ready = λ q l. rw (g, more (earlyOutcome rooms k d t) (earliesIn rooms k d)) (clock-more (jobIn d) (clocks .early) (reverseAux (map (earlyOutcome rooms k d t) ps) (earliesIn rooms k d)) (earlyOutcome rooms k d t p) x (cs .early-size) hp (sym early) q (cs .early-ready q l));
+            late-ready = λ q l. rw (h, more (lateOutcome rooms k d t) (latesIn rooms k d)) (clock-more (jobIn d) (clocks .late) (reverseAux (map (lateOutcome rooms k d t) ps) (latesIn rooms k d)) (lateOutcome rooms k d t p) y (cs .late-size) hp (sym late) q (cs .late-ready q l));
           };
         }
 
 -- Processor by processor.
-module _ {k t : ℕ} {early late : List ℕ} {clocks : Clocks} {d : List ℕ} (o : Tried k t early late clocks d) where
+module _ {rooms k t : ℕ} {early late : List ℕ} {clocks : Clocks} {d : List ℕ} (o : Tried rooms k t early late clocks d) where
   -- The processors that are chosen.
   abbrev takes : ℕ → Bool
   takes = isChosen early (nth d 1) (nth d 3 + 1)
 
-  few-tasks : k < 255
+  few-tasks : k < 8 * rooms
   few-tasks = omega (arith, o .more, sizes (o .drawn .standing .job) .tasks-most)
 
-  module _ {p c : ℕ} {after : Clocks} {mem : List ℕ} (l : p < nth d 1) (n : c ≡ length (keep takes (below p))) (b : Begun k t (keep takes (below p)) after d mem) where
-    pub pass-box : takes p ≡ false → (c ≡ length (keep takes (below (p + 1)))) × Begun k t (keep takes (below (p + 1))) after d mem
+  module _ {p c : ℕ} {after : Clocks} {mem : List ℕ} (l : p < nth d 1) (n : c ≡ length (keep takes (below p))) (b : Begun rooms k t (keep takes (below p)) after d mem) where
+    pub pass-box : takes p ≡ false → (c ≡ length (keep takes (below (p + 1)))) × Begun rooms k t (keep takes (below (p + 1))) after d mem
     pass-box f = rw (below-more p, keep-no takes (below p) p f) (n, b)
 
     module _ (f : takes p ≡ true) where
@@ -319,12 +319,12 @@ module _ {k t : ℕ} {early late : List ℕ} {clocks : Clocks} {d : List ℕ} (o
       unfolding jobIn
       box-room = let w = sizes (o .drawn .standing .job) in omega (arith, chosen-room (jobIn d) early (nth d 3 + 1) p (w .enough) l f)
 
-      pub box-within : rowAt k + (4 + 3 * c) ≤ length mem
+      pub box-within : rowAt rooms k + (4 + 3 * c) ≤ length mem
       box-within = omega (arith, few-tasks, box-room, b .kept .size, o .drawn .standing .job .size)
 
-      pub take-box : {e : List ℕ} (next : Clocks) → Wrote (rowAt k) c p (nth early p) (nth late p) mem e
+      pub take-box : {e : List ℕ} (next : Clocks) → Wrote (rowAt rooms k) c p (nth early p) (nth late p) mem e
           → next .early ≡ set (after .early) p (nth early p) → next .late ≡ set (after .late) p (nth late p)
-          → (c + 1 ≡ length (keep takes (below (p + 1)))) × Begun k t (keep takes (below (p + 1))) next d e
+          → (c + 1 ≡ length (keep takes (below (p + 1)))) × Begun rooms k t (keep takes (below (p + 1))) next d e
       take-box next a g h =
           let ps = keep takes (below p) in
           let m : length ps < 8 = omega (arith, box-room) in
@@ -334,71 +334,71 @@ module _ {k t : ℕ} {early late : List ℕ} {clocks : Clocks} {d : List ℕ} (o
           )
 
   -- All processors have been asked.
-  pub boxes-taken : {p : ℕ} {after : Clocks} {mem : List ℕ} → p ≡ nth d 1 → Begun k t (keep takes (below p)) after d mem → Begun k t (boxesFor k t d) after d mem
+  pub boxes-taken : {p : ℕ} {after : Clocks} {mem : List ℕ} → p ≡ nth d 1 → Begun rooms k t (keep takes (below p)) after d mem → Begun rooms k t (boxesFor rooms k t d) after d mem
   unfolding jobIn finishOn
   boxes-taken {p} {after} {mem} e b =
-      let same = chosen-same (jobIn d) (nth d 3 + 1) early (trial (jobIn d) (earliesIn k d) t) (λ q l. ap tickOf (o .early-finishes q l) ∙ sym (trial-nth (jobIn d) (earliesIn k d) t q l)) in
+      let same = chosen-same (jobIn d) (nth d 3 + 1) early (trial (jobIn d) (earliesIn rooms k d) t) (λ q l. ap tickOf (o .early-finishes q l) ∙ sym (trial-nth (jobIn d) (earliesIn rooms k d) t q l)) in
       rw (← same) (rw e at b)
 
 -- The free tasks ----------------------------------------------------------------------------------------------------
 
 -- A task that no edge blocks has its predecessors placed.
-pub fed-none : (t : ℕ) (mem : List ℕ) → length (keep (λ e. eqb (nth mem (lineAt + e .from)) 0) (incoming (jobIn mem) t)) ≡ 0 → FedIn t mem
-fed-none t mem h e i =
-    let blocks : Edge → Bool = λ e. eqb (nth mem (lineAt + e .from)) 0 in
+pub fed-none : (rooms : ℕ) (t : ℕ) (mem : List ℕ) → length (keep (λ e. eqb (nth mem (lineAt rooms + e .from)) 0) (incoming (jobIn mem) t)) ≡ 0 → FedIn rooms t mem
+fed-none rooms t mem h e i =
+    let blocks : Edge → Bool = λ e. eqb (nth mem (lineAt rooms + e .from)) 0 in
     let every : all (λ e. not (blocks e)) (incoming (jobIn mem) t) ≡ true = sym (none-kept blocks (incoming (jobIn mem) t)) ∙ eq-eqb (length (keep blocks (incoming (jobIn mem) t))) 0 h in
-    let n = eqb-false (nth mem (lineAt + e .from)) 0 (not-true (blocks e) (all-in (λ e. not (blocks e)) e (incoming (jobIn mem) t) every i)) in
-    ⊎-elim (λ z. absurd (n z)) (λ l. l) (zero-or-more (nth mem (lineAt + e .from)))
+    let n = eqb-false (nth mem (lineAt rooms + e .from)) 0 (not-true (blocks e) (all-in (λ e. not (blocks e)) e (incoming (jobIn mem) t) every i)) in
+    ⊎-elim (λ z. absurd (n z)) (λ l. l) (zero-or-more (nth mem (lineAt rooms + e .from)))
 
 some-test : (x : ℕ) → ltb 0 x ≡ not (eqb x 0)
 some-test x = ⊎-elim (λ (e : x ≡ 0). rw e) (λ h. lt-ltb 0 x h ∙ sym (ap not (ne-eqb x 0 (λ e. omega arith)))) (zero-or-more x)
 
-module _ {k : ℕ} {mem : List ℕ} (s : Drawn k mem) (r : Ranked [] mem) where
+module _ {rooms k : ℕ} {mem : List ℕ} (s : Drawn rooms k mem) (r : Ranked rooms [] mem) where
   -- A task's predecessors are all placed exactly if no edge blocks it.
-  fed-test : (t : ℕ) → t < nth mem 0 → all (λ e. has (e .from) (map (λ d. d .task) (earliesIn k mem))) (incoming (jobIn mem) t) ≡ eqb (nth mem (blockedAt + t)) 0
+  fed-test : (t : ℕ) → t < nth mem 0 → all (λ e. has (e .from) (map (λ d. d .task) (earliesIn rooms k mem))) (incoming (jobIn mem) t) ≡ eqb (nth mem (blockedAt rooms + t)) 0
   unfolding keep
   fed-test t h =
-      let blocks : Edge → Bool = λ e. eqb (nth mem (lineAt + e .from)) 0 in
-      let n : nth mem (blockedAt + t) ≡ length (keep blocks (incoming (jobIn mem) t)) = r .blocked t h ∙ add-zero (length (keep blocks (incoming (jobIn mem) t))) in
-      all-same (λ e. has (e .from) (map (λ d. d .task) (earliesIn k mem))) (λ e. not (blocks e)) (incoming (jobIn mem) t)
-      (λ e i. has-placed (s .standing) false (nth mem 3 + 1) (e .from) (omega arith) (rw (tasks-in mem) at (s .standing .job .facts .from-task e (in-incoming (jobIn mem) t e i .0))) ∙ some-test (nth mem (lineAt + e .from)))
+      let blocks : Edge → Bool = λ e. eqb (nth mem (lineAt rooms + e .from)) 0 in
+      let n : nth mem (blockedAt rooms + t) ≡ length (keep blocks (incoming (jobIn mem) t)) = r .blocked t h ∙ add-zero (length (keep blocks (incoming (jobIn mem) t))) in
+      all-same (λ e. has (e .from) (map (λ d. d .task) (earliesIn rooms k mem))) (λ e. not (blocks e)) (incoming (jobIn mem) t)
+      (λ e i. has-placed (s .standing) false (nth mem 3 + 1) (e .from) (omega arith) (rw (tasks-in mem) at (s .standing .job .facts .from-task e (in-incoming (jobIn mem) t e i .0))) ∙ some-test (nth mem (lineAt rooms + e .from)))
       ∙ sym (none-kept blocks (incoming (jobIn mem) t)) ∙ ap (λ (x : ℕ). eqb x 0) (sym n)
 
-  free-tasks : freeTasks (jobIn mem) (earliesIn k mem) (waitingIn mem) ≡ map (waitingAt mem) (keep (isFree mem) (below (nth mem 0)))
+  free-tasks : freeTasks (jobIn mem) (earliesIn rooms k mem) (waitingIn rooms mem) ≡ map (waitingAt rooms mem) (keep (isFree rooms mem) (below (nth mem 0)))
   unfolding freeTasks
   free-tasks =
-      let fed : Waiting → Bool = λ w. all (λ e. has (e .from) (map (λ d. d .task) (earliesIn k mem))) (incoming (jobIn mem) (w .task)) in
-      let waits : ℕ → Bool = λ t. eqb (nth mem (lineAt + t)) 0 in
+      let fed : Waiting → Bool = λ w. all (λ e. has (e .from) (map (λ d. d .task) (earliesIn rooms k mem))) (incoming (jobIn mem) (w .task)) in
+      let waits : ℕ → Bool = λ t. eqb (nth mem (lineAt rooms + t)) 0 in
       let ts = below (nth mem 0) in
-      ap (keep fed) (waiting-map mem) ∙ sym (map-keep (waitingAt mem) fed (keep waits ts))
-      ∙ ap (map (waitingAt mem))
-      (keep-keep (λ t. fed (waitingAt mem t)) waits ts
-      ∙ keep-same (λ t. waits t && fed (waitingAt mem t)) (isFree mem) ts (λ t i. ap (λ (b : Bool). waits t && b) (fed-test t (in-below (nth mem 0) t i))))
+      ap (keep fed) (waiting-map rooms mem) ∙ sym (map-keep (waitingAt rooms mem) fed (keep waits ts))
+      ∙ ap (map (waitingAt rooms mem))
+      (keep-keep (λ t. fed (waitingAt rooms mem t)) waits ts
+      ∙ keep-same (λ t. waits t && fed (waitingAt rooms mem t)) (isFree rooms mem) ts (λ t i. ap (λ (b : Bool). waits t && b) (fed-test t (in-below (nth mem 0) t i))))
 
   -- A free task has its predecessors placed.
-  pub free-fed : (t : ℕ) → t < nth mem 0 → isFree mem t ≡ true → FedIn t mem
+  pub free-fed : (t : ℕ) → t < nth mem 0 → isFree rooms mem t ≡ true → FedIn rooms t mem
   free-fed t l f =
-      let z = eqb-true (nth mem (blockedAt + t)) 0 (both (eqb (nth mem (lineAt + t)) 0) (eqb (nth mem (blockedAt + t)) 0) f .1) in
-      fed-none t mem (omega (arith, r .blocked t l))
+      let z = eqb-true (nth mem (blockedAt rooms + t)) 0 (both (eqb (nth mem (lineAt rooms + t)) 0) (eqb (nth mem (blockedAt rooms + t)) 0) f .1) in
+      fed-none rooms t mem (omega (arith, r .blocked t l))
 
-  pub free-ranked : map (ranked (jobIn mem) (earliesIn k mem)) (freeTasks (jobIn mem) (earliesIn k mem) (waitingIn mem)) ≡ freeIn mem
+  pub free-ranked : map (ranked (jobIn mem) (earliesIn rooms k mem)) (freeTasks (jobIn mem) (earliesIn rooms k mem) (waitingIn rooms mem)) ≡ freeIn rooms mem
   unfolding freeIn ranked
   free-ranked =
-      let ts = keep (isFree mem) (below (nth mem 0)) in
-      ap (map (ranked (jobIn mem) (earliesIn k mem))) free-tasks
-      ∙ map-map (ranked (jobIn mem) (earliesIn k mem)) (waitingAt mem) ts
-      ∙ map-same (λ t. ranked (jobIn mem) (earliesIn k mem) (waitingAt mem t)) (λ t. (t, nth mem (priorityAt + t))) ts
+      let ts = keep (isFree rooms mem) (below (nth mem 0)) in
+      ap (map (ranked (jobIn mem) (earliesIn rooms k mem))) free-tasks
+      ∙ map-map (ranked (jobIn mem) (earliesIn rooms k mem)) (waitingAt rooms mem) ts
+      ∙ map-same (λ t. ranked (jobIn mem) (earliesIn rooms k mem) (waitingAt rooms mem t)) (λ t. (t, nth mem (priorityAt rooms + t))) ts
       (λ t i.
-      let (a, b) = in-keep (isFree mem) t (below (nth mem 0)) i in
+      let (a, b) = in-keep (isFree rooms mem) t (below (nth mem 0)) i in
       let l = in-below (nth mem 0) t a in
-      ap (λ (x : ℕ). (t, x)) (sym (r .priorities t l b ∙ ap (λ (x : ℕ). x + nth mem (levelAt + t)) (top-here s t (free-fed t l b)))))
+      ap (λ (x : ℕ). (t, x)) (sym (r .priorities t l b ∙ ap (λ (x : ℕ). x + nth mem (levelAt rooms + t)) (top-here s t (free-fed t l b)))))
 
-lines-length : (w k : ℕ) (mem : List ℕ) → length (linesIn w k mem) ≡ k
+lines-length : (rooms : ℕ) (w k : ℕ) (mem : List ℕ) → length (linesIn rooms w k mem) ≡ k
 unfolding linesIn
-lines-length w zero mem = refl
-lines-length w (suc k) mem = length-append (linesIn w k mem) _ ∙ ap (_+ 1) (lines-length w k mem) ∙ add-one k
+lines-length rooms w zero mem = refl
+lines-length rooms w (suc k) mem = length-append (linesIn rooms w k mem) _ ∙ ap (_+ 1) (lines-length rooms w k mem) ∙ add-one k
 
-module _ {k : ℕ} {mem : List ℕ} (s : Drawn k mem) (h : k < nth mem 0) where
+module _ {rooms k : ℕ} {mem : List ℕ} (s : Drawn rooms k mem) (h : k < nth mem 0) where
   -- The lines that are still to be placed.
   abbrev left : ℕ
   left = nth mem 0 - (k + 1)
@@ -406,54 +406,54 @@ module _ {k : ℕ} {mem : List ℕ} (s : Drawn k mem) (h : k < nth mem 0) where
   turns : nth mem 0 - k ≡ suc left
   turns = omega arith
 
-  pub rest-here : linesIn (nth mem 3 + 1) k mem ++ place (jobIn mem) (nth mem 3) (suc left) (waitingIn mem) (earliesIn k mem) (latesIn k mem) ≡ planFor (jobIn mem) (nth mem 3) .lines
+  pub rest-here : linesIn rooms (nth mem 3 + 1) k mem ++ place (jobIn mem) (nth mem 3) (suc left) (waitingIn rooms mem) (earliesIn rooms k mem) (latesIn rooms k mem) ≡ planFor (jobIn mem) (nth mem 3) .lines
   rest-here = rw turns at (s .rest)
 
-  pub lines-left : 0 < length (place (jobIn mem) (nth mem 3) (suc left) (waitingIn mem) (earliesIn k mem) (latesIn k mem))
+  pub lines-left : 0 < length (place (jobIn mem) (nth mem 3) (suc left) (waitingIn rooms mem) (earliesIn rooms k mem) (latesIn rooms k mem))
   unfolding jobIn
   lines-left =
-      let all = place (jobIn mem) (nth mem 3) (suc left) (waitingIn mem) (earliesIn k mem) (latesIn k mem) in
-      let n : length (linesIn (nth mem 3 + 1) k mem) + length all ≡ nth mem 0 =
-      sym (length-append (linesIn (nth mem 3 + 1) k mem) all) ∙ ap length rest-here ∙ placed-count document01 (jobIn mem) (s .standing .job .facts) in
-      omega (arith, lines-length (nth mem 3 + 1) k mem)
+      let all = place (jobIn mem) (nth mem 3) (suc left) (waitingIn rooms mem) (earliesIn rooms k mem) (latesIn rooms k mem) in
+      let n : length (linesIn rooms (nth mem 3 + 1) k mem) + length all ≡ nth mem 0 =
+      sym (length-append (linesIn rooms (nth mem 3 + 1) k mem) all) ∙ ap length rest-here ∙ placed-count document01 (jobIn mem) (s .standing .job .facts) in
+      omega (arith, lines-length rooms (nth mem 3 + 1) k mem)
 
   -- Some task is free.
-  frees : Ranked [] mem → 0 < length (freeIn mem)
+  frees : Ranked rooms [] mem → 0 < length (freeIn rooms mem)
   frees r =
-      let some = some-free (jobIn mem) (nth mem 3) left (waitingIn mem) (earliesIn k mem) (latesIn k mem) lines-left in
-      let n = length-map (freeTasks (jobIn mem) (earliesIn k mem) (waitingIn mem)) (ranked (jobIn mem) (earliesIn k mem)) in
+      let some = some-free (jobIn mem) (nth mem 3) left (waitingIn rooms mem) (earliesIn rooms k mem) (latesIn rooms k mem) lines-left in
+      let n = length-map (freeTasks (jobIn mem) (earliesIn rooms k mem) (waitingIn rooms mem)) (ranked (jobIn mem) (earliesIn rooms k mem)) in
       rw (← free-ranked s r, n) some
 
-  pub listed-some : Ranked [] mem → (cells : List ℕ) (n : ℕ) → FreeList cells n mem → 0 < n
+  pub listed-some : Ranked rooms [] mem → (cells : List ℕ) (n : ℕ) → FreeList rooms cells n mem → 0 < n
   unfolding freeIn
   listed-some r cells zero f =
-      let none : length (freeIn mem) ≡ 0 = length-map (keep (isFree mem) (below (nth mem 0))) (λ t. (t, nth mem (priorityAt + t))) ∙ ap length (sym (f .listed)) in
+      let none : length (freeIn rooms mem) ≡ 0 = length-map (keep (isFree rooms mem) (below (nth mem 0))) (λ t. (t, nth mem (priorityAt rooms + t))) ∙ ap length (sym (f .listed)) in
       absurd (omega (arith, frees r))
   listed-some r cells (suc n) f = omega arith
 
   -- The task that is chosen.
-  module _ (r : Ranked [] mem) (t : ℕ) (e : t ≡ bestOf (nth mem 0) (freeIn mem)) where
-    free : In t (keep (isFree mem) (below (nth mem 0)))
+  module _ (r : Ranked rooms [] mem) (t : ℕ) (e : t ≡ bestOf (nth mem 0) (freeIn rooms mem)) where
+    free : In t (keep (isFree rooms mem) (below (nth mem 0)))
     unfolding freeIn
     free =
         let more = frees r in
-        let (x, i, f) = in-map (λ y. y .0) t (freeIn mem) (rw e (best-in (nth mem 0) (freeIn mem) more)) in
-        let (u, o, g) = in-map (λ t. (t, nth mem (priorityAt + t))) x (keep (isFree mem) (below (nth mem 0))) i in
+        let (x, i, f) = in-map (λ y. y .0) t (freeIn rooms mem) (rw e (best-in (nth mem 0) (freeIn rooms mem) more)) in
+        let (u, o, g) = in-map (λ t. (t, nth mem (priorityAt rooms + t))) x (keep (isFree rooms mem) (below (nth mem 0))) i in
         let q : u ≡ t = ap (λ y. y .0) g ∙ f in
         rw q at o
 
     pub task-below : t < nth mem 0
-    task-below = in-below (nth mem 0) t (in-keep (isFree mem) t (below (nth mem 0)) free .0)
+    task-below = in-below (nth mem 0) t (in-keep (isFree rooms mem) t (below (nth mem 0)) free .0)
 
-    pub task-waits : nth mem (lineAt + t) ≡ 0
-    task-waits = eqb-true (nth mem (lineAt + t)) 0 (both (eqb (nth mem (lineAt + t)) 0) (eqb (nth mem (blockedAt + t)) 0) (in-keep (isFree mem) t (below (nth mem 0)) free .1) .0)
+    pub task-waits : nth mem (lineAt rooms + t) ≡ 0
+    task-waits = eqb-true (nth mem (lineAt rooms + t)) 0 (both (eqb (nth mem (lineAt rooms + t)) 0) (eqb (nth mem (blockedAt rooms + t)) 0) (in-keep (isFree rooms mem) t (below (nth mem 0)) free .1) .0)
 
-    pub task-fed : FedIn t mem
-    task-fed = free-fed s r t task-below (in-keep (isFree mem) t (below (nth mem 0)) free .1)
+    pub task-fed : FedIn rooms t mem
+    task-fed = free-fed s r t task-below (in-keep (isFree rooms mem) t (below (nth mem 0)) free .1)
 
 -- With a line for each task the lines are the plan's.
-pub drawn-lines : {mem : List ℕ} → Drawn (nth mem 0) mem → linesIn (nth mem 3 + 1) (nth mem 0) mem ≡ planFor (jobIn mem) (nth mem 3) .lines
+pub drawn-lines : {rooms : ℕ} {mem : List ℕ} → Drawn rooms (nth mem 0) mem → linesIn rooms (nth mem 3 + 1) (nth mem 0) mem ≡ planFor (jobIn mem) (nth mem 3) .lines
 unfolding place
-drawn-lines {mem} s =
+drawn-lines {rooms} {mem} s =
     let none : nth mem 0 - nth mem 0 ≡ 0 = omega arith in
-    sym (append-nil (linesIn (nth mem 3 + 1) (nth mem 0) mem)) ∙ (rw none at (s .rest))
+    sym (append-nil (linesIn rooms (nth mem 3 + 1) (nth mem 0) mem)) ∙ (rw none at (s .rest))

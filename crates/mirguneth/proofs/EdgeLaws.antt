@@ -37,11 +37,11 @@ abbrev joins : ℕ → ℕ → Edge → Bool
 joins a b d = eqb (d .from) a && eqb (d .to) b
 
 -- No edge.
-pub pairs-none : Pairs [] (replicate 8192 0)
+pub pairs-none : (v n : ℕ) → v * 32 ≤ n → Pairs v [] (replicate n 0)
 unfolding any
-pairs-none = record {
-  size = length-replicate {A = ℕ} 8192 0;
-  holds = λ a b f t. rw (getD-replicate {A = ℕ} 8192 (a * 32 + b / 8) 0 0 (omega arith), zero-div (2 ^ (b % 8)));
+pairs-none v n h = record {
+  size = rw (length-replicate {A = ℕ} n 0) h;
+  holds = λ a b f t. rw (getD-replicate {A = ℕ} n (a * 32 + b / 8) 0 0 (omega arith), zero-div (2 ^ (b % 8)));
 }
 
 -- Bit j + 1 of a number is bit j of its half.
@@ -70,7 +70,7 @@ pub one-bit : (i : ℕ) → i < 8 → 1 * 2 ^ i % 256 ≡ 2 ^ i
 one-bit i h = let z : 0 / 2 ^ i % 2 ≡ 0 = rw (zero-div (2 ^ i)) in omega (arith, bit-fits 8 i 0 h (omega arith) z)
 
 -- One edge more.
-module _ (es : List Edge) (table : List ℕ) (e : Edge) (p : Pairs es table) (f : e .from < 256) (t : e .to < 256) (z : pairBit table (e .from) (e .to) ≡ 0) where
+module _ (v : ℕ) (es : List Edge) (table : List ℕ) (e : Edge) (p : Pairs v es table) (f : e .from * 32 + 32 ≤ length table) (t : e .to < 256) (z : pairBit table (e .from) (e .to) ≡ 0) where
   abbrev k : ℕ
   k = e .from * 32 + e .to / 8
 
@@ -80,24 +80,24 @@ module _ (es : List Edge) (table : List ℕ) (e : Edge) (p : Pairs es table) (f 
   abbrev i : ℕ
   i = e .to % 8
 
-  pub pairs-more : Pairs (es ++ e ∷ []) (set table k (x + 2 ^ i))
+  pub pairs-more : Pairs v (es ++ e ∷ []) (set table k (x + 2 ^ i))
   pairs-more = record {
-    size = length-set table k (x + 2 ^ i) ∙ p .size;
+    size = rw (length-set table k (x + 2 ^ i)) (p .size);
     holds = λ a b g h. by a b g h (joins a b e) refl (eqb (a * 32 + b / 8) k) refl;
   }
     where
       at-k : (a b : ℕ) → a * 32 + b / 8 ≡ k → pairBit (set table k (x + 2 ^ i)) a b ≡ (if eqb i (b % 8) then 1 else x / 2 ^ (b % 8) % 2)
       at-k a b u =
-          let l : k < length table = rw (p .size) (omega arith) in
+          let l : k < length table = omega arith in
           rw (u, getD-set-same table k (x + 2 ^ i) 0 l) (bit-more i (b % 8) x z)
 
-      by : (a b : ℕ) → a < 256 → b < 256 → (s : Bool) → joins a b e ≡ s → (r : Bool) → eqb (a * 32 + b / 8) k ≡ r
+      by : (a b : ℕ) → a < v → b < 256 → (s : Bool) → joins a b e ≡ s → (r : Bool) → eqb (a * 32 + b / 8) k ≡ r
           → pairBit (set table k (x + 2 ^ i)) a b ≡ (if any (joins a b) (es ++ e ∷ []) then 1 else 0)
       by a b g h true q r w =
           let (c, d) = both (eqb (e .from) a) (eqb (e .to) b) q in
           let u : a * 32 + b / 8 ≡ k = omega (arith, eqb-true (e .from) a c, eqb-true (e .to) b d) in
-          let v : i ≡ b % 8 = omega (arith, eqb-true (e .to) b d) in
-          rw (at-k a b u, eq-eqb i (b % 8) v, any-last (joins a b) es e, either-right (any (joins a b) es) q)
+          let y : i ≡ b % 8 = omega (arith, eqb-true (e .to) b d) in
+          rw (at-k a b u, eq-eqb i (b % 8) y, any-last (joins a b) es e, either-right (any (joins a b) es) q)
       by a b g h false q true w =
           let u : a * 32 + b / 8 ≡ k = eqb-true (a * 32 + b / 8) k w in
           let n : i ≡ b % 8 → ⊥ = λ v.
@@ -140,7 +140,7 @@ module _ (v : ℕ) (seen : List Edge) (e : Edge) where
     unfolding edgeOrder firstOf
     edge-self q = rw (ranges, eq-eqb _ _ q)
 
-    module _ (table : List ℕ) (p : Pairs seen table) (m : v ≤ 255) (n : e .from ≡ e .to → ⊥) where
+    module _ (table : List ℕ) (p : Pairs v seen table) (m : v ≤ 255) (n : e .from ≡ e .to → ⊥) where
       -- The table has the pair, or has it not.
       pub edge-twice : pairBit table (e .from) (e .to) ≡ 1 → 6 ≡ edgeRule document01 v seen e
       unfolding edgeOrder firstOf

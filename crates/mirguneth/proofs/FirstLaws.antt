@@ -145,44 +145,44 @@ module _ (ds : List Outcome) (x p : ℕ) (f : FirstOf ds x p) (h : x ≤ neverCe
 
 -- The first of a task ---------------------------------------------------------------------------------------------------
 
-module _ (mem : List ℕ) (r : RisingIn mem) (i : ℕ) (h : i < nth mem 0) where
+module _ (rooms : ℕ) (mem : List ℕ) (r : RisingIn rooms mem) (i : ℕ) (h : i < nth mem 0) where
   -- A line's processors before a place are not higher than the one at it.
-  rising-row : (c : ℕ) → c < nth mem 3 + 1 → (d : Outcome) → In d (rowOutcomes false (rowAt i) c mem) → d .processor ≤ nth mem (rowAt i + (1 + 3 * c))
+  rising-row : (c : ℕ) → c < nth mem 3 + 1 → (d : Outcome) → In d (rowOutcomes false (rowAt rooms i) c mem) → d .processor ≤ nth mem (rowAt rooms i + (1 + 3 * c))
   unfolding rowOutcomes
   rising-row (suc c) g d m =
-      let up : nth mem (rowAt i + (1 + 3 * c)) ≤ nth mem (rowAt i + (1 + 3 * suc c)) = rw (add-one c) at (r i c h (omega arith)) in
+      let up : nth mem (rowAt rooms i + (1 + 3 * c)) ≤ nth mem (rowAt rooms i + (1 + 3 * suc c)) = rw (add-one c) at (r i c h (omega arith)) in
       ⊎-elim
-      (λ e. let q : nth mem (rowAt i + (1 + 3 * c)) ≡ d .processor = ap (λ (d : Outcome). d .processor) e in omega arith)
+      (λ e. let q : nth mem (rowAt rooms i + (1 + 3 * c)) ≡ d .processor = ap (λ (d : Outcome). d .processor) e in omega arith)
       (λ k. omega (arith, rising-row c (omega arith) d k))
       m
 
 -- x is the first finish, on p, of the first c replicas of a task's line.
-abbrev pub Seen : List ℕ → ℕ → ℕ → ℕ → ℕ → Type 0
-Seen mem t c x p = FirstOf (rowOutcomes false (rowOf t mem) c mem) x p
+abbrev pub Seen : ℕ → List ℕ → ℕ → ℕ → ℕ → ℕ → Type 0
+Seen rooms mem t c x p = FirstOf (rowOutcomes false (rowOf rooms t mem) c mem) x p
 
-pub seen-none : (mem : List ℕ) (t p : ℕ) → Seen mem t 0 neverCell p
+pub seen-none : (rooms : ℕ) (mem : List ℕ) (t p : ℕ) → Seen rooms mem t 0 neverCell p
 unfolding rowOutcomes
-seen-none mem t p = first-none p
+seen-none rooms mem t p = first-none p
 
-module _ {mem : List ℕ} (s : Standing (nth mem 0) mem) (r : RisingIn mem) (t : ℕ) (h : t < nth mem 0) where
-  module _ (c x p : ℕ) (f : Seen mem t c x p) (g : c < nth mem 3 + 1) (m : x ≤ neverCell) where
-    pub seen-sooner : nth mem (rowOf t mem + (2 + 3 * c)) < x → Seen mem t (c + 1) (nth mem (rowOf t mem + (2 + 3 * c))) (nth mem (rowOf t mem + (1 + 3 * c)))
+module _ {rooms : ℕ} {mem : List ℕ} (s : Standing rooms (nth mem 0) mem) (r : RisingIn rooms mem) (t : ℕ) (h : t < nth mem 0) where
+  module _ (c x p : ℕ) (f : Seen rooms mem t c x p) (g : c < nth mem 3 + 1) (m : x ≤ neverCell) where
+    pub seen-sooner : nth mem (rowOf rooms t mem + (2 + 3 * c)) < x → Seen rooms mem t (c + 1) (nth mem (rowOf rooms t mem + (2 + 3 * c))) (nth mem (rowOf rooms t mem + (1 + 3 * c)))
     unfolding rowOutcomes
     seen-sooner l = rw (add-one c) (first-sooner _ x p f m _ _ _ l)
 
-    pub seen-stays : x ≤ nth mem (rowOf t mem + (2 + 3 * c)) → nth mem (rowOf t mem + (2 + 3 * c)) ≤ neverCell → Seen mem t (c + 1) x p
+    pub seen-stays : x ≤ nth mem (rowOf rooms t mem + (2 + 3 * c)) → nth mem (rowOf rooms t mem + (2 + 3 * c)) ≤ neverCell → Seen rooms mem t (c + 1) x p
     unfolding rowOutcomes
     seen-stays l n =
         rw (add-one c)
-        (first-stays (rowOutcomes false (rowOf t mem) c mem) x p f m _ _ _ l n
-        (rising-row mem r (nth mem (lineAt + t) - 1) (omega (arith, all-placed s t h, row-of-task s t h .1)) c g))
+        (first-stays (rowOutcomes false (rowOf rooms t mem) c mem) x p f m _ _ _ l n
+        (rising-row rooms mem r (nth mem (lineAt rooms + t) - 1) (omega (arith, all-placed s t h, row-of-task s t h .1)) c g))
 
-  pub seen-all : (c x p : ℕ) → c ≡ nth mem 3 + 1 → Seen mem t c x p → FirstIn t x p mem
+  pub seen-all : (c x p : ℕ) → c ≡ nth mem 3 + 1 → Seen rooms mem t c x p → FirstIn rooms t x p mem
   unfolding firstFinish firstBox
   seen-all c x p e f₀ =
-      let own : ofTask t (outcomesIn mem) ≡ rowOutcomes false (rowOf t mem) (nth mem 3 + 1) mem = placed-rowOf s false (nth mem 3 + 1) (nth mem 0) (omega arith) t h (all-placed s t h) (row-of-task s t h .1) in
-      let f : FirstOf (ofTask t (outcomesIn mem)) x p = rw (own, ← e) f₀ in
-      let ds = ofTask t (outcomesIn mem) in
+      let own : ofTask t (outcomesIn rooms mem) ≡ rowOutcomes false (rowOf rooms t mem) (nth mem 3 + 1) mem = placed-rowOf s false (nth mem 3 + 1) (nth mem 0) (omega arith) t h (all-placed s t h) (row-of-task s t h .1) in
+      let f : FirstOf (ofTask t (outcomesIn rooms mem)) x p = rw (own, ← e) f₀ in
+      let ds = ofTask t (outcomesIn rooms mem) in
       let same-time : Outcome → Bool = λ d. same (d .time) (timeIn x) in
       record {
         finish = f .finish;

@@ -3,7 +3,7 @@ use mathlib.Core.Path.{_≡_, refl, ap, _∙_, sym}
 use mathlib.Core.Logic.{_⊎_, inl, inr, ⊎-elim}
 use mathlib.Core.List.{List, [], _∷_, map}
 use mathlib.Core.Bool.{Bool, true, false}
-use Prim.Native.Nat.{ℕ, zero, suc, _+_, _*_, _-_, _<_, _≤_}
+use Prim.Native.Nat.{ℕ, zero, suc, _+_, _*_, _-_, _/_, _%_, _<_, _≤_}
 use native.Mathlib.Omega.{arith}
 use native.Mathlib.Nat.{mul-le-mul}
 use borrow.Author.Tests.{ne-eqb, eqb-true, eqb-false}
@@ -102,47 +102,49 @@ module _ (mem : List ℕ) where
 -- How large the job is ----------------------------------------------------------------------------------------
 
 -- The numbers of the job's head are within their limits, and all its cells are in the job's part of the memory.
-pub record Sizes (mem : List ℕ) : Type 0 where
-  pub size : length mem ≡ memorySize
+pub record Sizes (rooms : ℕ) (mem : List ℕ) : Type 0 where
+  pub size : length mem ≡ memorySize rooms
   pub some-task : 1 ≤ nth mem 0
-  pub tasks-most : nth mem 0 ≤ 255
+  pub tasks-most : (nth mem 0 ≤ 255) × (nth mem 0 ≤ 8 * rooms)
   pub some-processor : 1 ≤ nth mem 1
   pub processors-most : nth mem 1 ≤ 16
-  pub edges-most : nth mem 2 ≤ 1024
+  pub edges-most : (nth mem 2 ≤ 1024) × (nth mem 2 ≤ 32 * rooms)
   pub losses-most : nth mem 3 ≤ 7
   pub enough : nth mem 3 + 1 ≤ nth mem 1
   pub before-edges : (nth mem 0 + nth mem 1) * (nth mem 1 + 1) ≤ 4607
+  pub cells-room : edgeAt mem (nth mem 2) ≤ jobSize rooms
 
-pub sizes : {mem : List ℕ} → JobHeld mem → Sizes mem
+pub sizes : {rooms : ℕ} {mem : List ℕ} → JobHeld rooms mem → Sizes rooms mem
 unfolding jobIn
 sizes {mem} h =
     let f = h .facts in
     record {
       size = h .size;
       some-task = f .some-task;
-      tasks-most = f .tasks-most;
+      tasks-most = (f .tasks-most, h .fits .0);
       some-processor = f .some-processor;
       processors-most = f .processors-most;
-      edges-most = omega (arith, f .edges-most, length-edges mem);
+      edges-most = (omega (arith, f .edges-most, length-edges mem), h .fits .1);
       losses-most = f .losses-most;
       enough = f .enough;
       before-edges = mul-le-mul {n₁ = nth mem 0 + nth mem 1} {m₁ = nth mem 1 + 1} {n₂ = 271} {m₂ = 17} (omega (arith, f .tasks-most, f .processors-most)) (omega (arith, f .processors-most));
+      cells-room = omega (arith, h .fits .2);
     }
 
-module _ {mem : List ℕ} (s : Sizes mem) where
+module _ {rooms : ℕ} {mem : List ℕ} (s : Sizes rooms mem) where
   -- The cells of row r, before the edges: the rows of the tasks, then those of the processors.
   pub row-cell : (r p : ℕ) → r < nth mem 0 + nth mem 1 → p < nth mem 1
       → 4 + r * (nth mem 1 + 1) + (p + 1) < 4 + (nth mem 0 + nth mem 1) * (nth mem 1 + 1)
   row-cell r p h g = omega (arith, row-ends r (nth mem 0 + nth mem 1) (nth mem 1 + 1) h)
 
-  pub row-below : (r p : ℕ) → r < nth mem 0 + nth mem 1 → p < nth mem 1 → 4 + r * (nth mem 1 + 1) + (p + 1) < jobSize
+  pub row-below : (r p : ℕ) → r < nth mem 0 + nth mem 1 → p < nth mem 1 → 4 + r * (nth mem 1 + 1) + (p + 1) < jobSize rooms
   row-below r p h g = omega (arith, row-cell r p h g)
 
-  pub edge-below : (i : ℕ) → i < nth mem 2 → edgeAt mem i < jobSize
+  pub edge-below : (i : ℕ) → i < nth mem 2 → edgeAt mem i < jobSize rooms
   edge-below i h = omega arith
 
   -- The job is in its own cells.
-  module _ {e : List ℕ} (k : Same 0 jobSize mem e) where
+  module _ {e : List ℕ} (k : Same 0 (jobSize rooms) mem e) where
     pub edgeAt-same : (i : ℕ) → edgeAt e i ≡ edgeAt mem i
     edgeAt-same i = rw (k .cell 0 (omega arith) (omega arith), k .cell 1 (omega arith) (omega arith))
 
@@ -176,6 +178,23 @@ module _ {mem : List ℕ} (s : Sizes mem) where
             → _≡_ {A = Job} (record { tasks = v; processors = m; losses = x; runs = rs; delays = ds; edges = es }) (record { tasks = v′; processors = m′; losses = x′; runs = rs′; delays = ds′; edges = es′ })
         made p q r s t u = rw (p, q, r, s, t, u)
 
+-- A job that is as it was stands in a memory of the same size.
+pub held-same : {rooms : ℕ} {d e : List ℕ} → JobHeld rooms d → length e ≡ length d → Same 0 (jobSize rooms) d e → JobHeld rooms e
+held-same {rooms} {d} {e} h z k =
+    let w = sizes h in
+    let v : nth e 0 ≡ nth d 0 = k .cell 0 (omega arith) (omega arith) in
+    let m : nth e 1 ≡ nth d 1 = k .cell 1 (omega arith) (omega arith) in
+    let n : nth e 2 ≡ nth d 2 = k .cell 2 (omega arith) (omega arith) in
+    record { size = z ∙ h .size; fits = rw (v, m, n) (h .fits); facts = rw (job-same w k) (h .facts) }
+
+-- An edge leads from a task of the job to a task of the job.
+module _ {rooms : ℕ} {mem : List ℕ} (h : JobHeld rooms mem) (i : ℕ) (l : i < nth mem 2) where
+  pub from-below : nth mem (edgeAt mem i) % 256 < nth mem 0
+  from-below = omega (arith, tasks-in mem, h .facts .from-task (edgeIn (nth mem (edgeAt mem i))) (edge-in mem i l))
+
+  pub to-below : nth mem (edgeAt mem i) / 256 % 256 < nth mem 0
+  to-below = omega (arith, tasks-in mem, h .facts .to-task (edgeIn (nth mem (edgeAt mem i))) (edge-in mem i l))
+
 -- Outside some cells nothing changed --------------------------------------------------------------------------
 
 module _ {low high : ℕ} where
@@ -203,13 +222,13 @@ module _ {low high : ℕ} where
         behind = λ j h. getD-set-other e i j x 0 (λ q. omega arith) ∙ p .behind j h;
       }
 
-module _ {low high : ℕ} {d e : List ℕ} (h : JobHeld d) (k : KeptOutside low high d e) (a : jobSize ≤ low) where
+module _ {rooms low high : ℕ} {d e : List ℕ} (h : JobHeld rooms d) (k : KeptOutside low high d e) (a : jobSize rooms ≤ low) where
   -- A change behind the job leaves the job as it was.
   pub job-kept : jobIn e ≡ jobIn d
-  job-kept = job-same (sizes h) (same-before 0 jobSize k a)
+  job-kept = job-same (sizes h) (same-before 0 (jobSize rooms) k a)
 
-  pub held-kept : JobHeld e
-  held-kept = record { size = k .size ∙ h .size; facts = rw job-kept (h .facts) }
+  pub held-kept : JobHeld rooms e
+  held-kept = held-same h (k .size) (same-before 0 (jobSize rooms) k a)
 
 -- Lines -------------------------------------------------------------------------------------------------------
 
@@ -224,11 +243,11 @@ module _ (d e : List ℕ) where
       time true = k .cell (a + (3 + 3 * c)) (omega arith) (omega arith)
       time false = k .cell (a + (2 + 3 * c)) (omega arith) (omega arith)
 
-  pub placed-same : (late : Bool) (w k : ℕ) → w ≤ 8 → Same (rowAt 0) (rowAt k) d e → placedIn late w k e ≡ placedIn late w k d
+  pub placed-same : (rooms : ℕ) (late : Bool) (w k : ℕ) → w ≤ 8 → Same (rowAt rooms 0) (rowAt rooms k) d e → placedIn rooms late w k e ≡ placedIn rooms late w k d
   unfolding placedIn
-  placed-same late w zero h s = refl
-  placed-same late w (suc k) h s =
-      rw (outcomes-same late (rowAt k) w (same-part (rowAt k) (rowAt k + (1 + 3 * w)) s (omega arith) (omega arith)), placed-same late w k h (same-part (rowAt 0) (rowAt k) s (omega arith) (omega arith)))
+  placed-same rooms late w zero h s = refl
+  placed-same rooms late w (suc k) h s =
+      rw (outcomes-same late (rowAt rooms k) w (same-part (rowAt rooms k) (rowAt rooms k + (1 + 3 * w)) s (omega arith) (omega arith)), placed-same rooms late w k h (same-part (rowAt rooms 0) (rowAt rooms k) s (omega arith) (omega arith)))
 
   pub replicas-same : (a c : ℕ) → Same a (a + (1 + 3 * c)) d e → rowReplicas a c e ≡ rowReplicas a c d
   unfolding rowReplicas
@@ -236,11 +255,11 @@ module _ (d e : List ℕ) where
   replicas-same a (suc c) k =
       rw (k .cell (a + (1 + 3 * c)) (omega arith) (omega arith), k .cell (a + (2 + 3 * c)) (omega arith) (omega arith), k .cell (a + (3 + 3 * c)) (omega arith) (omega arith), replicas-same a c (same-part a (a + (1 + 3 * c)) k (omega arith) (omega arith)))
 
-  pub lines-same : (w k : ℕ) → w ≤ 8 → Same (rowAt 0) (rowAt k) d e → linesIn w k e ≡ linesIn w k d
+  pub lines-same : (rooms : ℕ) (w k : ℕ) → w ≤ 8 → Same (rowAt rooms 0) (rowAt rooms k) d e → linesIn rooms w k e ≡ linesIn rooms w k d
   unfolding linesIn
-  lines-same w zero h s = refl
-  lines-same w (suc k) h s =
-      rw (s .cell (rowAt k) (omega arith) (omega arith), replicas-same (rowAt k) w (same-part (rowAt k) (rowAt k + (1 + 3 * w)) s (omega arith) (omega arith)), lines-same w k h (same-part (rowAt 0) (rowAt k) s (omega arith) (omega arith)))
+  lines-same rooms w zero h s = refl
+  lines-same rooms w (suc k) h s =
+      rw (s .cell (rowAt rooms k) (omega arith) (omega arith), replicas-same (rowAt rooms k) w (same-part (rowAt rooms k) (rowAt rooms k + (1 + 3 * w)) s (omega arith) (omega arith)), lines-same rooms w k h (same-part (rowAt rooms 0) (rowAt rooms k) s (omega arith) (omega arith)))
 
 -- Links -------------------------------------------------------------------------------------------------------
 
@@ -280,7 +299,7 @@ module _ {edgesOf : ℕ → List Edge} {headAt nextAt : ℕ} {mem : List ℕ} (c
       let f = c .falls (k - 1) (omega arith) in
       rw e (chain-more nextAt mem n k h ∙ ap (edgeIn (nth mem (edgeAt mem (k - 1))) ∷_) (sym (chain-fuel nextAt mem (nth mem 2) (c .falls) n (nth mem (nextAt + (k - 1))) (omega arith) (omega arith))))
 
-module _ {d e : List ℕ} (s : Sizes d) (j : Same 0 jobSize d e) where
+module _ {rooms : ℕ} {d e : List ℕ} (s : Sizes rooms d) (j : Same 0 (jobSize rooms) d e) where
   pub chain-same : (nextAt b : ℕ) → b ≤ nth d 2 → Same nextAt (nextAt + b) d e → ((i : ℕ) → i < b → nth d (nextAt + i) ≤ i)
       → (n k : ℕ) → k ≤ b → chain nextAt n e k ≡ chain nextAt n d k
   unfolding chain
@@ -308,7 +327,7 @@ module _ {d e : List ℕ} (s : Sizes d) (j : Same 0 jobSize d e) where
 
 -- A plan's lines ------------------------------------------------------------------------------------------------
 
-pub row-held-same : {d e : List ℕ} (a : ℕ) → Sizes d → Same 0 4 d e → Same a (a + 25) d e → RowHeld a d → RowHeld a e
+pub row-held-same : {rooms : ℕ} {d e : List ℕ} (a : ℕ) → Sizes rooms d → Same 0 4 d e → Same a (a + 25) d e → RowHeld a d → RowHeld a e
 row-held-same {d} {e} a s j x r =
     let m : nth e 1 ≡ nth d 1 = j .cell 1 (omega arith) (omega arith) in
     let l : nth e 3 ≡ nth d 3 = j .cell 3 (omega arith) (omega arith) in
@@ -319,51 +338,51 @@ row-held-same {d} {e} a s j x r =
     }
 
 -- The job with its links, the table of lines and the first k lines are as they were.
-pub standing-same : {k : ℕ} {d e : List ℕ} → length e ≡ length d → Same 0 levelAt d e → Same lineAt blockedAt d e → Same (rowAt 0) (rowAt k) d e
-    → Standing k d → Standing k e
-standing-same {k} {d} {e} z j l r s =
+pub standing-same : {rooms k : ℕ} {d e : List ℕ} → length e ≡ length d → Same 0 (levelAt rooms) d e → Same (lineAt rooms) (blockedAt rooms) d e → Same (rowAt rooms 0) (rowAt rooms k) d e
+    → Standing rooms k d → Standing rooms k e
+standing-same {rooms} {k} {d} {e} z j l r s =
     let w = sizes (s .job) in
-    let a : Same 0 jobSize d e = same-part 0 jobSize j (omega arith) (omega arith) in
+    let a : Same 0 (jobSize rooms) d e = same-part 0 (jobSize rooms) j (omega arith) (omega arith) in
     let b : jobIn e ≡ jobIn d = job-same w a in
     let v : nth e 0 ≡ nth d 0 = j .cell 0 (omega arith) (omega arith) in
-    let task : (i : ℕ) → i < k → nth e (rowAt i) ≡ nth d (rowAt i) = λ i h. r .cell (rowAt i) (omega arith) (omega arith) in
-    let line : (t : ℕ) → t < nth d 0 → nth e (lineAt + t) ≡ nth d (lineAt + t) = λ t h. l .cell (lineAt + t) (omega arith) (omega arith) in
+    let task : (i : ℕ) → i < k → nth e (rowAt rooms i) ≡ nth d (rowAt rooms i) = λ i h. r .cell (rowAt rooms i) (omega arith) (omega arith) in
+    let line : (t : ℕ) → t < nth d 0 → nth e (lineAt rooms + t) ≡ nth d (lineAt rooms + t) = λ t h. l .cell (lineAt rooms + t) (omega arith) (omega arith) in
     record {
-      job = record { size = z ∙ s .job .size; facts = rw b (s .job .facts) };
-      linked = rw b (chained-same w a (same-part inHeadAt (inHeadAt + nth d 0) j (omega arith) (omega arith)) (same-part inNextAt (inNextAt + nth d 2) j (omega arith) (omega arith)) (s .linked));
+      job = held-same (s .job) z a;
+      linked = rw b (chained-same w a (same-part (inHeadAt rooms) (inHeadAt rooms + nth d 0) j (omega arith) (omega arith)) (same-part (inNextAt rooms) (inNextAt rooms + nth d 2) j (omega arith) (omega arith)) (s .linked));
       count = rw v (s .count);
       task-of = λ i h. rw (task i h, v) (s .task-of i h);
-      line-of = λ i h. rw (task i h, line (nth d (rowAt i)) (s .task-of i h)) (s .line-of i h);
+      line-of = λ i h. rw (task i h, line (nth d (rowAt rooms i)) (s .task-of i h)) (s .line-of i h);
       placed = λ t h.
           let g : t < nth d 0 = rw v at h in
           rw (line t g) (⊎-elim (λ p. inl p) (λ p. inr (p .0, p .1, p .2, task (p .0) (p .1) ∙ p .3)) (s .placed t g));
-      row = λ i h. row-held-same (rowAt i) w (same-part 0 4 j (omega arith) (omega arith)) (same-part (rowAt i) (rowAt i + 25) r (omega arith) (omega arith)) (s .row i h);
+      row = λ i h. row-held-same (rowAt rooms i) w (same-part 0 4 j (omega arith) (omega arith)) (same-part (rowAt rooms i) (rowAt rooms i + 25) r (omega arith) (omega arith)) (s .row i h);
     }
 
 -- A change among what serves the choice of a task, or behind the k lines.
-module _ {k low high : ℕ} {d e : List ℕ} (c : KeptOutside low high d e) (s : Standing k d) where
-  pub standing-choice : blockedAt ≤ low → high ≤ rowAt 0 → Standing k e
-  standing-choice a b = standing-same (c .size) (same-before 0 levelAt c (omega arith)) (same-before lineAt blockedAt c a) (same-behind (rowAt 0) (rowAt k) c b) s
+module _ {rooms k low high : ℕ} {d e : List ℕ} (c : KeptOutside low high d e) (s : Standing rooms k d) where
+  pub standing-choice : blockedAt rooms ≤ low → high ≤ rowAt rooms 0 → Standing rooms k e
+  standing-choice a b = standing-same (c .size) (same-before 0 (levelAt rooms) c (omega arith)) (same-before (lineAt rooms) (blockedAt rooms) c a) (same-behind (rowAt rooms 0) (rowAt rooms k) c b) s
 
-  pub standing-behind : rowAt k ≤ low → Standing k e
-  standing-behind a = standing-same (c .size) (same-before 0 levelAt c (omega arith)) (same-before lineAt blockedAt c (omega arith)) (same-before (rowAt 0) (rowAt k) c a) s
+  pub standing-behind : rowAt rooms k ≤ low → Standing rooms k e
+  standing-behind a = standing-same (c .size) (same-before 0 (levelAt rooms) c (omega arith)) (same-before (lineAt rooms) (blockedAt rooms) c (omega arith)) (same-before (rowAt rooms 0) (rowAt rooms k) c a) s
 
 -- The tables beside the lines, when the job and they are as they were.
-module _ {d e : List ℕ} (h : JobHeld d) where
-  pub linked-out-same : Same 0 levelAt d e → LinkedOut d → LinkedOut e
+module _ {rooms : ℕ} {d e : List ℕ} (h : JobHeld rooms d) where
+  pub linked-out-same : Same 0 (levelAt rooms) d e → LinkedOut rooms d → LinkedOut rooms e
   linked-out-same j c =
       let w = sizes h in
-      let a : Same 0 jobSize d e = same-part 0 jobSize j (omega arith) (omega arith) in
-      rw (job-same w a) (chained-same w a (same-part outHeadAt (outHeadAt + nth d 0) j (omega arith) (omega arith)) (same-part outNextAt (outNextAt + nth d 2) j (omega arith) (omega arith)) c)
+      let a : Same 0 (jobSize rooms) d e = same-part 0 (jobSize rooms) j (omega arith) (omega arith) in
+      rw (job-same w a) (chained-same w a (same-part (outHeadAt rooms) (outHeadAt rooms + nth d 0) j (omega arith) (omega arith)) (same-part (outNextAt rooms) (outNextAt rooms + nth d 2) j (omega arith) (omega arith)) c)
 
-  pub levels-same : Same 0 jobSize d e → Same levelAt raisedAt d e → LevelsFilled d → LevelsFilled e
+  pub levels-same : Same 0 (jobSize rooms) d e → Same (levelAt rooms) (raisedAt rooms) d e → LevelsFilled rooms d → LevelsFilled rooms e
   levels-same j l f t g =
       let w = sizes h in
       let b : t < nth d 0 = rw (j .cell 0 (omega arith) (omega arith)) at g in
-      rw (job-same w j, l .cell (levelAt + t) (omega arith) (omega arith)) (f t b)
+      rw (job-same w j, l .cell (levelAt rooms + t) (omega arith) (omega arith)) (f t b)
 
-  pub far-same : Same 0 jobSize d e → Same farAt memorySize d e → FarFilled d → FarFilled e
+  pub far-same : Same 0 (jobSize rooms) d e → Same (farAt rooms) (memorySize rooms) d e → FarFilled rooms d → FarFilled rooms e
   far-same j l f p g =
       let w = sizes h in
       let b : p < nth d 1 = rw (j .cell 1 (omega arith) (omega arith)) at g in
-      rw (job-same w j, l .cell (farAt + p) (omega arith) (omega arith)) (f p b)
+      rw (job-same w j, l .cell (farAt rooms + p) (omega arith) (omega arith)) (f p b)

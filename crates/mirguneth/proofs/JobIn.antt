@@ -153,10 +153,10 @@ module _ (j : Job) (mem : List ℕ) (w : JobShape j) (e : take (length (jobCells
 
 -- After a good answer of the reader the memory holds the job of the text.
 pub loaded-in : (s mem : List ℕ) (n : ℕ) → Loaded (readJob document01 s) mem (Next n)
-    → (readJob document01 s ≡ good (jobIn mem)) × JobFacts document01 (jobIn mem) × JobShape (jobIn mem) × (n ≡ length (jobCells (jobIn mem)))
+    → (readJob document01 s ≡ good (jobIn mem)) × JobFacts document01 (jobIn mem)
 loaded-in s mem n h =
     let (j, g, l, c) = loaded-next (readJob document01 s) mem n h in
     let f = job-facts document01 s j g in
     let w = job-shape s j g in
     let e : jobIn mem ≡ j = job-in j mem w (rw (← l) c) f in
-    rw e (g, f, w, l)
+    rw e (g, f)

@@ -1,21 +1,20 @@
 -- The shape of a job that was read: a row of run times for each task and a row of delays for each processor, each with a
 -- number for each processor; and how many cells it takes.
-use mathlib.Core.Path.{_≡_, refl, _∙_, sym}
+use mathlib.Core.Path.{_≡_, refl, _∙_, sym, subst}
 use mathlib.Core.Logic.{inl, inr}
-use mathlib.Core.List.{List, [], _∷_, _++_, map}
-use Prim.Native.Nat.{ℕ, suc, _+_, _*_, _≤_}
+use mathlib.Core.List.{List, [], _∷_, map}
+use Prim.Native.Nat.{ℕ, suc, _+_, _*_}
 use native.Mathlib.Omega.{arith}
-use native.Mathlib.Nat.{add-mul, suc-mul, zero-mul, mul-le-mul}
+use native.Mathlib.Nat.{suc-mul, zero-mul}
 use lib.ListN.{length, drop, length-append, length-drop, length-map}
 use Rattle.definitions.specs.Lists.{bytes, In}
 use Rattle.definitions.specs.Limits.{document01}
-use Rattle.definitions.specs.Text.{found, firstOf, line, unless, good, return}
-use Rattle.definitions.specs.Job.{Job, jobHead, jobHeadRule, runRule, delayRule, edgeLine, edgeRule, circular, jobLines, readJob}
+use Rattle.definitions.specs.Text.{found, firstOf, line, unless, ended, good, return}
+use Rattle.definitions.specs.Job.{Job, JobHead, jobHead, jobHeadRule, runRule, delayRule, edgeLine, edgeRule, circular, jobLines, readJob}
 use Rattle.definitions.proofs.Lists.{in-map}
-use Rattle.definitions.proofs.Facts.{JobFacts}
-use Rattle.definitions.proofs.Reading.{Ruled, rule-found, whole-good, andThen-good, unless-good, lines-then, ruled-in, line-found}
-use Rattle.mirguneth.specs.Memory.{edgeCell, numbered, jobCells}
-use Rattle.mirguneth.specs.Stages.{jobOf, fromEdges, fromDelays, fromRuns}
+use Rattle.definitions.proofs.Reading.{Ruled, rule-found, ended-good, whole-good, andThen-good, unless-good, lines-then, ruled-in, line-found}
+use Rattle.mirguneth.specs.Memory.{numbered}
+use Rattle.mirguneth.specs.Stages.{jobOf, fromEdges, fromDelays, fromRuns, closed}
 
 -- Rows of m numbers each.
 abbrev pub Wide : ℕ → List (List ℕ) → Type 0
@@ -35,22 +34,34 @@ rows-wide opening m rule rows w r i =
     let l : length vs ≡ 1 + m = line-found document01 opening (1 + m) s vs t f in
     rw (← e) (omega (arith, length-drop 1 vs))
 
+-- The job of a head has its numbers, and its shape.
+runs-shape : (h : JobHead) (s : List ℕ) (j : Job) (r : List ℕ) → fromRuns h s ≡ found j r
+    → JobShape j × (j .tasks ≡ h .tasks) × (j .processors ≡ h .processors) × (length (j .edges) ≡ h .edges)
+unfolding fromRuns fromDelays fromEdges
+runs-shape h s j r g =
+    let (runs, s2, cn, cw, g2) = lines-then (line document01 (bytes "C,") (1 + h .processors)) (runRule document01) (h .tasks) s (λ runs. fromDelays h (map (drop 1) runs)) j r g in
+    let (delays, s3, dn, dw, g3) = lines-then (line document01 (bytes "D,") (1 + h .processors)) (delayRule document01) (h .processors) s2
+    (λ delays. fromEdges h (map (drop 1) runs) (map (drop 1) delays)) j r g2 in
+    let (es, s4, en, _, g4) = lines-then (edgeLine document01) (edgeRule document01 (h .tasks)) (h .edges) s3
+    (λ es. return (jobOf h (map (drop 1) runs) (map (drop 1) delays) es)) j r g3 in
+    let e : j ≡ jobOf h (map (drop 1) runs) (map (drop 1) delays) es = cc in
+    rw e (
+      record {
+        runs-count = length-map runs (drop 1) ∙ cn;
+        runs-wide = rows-wide (bytes "C,") (h .processors) (runRule document01) runs cw;
+        delays-count = length-map delays (drop 1) ∙ dn;
+        delays-wide = rows-wide (bytes "D,") (h .processors) (delayRule document01) delays dw;
+      },
+      refl,
+      refl,
+      en,
+    )
+
 lines-shape : (s : List ℕ) (j : Job) (r : List ℕ) → jobLines document01 s ≡ found j r → JobShape j
 unfolding jobLines fromRuns fromDelays fromEdges
 lines-shape s j r g =
     let (h, s1, _, _, g1) = rule-found (jobHead document01 s) (jobHeadRule document01) fromRuns j r g in
-    let (runs, s2, cn, cw, g2) = lines-then (line document01 (bytes "C,") (1 + h .processors)) (runRule document01) (h .tasks) s1 (λ runs. fromDelays h (map (drop 1) runs)) j r g1 in
-    let (delays, s3, dn, dw, g3) = lines-then (line document01 (bytes "D,") (1 + h .processors)) (delayRule document01) (h .processors) s2
-    (λ delays. fromEdges h (map (drop 1) runs) (map (drop 1) delays)) j r g2 in
-    let (es, s4, _, _, g4) = lines-then (edgeLine document01) (edgeRule document01 (h .tasks)) (h .edges) s3
-    (λ es. return (jobOf h (map (drop 1) runs) (map (drop 1) delays) es)) j r g3 in
-    let e : j ≡ jobOf h (map (drop 1) runs) (map (drop 1) delays) es = cc in
-    rw e (record {
-      runs-count = length-map runs (drop 1) ∙ cn;
-      runs-wide = rows-wide (bytes "C,") (h .processors) (runRule document01) runs cw;
-      delays-count = length-map delays (drop 1) ∙ dn;
-      delays-wide = rows-wide (bytes "D,") (h .processors) (delayRule document01) delays dw;
-    })
+    runs-shape h s1 j r g1 .0
 
 pub job-shape : (s : List ℕ) (j : Job) → readJob document01 s ≡ good j → JobShape j
 unfolding readJob
@@ -58,6 +69,16 @@ job-shape s j g =
     let (i, a, b) = andThen-good _ (λ j. unless (firstOf ((circular j, 7) ∷ [])) j) j g in
     let (_, e) = unless-good (firstOf ((circular i, 7) ∷ [])) i j b in
     rw e at (lines-shape s i [] (whole-good document01 (jobLines document01) s i a))
+
+-- So has the job of a text whose head was read.
+pub closed-head : (h : JobHead) (s : List ℕ) (j : Job) → closed (fromRuns h s) ≡ good j
+    → (j .tasks ≡ h .tasks) × (j .processors ≡ h .processors) × (length (j .edges) ≡ h .edges)
+unfolding closed
+closed-head h s j g =
+    let (i, a, b) = andThen-good (ended (fromRuns h s)) (λ j. unless (firstOf ((circular j, 7) ∷ [])) j) j g in
+    let (_, e) = unless-good (firstOf ((circular i, 7) ∷ [])) i j b in
+    let (_, t, p, n) = runs-shape h s i [] (ended-good (fromRuns h s) i a) in
+    subst (λ (k : Job). (k .tasks ≡ h .tasks) × (k .processors ≡ h .processors) × (length (k .edges) ≡ h .edges)) e (t, p, n)
 
 -- Cells -----------------------------------------------------------------------------------------------------------
 
@@ -69,17 +90,3 @@ numbered-count m k (r ∷ rows) w =
     let b = numbered-count m (suc k) rows (λ q i. w q (inr i)) in
     let c = suc-mul (length rows) (1 + m) in
     omega (arith, length-append r (numbered (suc k) rows))
-
-pub cells-count : (j : Job) → JobShape j → length (jobCells j) ≡ 4 + (j .tasks + j .processors) * (1 + j .processors) + length (j .edges)
-unfolding jobCells
-cells-count j w =
-    let a = numbered-count (j .processors) 0 (j .runs) (w .runs-wide) in
-    let b = numbered-count (j .processors) 0 (j .delays) (w .delays-wide) in
-    let c = add-mul (j .tasks) (j .processors) (1 + j .processors) in
-    let e = length-append (numbered 0 (j .runs) ++ numbered 0 (j .delays)) (map edgeCell (j .edges)) in
-    omega (arith, rw (w .runs-count) at a, rw (w .delays-count) at b, length-append (numbered 0 (j .runs)) (numbered 0 (j .delays)), length-map (j .edges) edgeCell)
-
-pub cells-most : (j : Job) → JobShape j → JobFacts document01 j → length (jobCells j) ≤ 5635
-cells-most j w f =
-    let r = mul-le-mul {n₁ = j .tasks + j .processors} {m₁ = 1 + j .processors} {n₂ = 271} {m₂ = 17} (omega arith) (omega arith) in
-    omega (arith, cells-count j w)

@@ -100,40 +100,40 @@ same-cell x y l = by (eqb x neverCell) refl
     by true p = let q = eqb-true x neverCell p in sym (ne-eqb x y (λ e. omega arith))
     by false p = refl
 
-module _ {mem : List ℕ} (h : PlanHeld mem) (one : doubledTasks (planIn mem .lines) ≡ []) (t : ticksAgree (jobIn mem) (planIn mem .lines) ≡ true) where
-  best-same : (x : ℕ) → timeIn x ≡ end (jobIn mem) (choiceOf false) (placedIn false (nth mem 3 + 1) (nth mem 0) mem)
-      → same (bestEnd (jobIn mem) (planIn mem .lines)) (tick (planIn mem .best)) ≡ eqb x (nth mem bestAt)
+module _ {rooms : ℕ} {mem : List ℕ} (h : PlanHeld rooms mem) (one : doubledTasks (planIn rooms mem .lines) ≡ []) (t : ticksAgree (jobIn mem) (planIn rooms mem .lines) ≡ true) where
+  best-same : (x : ℕ) → timeIn x ≡ end (jobIn mem) (choiceOf false) (placedIn rooms false (nth mem 3 + 1) (nth mem 0) mem)
+      → same (bestEnd (jobIn mem) (planIn rooms mem .lines)) (tick (planIn rooms mem .best)) ≡ eqb x (nth mem (bestAt rooms))
   unfolding bestEnd earlies planIn
   best-same x e =
-      let ds = placedIn false (nth mem 3 + 1) (nth mem 0) mem in
-      rw (agreed-walk h one false (nth mem 0) (omega arith) (ticks-all h one t), end-reverse (jobIn mem) false ds, ← e) (same-cell x (nth mem bestAt) (omega (arith, h .facts .best-most)))
+      let ds = placedIn rooms false (nth mem 3 + 1) (nth mem 0) mem in
+      rw (agreed-walk h one false (nth mem 0) (omega arith) (ticks-all h one t), end-reverse (jobIn mem) false ds, ← e) (same-cell x (nth mem (bestAt rooms)) (omega (arith, h .facts .best-most)))
 
-  worst-same : (y : ℕ) → timeIn y ≡ end (jobIn mem) (choiceOf true) (placedIn true (nth mem 3 + 1) (nth mem 0) mem)
-      → same (worstEnd (jobIn mem) (planIn mem .lines)) (tick (planIn mem .worst)) ≡ eqb y (nth mem worstAt)
+  worst-same : (y : ℕ) → timeIn y ≡ end (jobIn mem) (choiceOf true) (placedIn rooms true (nth mem 3 + 1) (nth mem 0) mem)
+      → same (worstEnd (jobIn mem) (planIn rooms mem .lines)) (tick (planIn rooms mem .worst)) ≡ eqb y (nth mem (worstAt rooms))
   unfolding worstEnd lates planIn
   worst-same y e =
-      let ds = placedIn true (nth mem 3 + 1) (nth mem 0) mem in
-      rw (agreed-walk h one true (nth mem 0) (omega arith) (ticks-all h one t), end-reverse (jobIn mem) true ds, ← e) (same-cell y (nth mem worstAt) (omega (arith, h .facts .worst-most)))
+      let ds = placedIn rooms true (nth mem 3 + 1) (nth mem 0) mem in
+      rw (agreed-walk h one true (nth mem 0) (omega arith) (ticks-all h one t), end-reverse (jobIn mem) true ds, ← e) (same-cell y (nth mem (worstAt rooms)) (omega (arith, h .facts .worst-most)))
 
-  module _ (x : ℕ) (e : timeIn x ≡ end (jobIn mem) (choiceOf false) (placedIn false (nth mem 3 + 1) (nth mem 0) mem)) where
-    pub best-differs : (x ≡ nth mem bestAt → ⊥) → false ≡ endsAgree (jobIn mem) (planIn mem)
+  module _ (x : ℕ) (e : timeIn x ≡ end (jobIn mem) (choiceOf false) (placedIn rooms false (nth mem 3 + 1) (nth mem 0) mem)) where
+    pub best-differs : (x ≡ nth mem (bestAt rooms) → ⊥) → false ≡ endsAgree (jobIn mem) (planIn rooms mem)
     unfolding endsAgree
-    best-differs n = rw (best-same x e, ne-eqb x (nth mem bestAt) n)
+    best-differs n = rw (best-same x e, ne-eqb x (nth mem (bestAt rooms)) n)
 
-    pub worst-decides : x ≡ nth mem bestAt → (y : ℕ) → timeIn y ≡ end (jobIn mem) (choiceOf true) (placedIn true (nth mem 3 + 1) (nth mem 0) mem)
-        → eqb y (nth mem worstAt) ≡ endsAgree (jobIn mem) (planIn mem)
+    pub worst-decides : x ≡ nth mem (bestAt rooms) → (y : ℕ) → timeIn y ≡ end (jobIn mem) (choiceOf true) (placedIn rooms true (nth mem 3 + 1) (nth mem 0) mem)
+        → eqb y (nth mem (worstAt rooms)) ≡ endsAgree (jobIn mem) (planIn rooms mem)
     unfolding endsAgree
-    worst-decides q y f = rw (best-same x e, eq-eqb x (nth mem bestAt) q, worst-same y f)
+    worst-decides q y f = rw (best-same x e, eq-eqb x (nth mem (bestAt rooms)) q, worst-same y f)
 
 -- The line that was found ------------------------------------------------------------------------------------------
 
 -- What the search for a doubled task ensures, by its result.
-module _ (mem : List ℕ) (r : ℕ)
-    (found : ((r ≡ nth mem 0) × (doubledTasks (planIn mem .lines) ≡ [])) ⊎ ((r < nth mem 0) × In (nth mem (rowAt r)) (doubledTasks (planIn mem .lines)))) where
-  pub some-doubled : r < nth mem 0 → In (nth mem (rowAt r)) (doubledTasks (planIn mem .lines))
+module _ (rooms : ℕ) (mem : List ℕ) (r : ℕ)
+    (found : ((r ≡ nth mem 0) × (doubledTasks (planIn rooms mem .lines) ≡ [])) ⊎ ((r < nth mem 0) × In (nth mem (rowAt rooms r)) (doubledTasks (planIn rooms mem .lines)))) where
+  pub some-doubled : r < nth mem 0 → In (nth mem (rowAt rooms r)) (doubledTasks (planIn rooms mem .lines))
   some-doubled l = ⊎-elim (λ f. absurd (omega (arith, f .0))) (λ f. f .1) found
 
-  pub none-doubled : nth mem 0 ≤ r → doubledTasks (planIn mem .lines) ≡ []
+  pub none-doubled : nth mem 0 ≤ r → doubledTasks (planIn rooms mem .lines) ≡ []
   none-doubled l = ⊎-elim (λ f. f .1) (λ f. absurd (omega (arith, f .0))) found
 
 -- The answer --------------------------------------------------------------------------------------------------------

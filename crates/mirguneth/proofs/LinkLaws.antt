@@ -3,7 +3,7 @@ use mathlib.Core.Path.{_≡_, refl, ap, _∙_, sym, subst}
 use mathlib.Core.Logic.{_⊎_, ⊎-elim}
 use mathlib.Core.List.{List, [], _∷_, _++_, map, reverse, append-nil, map-append, reverse-append}
 use mathlib.Core.Bool.{Bool, true, false}
-use Prim.Native.Nat.{ℕ, suc, _+_, _-_, _/_, _%_, _<_, _≤_}
+use Prim.Native.Nat.{ℕ, suc, _+_, _*_, _-_, _/_, _%_, _<_, _≤_}
 use native.Mathlib.Omega.{arith}
 use native.Mathlib.Numerals.{add-one}
 use borrow.Author.Tests.{eq-eqb, ne-eqb}
@@ -16,7 +16,7 @@ use Rattle.mirguneth.specs.Memory.{edgeIn}
 use Rattle.mirguneth.specs.Layout.{memorySize, jobSize, inHeadAt, inNextAt, outHeadAt, outNextAt, levelAt}
 use Rattle.mirguneth.specs.Schedule.{edgeAt, jobIn, chain, Chained, KeptOutside, JobHeld, LinkedIn, LinkedOut}
 use Rattle.mirguneth.proofs.Upward.{count-last, keep-last}
-use Rattle.mirguneth.proofs.Held.{equal-or-not, last-or-before, Same, same-before, same-behind, Sizes, sizes, edge-same, edge-below, edges-in, kept-all, kept-set, kept-then, kept-wider, held-kept, job-kept, chain-more, chain-fuel, chain-same}
+use Rattle.mirguneth.proofs.Held.{equal-or-not, last-or-before, Same, same-before, same-behind, edges-in, from-below, to-below, Sizes, sizes, edge-same, edge-below, kept-all, kept-set, kept-then, kept-wider, held-kept, job-kept, chain-more, chain-fuel, chain-same}
 
 -- Lists ---------------------------------------------------------------------------------------------------------
 
@@ -40,13 +40,13 @@ module _ (f : Edge → Bool) (edge : ℕ → Edge) (i : ℕ) where
 -- A table of links ----------------------------------------------------------------------------------------------
 
 -- The first i edges are linked in a table, by one of their ends.
-pub record Linking (endOf : Edge → ℕ) (headAt nextAt i : ℕ) (edge : ℕ → Edge) (mem : List ℕ) : Type 0 where
-  pub chains : (t : ℕ) → t < 256 → chain nextAt i mem (nth mem (headAt + t)) ≡ reverse (keep (λ e. eqb (endOf e) t) (map edge (below i)))
-  pub head-most : (t : ℕ) → t < 256 → nth mem (headAt + t) ≤ i
+pub record Linking (rooms : ℕ) (endOf : Edge → ℕ) (headAt nextAt i : ℕ) (edge : ℕ → Edge) (mem : List ℕ) : Type 0 where
+  pub chains : (t : ℕ) → t < 8 * rooms → chain nextAt i mem (nth mem (headAt + t)) ≡ reverse (keep (λ e. eqb (endOf e) t) (map edge (below i)))
+  pub head-most : (t : ℕ) → t < 8 * rooms → nth mem (headAt + t) ≤ i
   pub falls : (k : ℕ) → k < i → nth mem (nextAt + k) ≤ k
 
-pub linking-none : (endOf : Edge → ℕ) (headAt nextAt : ℕ) (edge : ℕ → Edge) (mem : List ℕ) → ((t : ℕ) → t < 256 → nth mem (headAt + t) ≡ 0)
-    → Linking endOf headAt nextAt 0 edge mem
+pub linking-none : {rooms : ℕ} (endOf : Edge → ℕ) (headAt nextAt : ℕ) (edge : ℕ → Edge) (mem : List ℕ) → ((t : ℕ) → t < 8 * rooms → nth mem (headAt + t) ≡ 0)
+    → Linking rooms endOf headAt nextAt 0 edge mem
 unfolding chain keep countFrom
 linking-none endOf headAt nextAt edge mem h =
     record { chains = λ t g. refl; head-most = λ t g. omega (arith, h t g); falls = λ k g. absurd (omega arith) }
@@ -55,8 +55,8 @@ linking-none endOf headAt nextAt edge mem h =
 abbrev pub laid : ℕ → ℕ → ℕ → ℕ → List ℕ → List ℕ
 laid headAt nextAt i x mem = set (set mem (nextAt + i) (nth mem (headAt + x))) (headAt + x) (i + 1)
 
-module _ {endOf : Edge → ℕ} {headAt nextAt i : ℕ} {edge : ℕ → Edge} {d e : List ℕ} (w : Sizes d) (a : i ≤ nth d 2) (j : Same 0 jobSize d e) where
-  pub linking-same : Same headAt (headAt + 256) d e → Same nextAt (nextAt + i) d e → Linking endOf headAt nextAt i edge d → Linking endOf headAt nextAt i edge e
+module _ {rooms : ℕ} {endOf : Edge → ℕ} {headAt nextAt i : ℕ} {edge : ℕ → Edge} {d e : List ℕ} (w : Sizes rooms d) (a : i ≤ nth d 2) (j : Same 0 (jobSize rooms) d e) where
+  pub linking-same : Same headAt (headAt + 8 * rooms) d e → Same nextAt (nextAt + i) d e → Linking rooms endOf headAt nextAt i edge d → Linking rooms endOf headAt nextAt i edge e
   linking-same x y l =
       record {
         chains = λ t h. rw (x .cell (headAt + t) (omega arith) (omega arith)) (chain-same w j nextAt i a y (l .falls) i (nth d (headAt + t)) (l .head-most t h) ∙ l .chains t h);
@@ -64,8 +64,8 @@ module _ {endOf : Edge → ℕ} {headAt nextAt i : ℕ} {edge : ℕ → Edge} {d
         falls = λ k h. rw (y .cell (nextAt + k) (omega arith) (omega arith)) (l .falls k h);
       }
 
-module _ (endOf : Edge → ℕ) (headAt nextAt i x : ℕ) (edge : ℕ → Edge) {d : List ℕ} (w : Sizes d) (a : i < nth d 2) (b : x < 256)
-    (p : jobSize ≤ headAt) (q : headAt + 256 ≤ nextAt) (r : nextAt + 1024 ≤ memorySize) (here : edge i ≡ edgeIn (nth d (edgeAt d i))) (by-end : endOf (edge i) ≡ x) where
+module _ {rooms : ℕ} (endOf : Edge → ℕ) (headAt nextAt i x : ℕ) (edge : ℕ → Edge) {d : List ℕ} (w : Sizes rooms d) (a : i < nth d 2) (b : x < 8 * rooms)
+    (p : jobSize rooms ≤ headAt) (q : headAt + 8 * rooms ≤ nextAt) (r : nextAt + 32 * rooms ≤ memorySize rooms) (here : edge i ≡ edgeIn (nth d (edgeAt d i))) (by-end : endOf (edge i) ≡ x) where
   abbrev e : List ℕ
   e = laid headAt nextAt i x d
 
@@ -82,16 +82,16 @@ module _ (endOf : Edge → ℕ) (headAt nextAt i x : ℕ) (edge : ℕ → Edge) 
   next-new =
       getD-set-other step (headAt + x) (nextAt + i) (i + 1) 0 (λ g. omega arith) ∙ getD-set-same d (nextAt + i) (nth d (headAt + x)) 0 (omega arith)
 
-  jobs : Same 0 jobSize d e
+  jobs : Same 0 (jobSize rooms) d e
   jobs = record { cell = λ k g h. other k (λ f. omega arith) (λ f. omega arith) }
 
   nexts : Same nextAt (nextAt + i) d e
   nexts = record { cell = λ k g h. other k (λ f. omega arith) (λ f. omega arith) }
 
-  heads : (t : ℕ) → t < 256 → (t ≡ x → ⊥) → nth e (headAt + t) ≡ nth d (headAt + t)
+  heads : (t : ℕ) → t < 8 * rooms → (t ≡ x → ⊥) → nth e (headAt + t) ≡ nth d (headAt + t)
   heads t h g = other (headAt + t) (λ f. omega arith) (λ f. g (omega arith))
 
-  module _ (l : Linking endOf headAt nextAt i edge d) where
+  module _ (l : Linking rooms endOf headAt nextAt i edge d) where
     fall : (k : ℕ) → k < suc i → nth e (nextAt + k) ≤ k
     fall k h =
         ⊎-elim
@@ -100,7 +100,7 @@ module _ (endOf : Edge → ℕ) (headAt nextAt i x : ℕ) (edge : ℕ → Edge) 
         (last-or-before i k h)
 
     -- the chain from a head as it was
-    as-was : (t : ℕ) → t < 256 → chain nextAt i e (nth d (headAt + t)) ≡ reverse (keep (λ c. eqb (endOf c) t) (map edge (below i)))
+    as-was : (t : ℕ) → t < 8 * rooms → chain nextAt i e (nth d (headAt + t)) ≡ reverse (keep (λ c. eqb (endOf c) t) (map edge (below i)))
     as-was t h = chain-same w jobs nextAt i (omega arith) nexts (l .falls) i (nth d (headAt + t)) (l .head-most t h) ∙ l .chains t h
 
     at-end : chain nextAt (suc i) e (nth e (headAt + x)) ≡ reverse (keep (λ c. eqb (endOf c) x) (map edge (below (suc i))))
@@ -110,7 +110,7 @@ module _ (endOf : Edge → ℕ) (headAt nextAt i x : ℕ) (edge : ℕ → Edge) 
         chain-more nextAt e i (i + 1) (omega arith) ∙ rw (k, edge-same w jobs i a, next-new, here) in
         rw head-new (m ∙ ap (edge i ∷_) (as-was x b) ∙ sym (kept-more (λ c. eqb (endOf c) x) edge i (eq-eqb (endOf (edge i)) x by-end)))
 
-    elsewhere : (t : ℕ) → t < 256 → (t ≡ x → ⊥) → chain nextAt (suc i) e (nth e (headAt + t)) ≡ reverse (keep (λ c. eqb (endOf c) t) (map edge (below (suc i))))
+    elsewhere : (t : ℕ) → t < 8 * rooms → (t ≡ x → ⊥) → chain nextAt (suc i) e (nth e (headAt + t)) ≡ reverse (keep (λ c. eqb (endOf c) t) (map edge (below (suc i))))
     elsewhere t h g =
         let m = l .head-most t h in
         rw (heads t h g)
@@ -118,7 +118,7 @@ module _ (endOf : Edge → ℕ) (headAt nextAt i x : ℕ) (edge : ℕ → Edge) 
         ∙ sym (kept-same (λ c. eqb (endOf c) t) edge i (ne-eqb (endOf (edge i)) t (λ f. g (sym f ∙ by-end)))))
 
     -- One edge more is linked.
-    pub linking-next : Linking endOf headAt nextAt (suc i) edge (laid headAt nextAt i x d)
+    pub linking-next : Linking rooms endOf headAt nextAt (suc i) edge (laid headAt nextAt i x d)
     linking-next =
         record {
           chains = λ t h. ⊎-elim (λ g. rw g at-end) (elsewhere t h) (equal-or-not t x);
@@ -133,49 +133,51 @@ abbrev pub edgeOf : List ℕ → ℕ → Edge
 edgeOf d i = edgeIn (nth d (edgeAt d i))
 
 -- The first i edges of d are linked in both tables, and nothing else of d has changed.
-pub record Laying (d mem : List ℕ) (i : ℕ) : Type 0 where
-  pub kept : KeptOutside inHeadAt levelAt d mem
-  pub ins : Linking (λ e. e .to) inHeadAt inNextAt i (edgeOf d) mem
-  pub outs : Linking (λ e. e .from) outHeadAt outNextAt i (edgeOf d) mem
+pub record Laying (rooms : ℕ) (d mem : List ℕ) (i : ℕ) : Type 0 where
+  pub kept : KeptOutside (inHeadAt rooms) (levelAt rooms) d mem
+  pub ins : Linking rooms (λ e. e .to) (inHeadAt rooms) (inNextAt rooms) i (edgeOf d) mem
+  pub outs : Linking rooms (λ e. e .from) (outHeadAt rooms) (outNextAt rooms) i (edgeOf d) mem
 
-pub laying-none : (d : List ℕ) → ((t : ℕ) → t < 256 → (nth d (inHeadAt + t) ≡ 0) × (nth d (outHeadAt + t) ≡ 0)) → Laying d d 0
-laying-none d h =
+pub laying-none : {rooms : ℕ} (d : List ℕ) → ((t : ℕ) → t < 8 * rooms → (nth d (inHeadAt rooms + t) ≡ 0) × (nth d (outHeadAt rooms + t) ≡ 0)) → Laying rooms d d 0
+laying-none {rooms} d h =
     record {
       kept = kept-all;
-      ins = linking-none (λ e. e .to) inHeadAt inNextAt (edgeOf d) d (λ t g. h t g .0);
-      outs = linking-none (λ e. e .from) outHeadAt outNextAt (edgeOf d) d (λ t g. h t g .1);
+      ins = linking-none (λ e. e .to) (inHeadAt rooms) (inNextAt rooms) (edgeOf d) d (λ t g. h t g .0);
+      outs = linking-none (λ e. e .from) (outHeadAt rooms) (outNextAt rooms) (edgeOf d) d (λ t g. h t g .1);
     }
 
-module _ {d mem : List ℕ} (h : JobHeld d) where
-  pub laying-next : (i c : ℕ) → i < nth d 2 → c ≡ nth mem (edgeAt d i) → Laying d mem i
-      → Laying d (laid outHeadAt outNextAt i (c % 256) (laid inHeadAt inNextAt i (c / 256 % 256) mem)) (i + 1)
+module _ {rooms : ℕ} {d mem : List ℕ} (h : JobHeld rooms d) where
+  pub laying-next : (i c : ℕ) → i < nth d 2 → c ≡ nth mem (edgeAt d i) → Laying rooms d mem i
+      → Laying rooms d (laid (outHeadAt rooms) (outNextAt rooms) i (c % 256) (laid (inHeadAt rooms) (inNextAt rooms) i (c / 256 % 256) mem)) (i + 1)
   laying-next i c a q l =
       let w = sizes h in
-      let v : JobHeld mem = held-kept h (l .kept) (omega arith) in
+      let v : JobHeld rooms mem = held-kept h (l .kept) (omega arith) in
       let n : nth mem 2 ≡ nth d 2 = l .kept .before 2 (omega arith) in
-      let f : edgeOf mem i ≡ edgeOf d i = edge-same w (same-before 0 jobSize (l .kept) (omega arith)) i a in
+      let f : edgeOf mem i ≡ edgeOf d i = edge-same w (same-before 0 (jobSize rooms) (l .kept) (omega arith)) i a in
       let g : edgeOf d i ≡ edgeIn c = rw (q, l .kept .before (edgeAt d i) (edge-below w i a)) in
-      let one = laid inHeadAt inNextAt i (c / 256 % 256) mem in
-      let k : KeptOutside inHeadAt outHeadAt mem one =
-      kept-set (inHeadAt + c / 256 % 256) (i + 1) (kept-set (inNextAt + i) (nth mem (inHeadAt + c / 256 % 256)) kept-all (omega arith) (omega arith)) (omega arith) (omega arith) in
-      let v′ : JobHeld one = held-kept v k (omega arith) in
+      let to : c / 256 % 256 < nth d 0 = omega (arith, ap (λ (e : Edge). e .to) g, to-below h i a) in
+      let from : c % 256 < nth d 0 = omega (arith, ap (λ (e : Edge). e .from) g, from-below h i a) in
+      let one = laid (inHeadAt rooms) (inNextAt rooms) i (c / 256 % 256) mem in
+      let k : KeptOutside (inHeadAt rooms) (outHeadAt rooms) mem one =
+      kept-set (inHeadAt rooms + c / 256 % 256) (i + 1) (kept-set (inNextAt rooms + i) (nth mem (inHeadAt rooms + c / 256 % 256)) kept-all (omega arith) (omega arith)) (omega arith) (omega arith) in
+      let v′ : JobHeld rooms one = held-kept v k (omega arith) in
       let n′ : nth one 2 ≡ nth mem 2 = k .before 2 (omega arith) in
-      let f′ : edgeOf one i ≡ edgeOf mem i = edge-same (sizes v) (same-before 0 jobSize k (omega arith)) i (omega arith) in
-      let two = laid outHeadAt outNextAt i (c % 256) one in
-      let k′ : KeptOutside outHeadAt levelAt one two =
-      kept-set (outHeadAt + c % 256) (i + 1) (kept-set (outNextAt + i) (nth one (outHeadAt + c % 256)) kept-all (omega arith) (omega arith)) (omega arith) (omega arith) in
-      let into : Linking (λ e. e .to) inHeadAt inNextAt (suc i) (edgeOf d) one =
-      linking-next (λ e. e .to) inHeadAt inNextAt i (c / 256 % 256) (edgeOf d) (sizes v) (omega arith) (omega arith) (omega arith) (omega arith) (omega arith) (sym f) (ap (λ (e : Edge). e .to) g) (l .ins) in
-      let out : Linking (λ e. e .from) outHeadAt outNextAt i (edgeOf d) one =
-      linking-same (sizes v) (omega arith) (same-before 0 jobSize k (omega arith)) (same-behind outHeadAt (outHeadAt + 256) k (omega arith)) (same-behind outNextAt (outNextAt + i) k (omega arith)) (l .outs) in
-      subst (λ (n : ℕ). Laying d two n) (sym (add-one i))
+      let f′ : edgeOf one i ≡ edgeOf mem i = edge-same (sizes v) (same-before 0 (jobSize rooms) k (omega arith)) i (omega arith) in
+      let two = laid (outHeadAt rooms) (outNextAt rooms) i (c % 256) one in
+      let k′ : KeptOutside (outHeadAt rooms) (levelAt rooms) one two =
+      kept-set (outHeadAt rooms + c % 256) (i + 1) (kept-set (outNextAt rooms + i) (nth one (outHeadAt rooms + c % 256)) kept-all (omega arith) (omega arith)) (omega arith) (omega arith) in
+      let into : Linking rooms (λ e. e .to) (inHeadAt rooms) (inNextAt rooms) (suc i) (edgeOf d) one =
+      linking-next (λ e. e .to) (inHeadAt rooms) (inNextAt rooms) i (c / 256 % 256) (edgeOf d) (sizes v) (omega arith) (omega arith) (omega arith) (omega arith) (omega arith) (sym f) (ap (λ (e : Edge). e .to) g) (l .ins) in
+      let out : Linking rooms (λ e. e .from) (outHeadAt rooms) (outNextAt rooms) i (edgeOf d) one =
+      linking-same (sizes v) (omega arith) (same-before 0 (jobSize rooms) k (omega arith)) (same-behind (outHeadAt rooms) (outHeadAt rooms + 8 * rooms) k (omega arith)) (same-behind (outNextAt rooms) (outNextAt rooms + i) k (omega arith)) (l .outs) in
+      subst (λ (n : ℕ). Laying rooms d two n) (sym (add-one i))
       (record {
-        kept = kept-then (l .kept) (kept-then (kept-wider inHeadAt levelAt k (omega arith) (omega arith)) (kept-wider inHeadAt levelAt k′ (omega arith) (omega arith)));
-        ins = linking-same (sizes v′) (omega arith) (same-before 0 jobSize k′ (omega arith)) (same-before inHeadAt (inHeadAt + 256) k′ (omega arith)) (same-before inNextAt (inNextAt + suc i) k′ (omega arith)) into;
-        outs = linking-next (λ e. e .from) outHeadAt outNextAt i (c % 256) (edgeOf d) (sizes v′) (omega arith) (omega arith) (omega arith) (omega arith) (omega arith) (sym (f′ ∙ f)) (ap (λ (e : Edge). e .from) g) out;
+        kept = kept-then (l .kept) (kept-then (kept-wider (inHeadAt rooms) (levelAt rooms) k (omega arith) (omega arith)) (kept-wider (inHeadAt rooms) (levelAt rooms) k′ (omega arith) (omega arith)));
+        ins = linking-same (sizes v′) (omega arith) (same-before 0 (jobSize rooms) k′ (omega arith)) (same-before (inHeadAt rooms) (inHeadAt rooms + 8 * rooms) k′ (omega arith)) (same-before (inNextAt rooms) (inNextAt rooms + suc i) k′ (omega arith)) into;
+        outs = linking-next (λ e. e .from) (outHeadAt rooms) (outNextAt rooms) i (c % 256) (edgeOf d) (sizes v′) (omega arith) (omega arith) (omega arith) (omega arith) (omega arith) (sym (f′ ∙ f)) (ap (λ (e : Edge). e .from) g) out;
       })
 
-  chained : (endOf : Edge → ℕ) (headAt nextAt i : ℕ) → i ≡ nth d 2 → KeptOutside inHeadAt levelAt d mem → Linking endOf headAt nextAt i (edgeOf d) mem
+  chained : (endOf : Edge → ℕ) (headAt nextAt i : ℕ) → i ≡ nth d 2 → KeptOutside (inHeadAt rooms) (levelAt rooms) d mem → Linking rooms endOf headAt nextAt i (edgeOf d) mem
       → Chained (λ t. keep (λ e. eqb (endOf e) t) (jobIn mem .edges)) headAt nextAt mem
   chained endOf headAt nextAt i q k l =
       let w = sizes h in
@@ -189,23 +191,23 @@ module _ {d mem : List ℕ} (h : JobHeld d) where
         falls = λ j g. l .falls j (omega arith);
       })
 
-  pub laying-done : (i : ℕ) → i ≡ nth d 2 → Laying d mem i → LinkedIn mem × LinkedOut mem
+  pub laying-done : (i : ℕ) → i ≡ nth d 2 → Laying rooms d mem i → LinkedIn rooms mem × LinkedOut rooms mem
   unfolding incoming outgoing
-  laying-done i q l = (chained (λ e. e .to) inHeadAt inNextAt i q (l .kept) (l .ins), chained (λ e. e .from) outHeadAt outNextAt i q (l .kept) (l .outs))
+  laying-done i q l = (chained (λ e. e .to) (inHeadAt rooms) (inNextAt rooms) i q (l .kept) (l .ins), chained (λ e. e .from) (outHeadAt rooms) (outNextAt rooms) i q (l .kept) (l .outs))
 
 -- Heads of nothing ------------------------------------------------------------------------------------------------
 
-pub cleared-next : (d : List ℕ) (t : ℕ) → t < 256 → length d ≡ memorySize → ((u : ℕ) → u < t → (nth d (inHeadAt + u) ≡ 0) × (nth d (outHeadAt + u) ≡ 0))
-    → (u : ℕ) → u < t + 1 → (nth (set (set d (inHeadAt + t) 0) (outHeadAt + t) 0) (inHeadAt + u) ≡ 0) × (nth (set (set d (inHeadAt + t) 0) (outHeadAt + t) 0) (outHeadAt + u) ≡ 0)
-cleared-next d t a z h u g =
-    let one = set d (inHeadAt + t) 0 in
+pub cleared-next : (rooms : ℕ) (d : List ℕ) (t : ℕ) → t < 8 * rooms → length d ≡ memorySize rooms → ((u : ℕ) → u < t → (nth d (inHeadAt rooms + u) ≡ 0) × (nth d (outHeadAt rooms + u) ≡ 0))
+    → (u : ℕ) → u < t + 1 → (nth (set (set d (inHeadAt rooms + t) 0) (outHeadAt rooms + t) 0) (inHeadAt rooms + u) ≡ 0) × (nth (set (set d (inHeadAt rooms + t) 0) (outHeadAt rooms + t) 0) (outHeadAt rooms + u) ≡ 0)
+cleared-next rooms d t a z h u g =
+    let one = set d (inHeadAt rooms + t) 0 in
     ⊎-elim
     (λ (e : u ≡ t). (
-      rw e (getD-set-other one (outHeadAt + t) (inHeadAt + t) 0 0 (λ f. omega arith) ∙ getD-set-same d (inHeadAt + t) 0 0 (omega arith)),
-      rw e (getD-set-same one (outHeadAt + t) 0 0 (rw (length-set d (inHeadAt + t) 0) (omega arith))),
+      rw e (getD-set-other one (outHeadAt rooms + t) (inHeadAt rooms + t) 0 0 (λ f. omega arith) ∙ getD-set-same d (inHeadAt rooms + t) 0 0 (omega arith)),
+      rw e (getD-set-same one (outHeadAt rooms + t) 0 0 (rw (length-set d (inHeadAt rooms + t) 0) (omega arith))),
     ))
     (λ (l : u < t). (
-      getD-set-other one (outHeadAt + t) (inHeadAt + u) 0 0 (λ f. omega arith) ∙ getD-set-other d (inHeadAt + t) (inHeadAt + u) 0 0 (λ f. omega arith) ∙ h u l .0,
-      getD-set-other one (outHeadAt + t) (outHeadAt + u) 0 0 (λ f. omega arith) ∙ getD-set-other d (inHeadAt + t) (outHeadAt + u) 0 0 (λ f. omega arith) ∙ h u l .1,
+      getD-set-other one (outHeadAt rooms + t) (inHeadAt rooms + u) 0 0 (λ f. omega arith) ∙ getD-set-other d (inHeadAt rooms + t) (inHeadAt rooms + u) 0 0 (λ f. omega arith) ∙ h u l .0,
+      getD-set-other one (outHeadAt rooms + t) (outHeadAt rooms + u) 0 0 (λ f. omega arith) ∙ getD-set-other d (inHeadAt rooms + t) (outHeadAt rooms + u) 0 0 (λ f. omega arith) ∙ h u l .1,
     ))
     (last-or-before t u (omega arith))

@@ -25,7 +25,7 @@ use Rattle.mirguneth.specs.Schedule.{jobIn, timeIn, choiceOf, rowOutcome
 use Rattle.mirguneth.specs.Arrivals.{BothFinish}
 use Rattle.mirguneth.specs.declared.clocks.Clocks.{Clocks}
 use Rattle.mirguneth.specs.Planning.{isFree, freeIn, bestOf, waitingIn, earliesIn, latesIn, finishOn, replicaOn, ClocksHeld, Taken, boxesFor, Drawn, Ranked, Tried, Begun}
-use Rattle.mirguneth.proofs.Held.{last-or-before, tasks-in, processors-in, Same, same-part, Sizes, sizes, job-same, placed-same, lines-same, row-held-same, chained-same, linked-out-same, levels-same, far-same, kept-set, kept-wider}
+use Rattle.mirguneth.proofs.Held.{last-or-before, tasks-in, processors-in, Same, same-part, Sizes, sizes, job-same, held-same, placed-same, lines-same, row-held-same, chained-same, linked-out-same, levels-same, far-same, kept-set, kept-wider}
 use Rattle.mirguneth.proofs.TimeLaws.{time-tick}
 use Rattle.mirguneth.proofs.Placed.{ofTask-append, row-none, fed-all, level-placed}
 use Rattle.mirguneth.proofs.MarkLaws.{keep-same, keep-keep}
@@ -43,62 +43,62 @@ and-true true = refl
 and-true false = refl
 
 -- In e, d has line k besides: task t with its replicas.
-pub record Laid (k t : ℕ) (d e : List ℕ) : Type 0 where
+pub record Laid (rooms k t : ℕ) (d e : List ℕ) : Type 0 where
   pub size : length e ≡ length d
-  pub other : (i : ℕ) → (i ≡ lineAt + t → ⊥) → (i < rowAt k) ⊎ (farAt ≤ i) → nth e i ≡ nth d i
-  pub line : nth e (lineAt + t) ≡ suc k
-  pub task : nth e (rowAt k) ≡ t
-  pub replicas : rowReplicas (rowAt k) (nth d 3 + 1) e ≡ map (replicaOn k d t) (boxesFor k t d)
+  pub other : (i : ℕ) → (i ≡ lineAt rooms + t → ⊥) → (i < rowAt rooms k) ⊎ (farAt rooms ≤ i) → nth e i ≡ nth d i
+  pub line : nth e (lineAt rooms + t) ≡ suc k
+  pub task : nth e (rowAt rooms k) ≡ t
+  pub replicas : rowReplicas (rowAt rooms k) (nth d 3 + 1) e ≡ map (replicaOn rooms k d t) (boxesFor rooms k t d)
 
-module _ {k : ℕ} {d : List ℕ} (s : Drawn k d) (h : k < nth d 0) (r : Ranked [] d) (t : ℕ) (best : t ≡ bestOf (nth d 0) (freeIn d)) where
-  w : Sizes d
+module _ {rooms k : ℕ} {d : List ℕ} (s : Drawn rooms k d) (h : k < nth d 0) (r : Ranked rooms [] d) (t : ℕ) (best : t ≡ bestOf (nth d 0) (freeIn rooms d)) where
+  w : Sizes rooms d
   w = sizes (s .standing .job)
 
   low : t < nth d 0
   low = task-below s h r t best
 
-  few : t < 255
+  few : t < 8 * rooms
   few = omega (arith, low, w .tasks-most)
 
-  waits : nth d (lineAt + t) ≡ 0
+  waits : nth d (lineAt rooms + t) ≡ 0
   waits = task-waits s h r t best
 
-  fed : FedIn t d
+  fed : FedIn rooms t d
   fed = task-fed s h r t best
 
-  boxes-count : length (boxesFor k t d) ≡ nth d 3 + 1
+  boxes-count : length (boxesFor rooms k t d) ≡ nth d 3 + 1
   unfolding jobIn
-  boxes-count = chosen-count (jobIn d) (trial (jobIn d) (earliesIn k d) t) (nth d 3 + 1) (w .enough)
+  boxes-count = chosen-count (jobIn d) (trial (jobIn d) (earliesIn rooms k d) t) (nth d 3 + 1) (w .enough)
 
-  box-below : (p : ℕ) → In p (boxesFor k t d) → p < nth d 1
-  box-below p i = rw (processors-in d) at (chosen-below (jobIn d) (trial (jobIn d) (earliesIn k d) t) (nth d 3 + 1) p i)
+  box-below : (p : ℕ) → In p (boxesFor rooms k t d) → p < nth d 1
+  box-below p i = rw (processors-in d) at (chosen-below (jobIn d) (trial (jobIn d) (earliesIn rooms k d) t) (nth d 3 + 1) p i)
 
-  pub laid : (clocks : Clocks) (mem : List ℕ) → Begun k t (boxesFor k t d) clocks d mem → Laid k t d (set (set mem (rowAt k) t) (lineAt + t) (k + 1))
+  pub laid : (clocks : Clocks) (mem : List ℕ) → Begun rooms k t (boxesFor rooms k t d) clocks d mem → Laid rooms k t d (set (set mem (rowAt rooms k) t) (lineAt rooms + t) (k + 1))
   laid clocks mem b =
-      let one = set mem (rowAt k) t in
-      let e = set one (lineAt + t) (k + 1) in
+      let one = set mem (rowAt rooms k) t in
+      let e = set one (lineAt rooms + t) (k + 1) in
       let n = boxes-count in
-      let m : t < 255 = few in
-      let z : length one ≡ memorySize = length-set mem (rowAt k) t ∙ b .kept .size ∙ w .size in
+      let m : t < 8 * rooms = few in
+      let z : length one ≡ memorySize rooms = length-set mem (rowAt rooms k) t ∙ b .kept .size ∙ w .size in
       record {
-        size = length-set one (lineAt + t) (k + 1) ∙ z ∙ sym (w .size);
+        size = length-set one (lineAt rooms + t) (k + 1) ∙ z ∙ sym (w .size);
         other = λ i q. ⊎-elim
-            (λ l. getD-set-other one (lineAt + t) i (k + 1) 0 q ∙ getD-set-other mem (rowAt k) i t 0 (λ f. omega arith) ∙ b .kept .before i l)
-            (λ l. getD-set-other one (lineAt + t) i (k + 1) 0 q ∙ getD-set-other mem (rowAt k) i t 0 (λ f. omega (arith, w .tasks-most)) ∙ b .kept .behind i l);
-        line = getD-set-same one (lineAt + t) (k + 1) 0 (omega arith) ∙ add-one k;
-        task = getD-set-other one (lineAt + t) (rowAt k) (k + 1) 0 (λ q. omega arith) ∙ getD-set-same mem (rowAt k) t 0 (omega (arith, b .kept .size, w .size, w .tasks-most));
-        replicas = ap (λ (c : ℕ). rowReplicas (rowAt k) c e) (sym n)
-            ∙ row-replicas mem e (rowAt k) (length (boxesFor k t d)) (λ i p. getD-set-other one (lineAt + t) i (k + 1) 0 (λ f. omega arith) ∙ getD-set-other mem (rowAt k) i t 0 (λ f. omega arith))
+            (λ l. getD-set-other one (lineAt rooms + t) i (k + 1) 0 q ∙ getD-set-other mem (rowAt rooms k) i t 0 (λ f. omega arith) ∙ b .kept .before i l)
+            (λ l. getD-set-other one (lineAt rooms + t) i (k + 1) 0 q ∙ getD-set-other mem (rowAt rooms k) i t 0 (λ f. omega (arith, w .tasks-most)) ∙ b .kept .behind i l);
+        line = getD-set-same one (lineAt rooms + t) (k + 1) 0 (omega arith) ∙ add-one k;
+        task = getD-set-other one (lineAt rooms + t) (rowAt rooms k) (k + 1) 0 (λ q. omega arith) ∙ getD-set-same mem (rowAt rooms k) t 0 (omega (arith, b .kept .size, w .size, w .tasks-most));
+        replicas = ap (λ (c : ℕ). rowReplicas (rowAt rooms k) c e) (sym n)
+            ∙ row-replicas mem e (rowAt rooms k) (length (boxesFor rooms k t d)) (λ i p. getD-set-other one (lineAt rooms + t) i (k + 1) 0 (λ f. omega arith) ∙ getD-set-other mem (rowAt rooms k) i t 0 (λ f. omega arith))
             ∙ b .replicas;
       }
 
-  pub laid-kept : (clocks : Clocks) (mem : List ℕ) → Begun k t (boxesFor k t d) clocks d mem → KeptOutside lineAt farAt d (set (set mem (rowAt k) t) (lineAt + t) (k + 1))
+  pub laid-kept : (clocks : Clocks) (mem : List ℕ) → Begun rooms k t (boxesFor rooms k t d) clocks d mem → KeptOutside (lineAt rooms) (farAt rooms) d (set (set mem (rowAt rooms k) t) (lineAt rooms + t) (k + 1))
   laid-kept clocks mem b =
-      let m : t < 255 = few in
-      kept-set (lineAt + t) (k + 1) (kept-set (rowAt k) t (kept-wider lineAt farAt (b .kept) (omega arith) (omega arith)) (omega arith) (omega (arith, w .tasks-most))) (omega arith) (omega arith)
+      let m : t < 8 * rooms = few in
+      kept-set (lineAt rooms + t) (k + 1) (kept-set (rowAt rooms k) t (kept-wider (lineAt rooms) (farAt rooms) (b .kept) (omega arith) (omega arith)) (omega arith) (omega (arith, w .tasks-most))) (omega arith) (omega arith)
 
   -- The finishes that the code computes are the task's.
-  pub tried : {clocks : Clocks} {early late : List ℕ} → ClocksHeld clocks (jobIn d) (earliesIn k d) (latesIn k d) → BothFinish t clocks d early late → Tried k t early late clocks d
+  pub tried : {clocks : Clocks} {early late : List ℕ} → ClocksHeld clocks (jobIn d) (earliesIn rooms k d) (latesIn rooms k d) → BothFinish rooms t clocks d early late → Tried rooms k t early late clocks d
   unfolding finishOn
   tried {clocks} c f =
       record {
@@ -112,30 +112,30 @@ module _ {k : ℕ} {d : List ℕ} (s : Drawn k d) (h : k < nth d 0) (r : Ranked 
       }
 
   -- Of the lines and the counts only t's line changed.
-  pub taken : {e : List ℕ} → Laid k t d e → Taken t d e
+  pub taken : {e : List ℕ} → Laid rooms k t d e → Taken rooms t d e
   taken {e} x =
-      let m : t < 255 = few in
+      let m : t < 8 * rooms = few in
       record {
         line-new = rw (x .line) (omega arith);
-        line-kept = λ u l n. x .other (lineAt + u) (λ f. n (omega arith)) (inl (omega (arith, w .tasks-most)));
-        blocked-kept = λ u l. x .other (blockedAt + u) (λ f. omega arith) (inl (omega (arith, w .tasks-most)));
+        line-kept = λ u l n. x .other (lineAt rooms + u) (λ f. n (omega arith)) (inl (omega (arith, w .tasks-most)));
+        blocked-kept = λ u l. x .other (blockedAt rooms + u) (λ f. omega arith) (inl (omega (arith, w .tasks-most)));
       }
 
-  module _ {e : List ℕ} (x : Laid k t d e) where
-    before-lines : Same 0 lineAt d e
+  module _ {e : List ℕ} (x : Laid rooms k t d e) where
+    before-lines : Same 0 (lineAt rooms) d e
     before-lines = record { cell = λ i p q. x .other i (λ f. omega arith) (inl (omega arith)) }
 
-    before-row : Same blockedAt (rowAt k) d e
-    before-row = let m : t < 255 = few in record { cell = λ i p q. x .other i (λ f. omega arith) (inl (omega arith)) }
+    before-row : Same (blockedAt rooms) (rowAt rooms k) d e
+    before-row = let m : t < 8 * rooms = few in record { cell = λ i p q. x .other i (λ f. omega arith) (inl (omega arith)) }
 
-    far-table : Same farAt memorySize d e
-    far-table = let m : t < 255 = few in record { cell = λ i p q. x .other i (λ f. omega arith) (inr p) }
+    far-table : Same (farAt rooms) (memorySize rooms) d e
+    far-table = let m : t < 8 * rooms = few in record { cell = λ i p q. x .other i (λ f. omega arith) (inr p) }
 
-    job-cells : Same 0 jobSize d e
-    job-cells = same-part 0 jobSize before-lines (omega arith) (omega arith)
+    job-cells : Same 0 (jobSize rooms) d e
+    job-cells = same-part 0 (jobSize rooms) before-lines (omega arith) (omega arith)
 
-    old-rows : Same (rowAt 0) (rowAt k) d e
-    old-rows = same-part (rowAt 0) (rowAt k) before-row (omega arith) (omega arith)
+    old-rows : Same (rowAt rooms 0) (rowAt rooms k) d e
+    old-rows = same-part (rowAt rooms 0) (rowAt rooms k) before-row (omega arith) (omega arith)
 
     tasks-same : nth e 0 ≡ nth d 0
     tasks-same = before-lines .cell 0 (omega arith) (omega arith)
@@ -147,36 +147,36 @@ module _ {k : ℕ} {d : List ℕ} (s : Drawn k d) (h : k < nth d 0) (r : Ranked 
     job-laid = job-same w job-cells
 
     -- The line of another task.
-    line-other : (u : ℕ) → u < nth d 0 → (u ≡ t → ⊥) → nth e (lineAt + u) ≡ nth d (lineAt + u)
-    line-other u l n = x .other (lineAt + u) (λ f. n (omega arith)) (inl (omega (arith, w .tasks-most)))
+    line-other : (u : ℕ) → u < nth d 0 → (u ≡ t → ⊥) → nth e (lineAt rooms + u) ≡ nth d (lineAt rooms + u)
+    line-other u l n = x .other (lineAt rooms + u) (λ f. n (omega arith)) (inl (omega (arith, w .tasks-most)))
 
-    old-task : (i : ℕ) → i < k → nth e (rowAt i) ≡ nth d (rowAt i)
-    old-task i l = old-rows .cell (rowAt i) (omega arith) (omega arith)
+    old-task : (i : ℕ) → i < k → nth e (rowAt rooms i) ≡ nth d (rowAt rooms i)
+    old-task i l = old-rows .cell (rowAt rooms i) (omega arith) (omega arith)
 
     -- What the new line's cells hold.
-    new-cells : (c : ℕ) → c < nth d 3 + 1 → (p : ℕ) × (p < nth d 1) × (replicaOn k d t p ≡ replicaAt (rowAt k) c e)
+    new-cells : (c : ℕ) → c < nth d 3 + 1 → (p : ℕ) × (p < nth d 1) × (replicaOn rooms k d t p ≡ replicaAt (rowAt rooms k) c e)
     new-cells c l =
-        let (p, i, q) = in-map (replicaOn k d t) (replicaAt (rowAt k) c e) (boxesFor k t d) (rw (← x .replicas) (in-replicas (rowAt k) (nth d 3 + 1) c e l)) in
+        let (p, i, q) = in-map (replicaOn rooms k d t) (replicaAt (rowAt rooms k) c e) (boxesFor rooms k t d) (rw (← x .replicas) (in-replicas (rowAt rooms k) (nth d 3 + 1) c e l)) in
         (p, box-below p i, q)
 
-    new-box : (c : ℕ) → c < nth d 3 + 1 → nth e (rowAt k + (1 + 3 * c)) < nth d 1
-    new-box c l = let (p, m, q) = new-cells c l in let f : p ≡ nth e (rowAt k + (1 + 3 * c)) = ap (λ r. r .processor) q in omega arith
+    new-box : (c : ℕ) → c < nth d 3 + 1 → nth e (rowAt rooms k + (1 + 3 * c)) < nth d 1
+    new-box c l = let (p, m, q) = new-cells c l in let f : p ≡ nth e (rowAt rooms k + (1 + 3 * c)) = ap (λ r. r .processor) q in omega arith
 
-    new-early : (c : ℕ) → c < nth d 3 + 1 → nth e (rowAt k + (2 + 3 * c)) ≤ k * lineTicks + lineTicks
+    new-early : (c : ℕ) → c < nth d 3 + 1 → nth e (rowAt rooms k + (2 + 3 * c)) ≤ k * lineTicks + lineTicks
     unfolding finishOn
     new-early c l =
         let (p, m, q) = new-cells c l in
-        let f : tickOf (finishOn false k d t p) ≡ nth e (rowAt k + (2 + 3 * c)) = ap (λ r. r .early) q in
+        let f : tickOf (finishOn rooms false k d t p) ≡ nth e (rowAt rooms k + (2 + 3 * c)) = ap (λ r. r .early) q in
         rw (← f) (tick-most (finish-comes s t p fed low m false))
 
-    new-late : (c : ℕ) → c < nth d 3 + 1 → nth e (rowAt k + (3 + 3 * c)) ≤ k * lineTicks + lineTicks
+    new-late : (c : ℕ) → c < nth d 3 + 1 → nth e (rowAt rooms k + (3 + 3 * c)) ≤ k * lineTicks + lineTicks
     unfolding finishOn
     new-late c l =
         let (p, m, q) = new-cells c l in
-        let f : tickOf (finishOn true k d t p) ≡ nth e (rowAt k + (3 + 3 * c)) = ap (λ r. r .late) q in
+        let f : tickOf (finishOn rooms true k d t p) ≡ nth e (rowAt rooms k + (3 + 3 * c)) = ap (λ r. r .late) q in
         rw (← f) (tick-most (finish-comes s t p fed low m true))
 
-    new-row : RowHeld (rowAt k) e
+    new-row : RowHeld (rowAt rooms k) e
     new-row =
         let most : k * lineTicks + lineTicks ≤ document01 .tick = omega (arith, w .tasks-most) in
         let m : nth e 1 ≡ nth d 1 = before-lines .cell 1 (omega arith) (omega arith) in
@@ -187,124 +187,124 @@ module _ {k : ℕ} {d : List ℕ} (s : Drawn k d) (h : k < nth d 0) (r : Ranked 
         }
 
     has-line : (u : ℕ) → u < nth d 0 → (b : Bool) → eqb u t ≡ b
-        → (nth d (lineAt + u) ≡ 0) ⊎ ((i : ℕ) × (i < k) × (nth d (lineAt + u) ≡ suc i) × (nth d (rowAt i) ≡ u))
-        → (nth e (lineAt + u) ≡ 0) ⊎ ((i : ℕ) × (i < suc k) × (nth e (lineAt + u) ≡ suc i) × (nth e (rowAt i) ≡ u))
+        → (nth d (lineAt rooms + u) ≡ 0) ⊎ ((i : ℕ) × (i < k) × (nth d (lineAt rooms + u) ≡ suc i) × (nth d (rowAt rooms i) ≡ u))
+        → (nth e (lineAt rooms + u) ≡ 0) ⊎ ((i : ℕ) × (i < suc k) × (nth e (lineAt rooms + u) ≡ suc i) × (nth e (rowAt rooms i) ≡ u))
     has-line u l true f o = let q = eqb-true u t f in inr (k, omega arith, rw q (x .line), x .task ∙ sym q)
     has-line u l false f o =
         let n = line-other u l (eqb-false u t f) in
-        ⊎-elim (λ z. inl (n ∙ z)) (λ (g : (i : ℕ) × (i < k) × (nth d (lineAt + u) ≡ suc i) × (nth d (rowAt i) ≡ u)). inr (g .0, omega (arith, g .1), n ∙ g .2, old-task (g .0) (g .1) ∙ g .3)) o
+        ⊎-elim (λ z. inl (n ∙ z)) (λ (g : (i : ℕ) × (i < k) × (nth d (lineAt rooms + u) ≡ suc i) × (nth d (rowAt rooms i) ≡ u)). inr (g .0, omega (arith, g .1), n ∙ g .2, old-task (g .0) (g .1) ∙ g .3)) o
 
-    standing-next : Standing (suc k) e
+    standing-next : Standing rooms (suc k) e
     standing-next =
         let st = s .standing in
-        let heads : Same 0 levelAt d e = same-part 0 levelAt before-lines (omega arith) (omega arith) in
-        let old : (i : ℕ) → i < k → nth d (rowAt i) ≡ t → ⊥ = λ i l f. let g = st .line-of i l in let z : nth d (lineAt + t) ≡ suc i = rw f at g in omega (arith, waits) in
-        let m : nth d 0 ≤ 255 = w .tasks-most in
+        let heads : Same 0 (levelAt rooms) d e = same-part 0 (levelAt rooms) before-lines (omega arith) (omega arith) in
+        let old : (i : ℕ) → i < k → nth d (rowAt rooms i) ≡ t → ⊥ = λ i l f. let g = st .line-of i l in let z : nth d (lineAt rooms + t) ≡ suc i = rw f at g in omega (arith, waits) in
+        let m : nth d 0 ≤ 8 * rooms = w .tasks-most .1 in
         record {
-          job = record { size = x .size ∙ st .job .size; facts = rw job-laid (st .job .facts) };
-          linked = rw job-laid (chained-same w job-cells (same-part inHeadAt (inHeadAt + nth d 0) heads (omega arith) (omega arith)) (same-part inNextAt (inNextAt + nth d 2) heads (omega arith) (omega (arith, w .edges-most))) (st .linked));
+          job = held-same (st .job) (x .size) job-cells;
+          linked = rw job-laid (chained-same w job-cells (same-part (inHeadAt rooms) (inHeadAt rooms + nth d 0) heads (omega arith) (omega arith)) (same-part (inNextAt rooms) (inNextAt rooms + nth d 2) heads (omega arith) (omega (arith, w .edges-most))) (st .linked));
           count = rw tasks-same (omega arith);
           task-of = λ i l. rw tasks-same (⊎-elim (λ (q : i ≡ k). rw (q, x .task) low) (λ q. rw (old-task i q) (st .task-of i q)) (last-or-before k i l));
-          line-of = λ i l. ⊎-elim (λ (q : i ≡ k). rw (q, x .task) (x .line)) (λ q. rw (old-task i q, line-other (nth d (rowAt i)) (st .task-of i q) (old i q)) (st .line-of i q)) (last-or-before k i l);
+          line-of = λ i l. ⊎-elim (λ (q : i ≡ k). rw (q, x .task) (x .line)) (λ q. rw (old-task i q, line-other (nth d (rowAt rooms i)) (st .task-of i q) (old i q)) (st .line-of i q)) (last-or-before k i l);
           placed = λ u l. let g : u < nth d 0 = rw tasks-same at l in has-line u g (eqb u t) refl (st .placed u g);
-          row = λ i l. ⊎-elim (λ (q : i ≡ k). rw q new-row) (λ q. row-held-same (rowAt i) w (same-part 0 4 before-lines (omega arith) (omega arith)) (same-part (rowAt i) (rowAt i + 25) old-rows (omega arith) (omega arith)) (st .row i q)) (last-or-before k i l);
+          row = λ i l. ⊎-elim (λ (q : i ≡ k). rw q new-row) (λ q. row-held-same (rowAt rooms i) w (same-part 0 4 before-lines (omega arith) (omega arith)) (same-part (rowAt rooms i) (rowAt rooms i + 25) old-rows (omega arith) (omega arith)) (st .row i q)) (last-or-before k i l);
         }
 
     -- The outcomes of the line, and of all lines with it --------------------------------------------------------------
 
     -- Task t does not feed itself.
     apart : (a : Edge) → In a (incoming (jobIn d) t) → t ≡ a .from → ⊥
-    apart a i q = let l = fed a i in let z : 0 < nth d (lineAt + t) = rw q l in omega (arith, waits)
+    apart a i q = let l = fed a i in let z : 0 < nth d (lineAt rooms + t) = rw q l in omega (arith, waits)
 
     cell-time : {y : Time} → Comes (k * lineTicks + lineTicks) y → timeIn (tickOf y) ≡ y
     cell-time {y} c = time-tick (tickOf y) (λ q. omega (arith, tick-most c, w .tasks-most)) ∙ tick-back c
 
     -- What a replica of the line says is what the walk gives.
-    outcome-kind : (late : Bool) (p : ℕ) → p < nth d 1 → outcomeOf late t (replicaOn k d t p) ≡ outcomeOn (jobIn d) (choiceOf late) (placedIn late (nth d 3 + 1) k d) t p
+    outcome-kind : (late : Bool) (p : ℕ) → p < nth d 1 → outcomeOf late t (replicaOn rooms k d t p) ≡ outcomeOn (jobIn d) (choiceOf late) (placedIn rooms late (nth d 3 + 1) k d) t p
     unfolding finishOn
     outcome-kind true p l = ap (λ (y : Time). record { task = t; processor = p; time = y }) (cell-time (finish-comes s t p fed low l true))
     outcome-kind false p l = ap (λ (y : Time). record { task = t; processor = p; time = y }) (cell-time (finish-comes s t p fed low l false))
 
-    outcomes-next : (late : Bool) → rowOutcomes late (rowAt k) (nth d 3 + 1) e ≡ reverse (walk (jobIn d) (choiceOf late) [] (placedIn late (nth d 3 + 1) k d) (copiesOf (jobIn d) t (boxesFor k t d)))
+    outcomes-next : (late : Bool) → rowOutcomes late (rowAt rooms k) (nth d 3 + 1) e ≡ reverse (walk (jobIn d) (choiceOf late) [] (placedIn rooms late (nth d 3 + 1) k d) (copiesOf (jobIn d) t (boxesFor rooms k t d)))
     outcomes-next late =
-        let ps = boxesFor k t d in
-        let f = outcomeOn (jobIn d) (choiceOf late) (placedIn late (nth d 3 + 1) k d) t in
-        outcomes-row late (rowAt k) (nth d 3 + 1) e
+        let ps = boxesFor rooms k t d in
+        let f = outcomeOn (jobIn d) (choiceOf late) (placedIn rooms late (nth d 3 + 1) k d) t in
+        outcomes-row late (rowAt rooms k) (nth d 3 + 1) e
         ∙ rw (x .task, x .replicas) (ap reverse
-        (map-map (outcomeOf late t) (replicaOn k d t) ps
-        ∙ map-same (λ p. outcomeOf late t (replicaOn k d t p)) f ps (λ p i. outcome-kind late p (box-below p i))
-        ∙ sym (walk-apart (jobIn d) (choiceOf late) t apart ps (chosen-distinct (jobIn d) (trial (jobIn d) (earliesIn k d) t) (nth d 3 + 1)) (placedIn late (nth d 3 + 1) k d))))
+        (map-map (outcomeOf late t) (replicaOn rooms k d t) ps
+        ∙ map-same (λ p. outcomeOf late t (replicaOn rooms k d t p)) f ps (λ p i. outcome-kind late p (box-below p i))
+        ∙ sym (walk-apart (jobIn d) (choiceOf late) t apart ps (chosen-distinct (jobIn d) (trial (jobIn d) (earliesIn rooms k d) t) (nth d 3 + 1)) (placedIn rooms late (nth d 3 + 1) k d))))
 
-    placed-old : (late : Bool) → placedIn late (nth d 3 + 1) k e ≡ placedIn late (nth d 3 + 1) k d
-    placed-old late = placed-same d e late (nth d 3 + 1) k (omega (arith, w .losses-most)) old-rows
+    placed-old : (late : Bool) → placedIn rooms late (nth d 3 + 1) k e ≡ placedIn rooms late (nth d 3 + 1) k d
+    placed-old late = placed-same d e rooms late (nth d 3 + 1) k (omega (arith, w .losses-most)) old-rows
 
-    placed-next : (late : Bool) → placedIn late (nth e 3 + 1) (suc k) e
-        ≡ reverseAux (walk (jobIn d) (choiceOf late) [] (placedIn late (nth d 3 + 1) k d) (copiesOf (jobIn d) t (boxesFor k t d))) (placedIn late (nth d 3 + 1) k d)
+    placed-next : (late : Bool) → placedIn rooms late (nth e 3 + 1) (suc k) e
+        ≡ reverseAux (walk (jobIn d) (choiceOf late) [] (placedIn rooms late (nth d 3 + 1) k d) (copiesOf (jobIn d) t (boxesFor rooms k t d))) (placedIn rooms late (nth d 3 + 1) k d)
     unfolding placedIn
     placed-next late =
-        let ds = walk (jobIn d) (choiceOf late) [] (placedIn late (nth d 3 + 1) k d) (copiesOf (jobIn d) t (boxesFor k t d)) in
-        rw (losses-same, outcomes-next late, placed-old late) (sym (reverseAux-eq ds (placedIn late (nth d 3 + 1) k d)))
+        let ds = walk (jobIn d) (choiceOf late) [] (placedIn rooms late (nth d 3 + 1) k d) (copiesOf (jobIn d) t (boxesFor rooms k t d)) in
+        rw (losses-same, outcomes-next late, placed-old late) (sym (reverseAux-eq ds (placedIn rooms late (nth d 3 + 1) k d)))
 
     -- What is left to place ---------------------------------------------------------------------------------------------
 
-    new-line : rowReplicas (rowAt k) (nth d 3 + 1) e
-        ≡ replicas (walk (jobIn d) least [] (earliesIn k d) (copiesOf (jobIn d) t (boxesFor k t d))) (walk (jobIn d) largest [] (latesIn k d) (copiesOf (jobIn d) t (boxesFor k t d)))
+    new-line : rowReplicas (rowAt rooms k) (nth d 3 + 1) e
+        ≡ replicas (walk (jobIn d) least [] (earliesIn rooms k d) (copiesOf (jobIn d) t (boxesFor rooms k t d))) (walk (jobIn d) largest [] (latesIn rooms k d) (copiesOf (jobIn d) t (boxesFor rooms k t d)))
     unfolding finishOn
     new-line =
-        let ps = boxesFor k t d in
-        let one = chosen-distinct (jobIn d) (trial (jobIn d) (earliesIn k d) t) (nth d 3 + 1) in
+        let ps = boxesFor rooms k t d in
+        let one = chosen-distinct (jobIn d) (trial (jobIn d) (earliesIn rooms k d) t) (nth d 3 + 1) in
         x .replicas
-        ∙ sym (replicas-map (outcomeOn (jobIn d) least (earliesIn k d) t) (outcomeOn (jobIn d) largest (latesIn k d) t) ps)
-        ∙ rw (walk-apart (jobIn d) least t apart ps one (earliesIn k d), walk-apart (jobIn d) largest t apart ps one (latesIn k d))
+        ∙ sym (replicas-map (outcomeOn (jobIn d) least (earliesIn rooms k d) t) (outcomeOn (jobIn d) largest (latesIn rooms k d) t) ps)
+        ∙ rw (walk-apart (jobIn d) least t apart ps one (earliesIn rooms k d), walk-apart (jobIn d) largest t apart ps one (latesIn rooms k d))
 
-    waiting-next : keep (λ u. not (eqb (u .task) t)) (waitingIn d) ≡ waitingIn e
+    waiting-next : keep (λ u. not (eqb (u .task) t)) (waitingIn rooms d) ≡ waitingIn rooms e
     waiting-next =
-        let waiting : List ℕ → ℕ → Bool = λ mem u. eqb (nth mem (lineAt + u)) 0 in
+        let waiting : List ℕ → ℕ → Bool = λ mem u. eqb (nth mem (lineAt rooms + u)) 0 in
         let others : ℕ → Bool = λ u. not (eqb u t) in
         let ts = below (nth d 0) in
-        ap (keep (λ u. others (u .task))) (waiting-map d)
-        ∙ sym (map-keep (waitingAt d) (λ u. others (u .task)) (keep (waiting d) ts))
-        ∙ ap (map (waitingAt d)) (keep-keep others (waiting d) ts ∙ keep-same (λ u. waiting d u && others u) (waiting e) ts (λ u i. still u (in-below (nth d 0) u i) (eqb u t) refl))
-        ∙ (map-same (waitingAt d) (waitingAt e) (keep (waiting e) ts)
-        (λ u i. ap (λ (y : ℕ). record { task = u; bottom = y }) (sym (before-lines .cell (levelAt + u) (omega arith) (omega (arith, in-below (nth d 0) u (in-keep (waiting e) u ts i .0), w .tasks-most))))))
-        ∙ sym (waiting-map e ∙ ap (λ (n : ℕ). map (waitingAt e) (keep (waiting e) (below n))) tasks-same)
+        ap (keep (λ u. others (u .task))) (waiting-map rooms d)
+        ∙ sym (map-keep (waitingAt rooms d) (λ u. others (u .task)) (keep (waiting d) ts))
+        ∙ ap (map (waitingAt rooms d)) (keep-keep others (waiting d) ts ∙ keep-same (λ u. waiting d u && others u) (waiting e) ts (λ u i. still u (in-below (nth d 0) u i) (eqb u t) refl))
+        ∙ (map-same (waitingAt rooms d) (waitingAt rooms e) (keep (waiting e) ts)
+        (λ u i. ap (λ (y : ℕ). record { task = u; bottom = y }) (sym (before-lines .cell (levelAt rooms + u) (omega arith) (omega (arith, in-below (nth d 0) u (in-keep (waiting e) u ts i .0), w .tasks-most))))))
+        ∙ sym (waiting-map rooms e ∙ ap (λ (n : ℕ). map (waitingAt rooms e) (keep (waiting e) (below n))) tasks-same)
       where
-        still : (u : ℕ) → u < nth d 0 → (b : Bool) → eqb u t ≡ b → (eqb (nth d (lineAt + u)) 0 && not (eqb u t)) ≡ eqb (nth e (lineAt + u)) 0
+        still : (u : ℕ) → u < nth d 0 → (b : Bool) → eqb u t ≡ b → (eqb (nth d (lineAt rooms + u)) 0 && not (eqb u t)) ≡ eqb (nth e (lineAt rooms + u)) 0
         still u l true f = let q = eqb-true u t f in rw (q, waits, eq-eqb t t refl, x .line, ne-eqb (suc k) 0 (λ z. omega arith))
-        still u l false f = rw (f, line-other u l (eqb-false u t f)) (and-true (eqb (nth d (lineAt + u)) 0))
+        still u l false f = rw (f, line-other u l (eqb-false u t f)) (and-true (eqb (nth d (lineAt rooms + u)) 0))
 
-    rest-next : linesIn (nth e 3 + 1) (suc k) e ++ place (jobIn e) (nth e 3) (nth e 0 - suc k) (waitingIn e) (earliesIn (suc k) e) (latesIn (suc k) e) ≡ planFor (jobIn e) (nth e 3) .lines
+    rest-next : linesIn rooms (nth e 3 + 1) (suc k) e ++ place (jobIn e) (nth e 3) (nth e 0 - suc k) (waitingIn rooms e) (earliesIn rooms (suc k) e) (latesIn rooms (suc k) e) ≡ planFor (jobIn e) (nth e 3) .lines
     unfolding linesIn
     rest-next =
         let n = nth d 0 - (k + 1) in
         let m : nth d 0 - suc k ≡ n = omega arith in
-        let lines = linesIn (nth d 3 + 1) k d in
-        let es = walk (jobIn d) least [] (earliesIn k d) (copiesOf (jobIn d) t (boxesFor k t d)) in
-        let ls = walk (jobIn d) largest [] (latesIn k d) (copiesOf (jobIn d) t (boxesFor k t d)) in
+        let lines = linesIn rooms (nth d 3 + 1) k d in
+        let es = walk (jobIn d) least [] (earliesIn rooms k d) (copiesOf (jobIn d) t (boxesFor rooms k t d)) in
+        let ls = walk (jobIn d) largest [] (latesIn rooms k d) (copiesOf (jobIn d) t (boxesFor rooms k t d)) in
         let line : Line = record { task = t; replicas = replicas es ls } in
-        let others = place (jobIn d) (nth d 3) n (keep (λ u. not (eqb (u .task) t)) (waitingIn d)) (reverseAux es (earliesIn k d)) (reverseAux ls (latesIn k d)) in
-        let turn : place (jobIn d) (nth d 3) (suc n) (waitingIn d) (earliesIn k d) (latesIn k d) ≡ line ∷ others =
-        rw (free-ranked s r, ← best) at (place-turn (jobIn d) (nth d 3) n (waitingIn d) (earliesIn k d) (latesIn k d) (lines-left s h) (nth d 0)) in
-        rw (placed-next false, placed-next true, job-laid, losses-same, tasks-same, m, ← waiting-next, lines-same d e (nth d 3 + 1) k (omega (arith, w .losses-most)) old-rows, x .task, new-line)
+        let others = place (jobIn d) (nth d 3) n (keep (λ u. not (eqb (u .task) t)) (waitingIn rooms d)) (reverseAux es (earliesIn rooms k d)) (reverseAux ls (latesIn rooms k d)) in
+        let turn : place (jobIn d) (nth d 3) (suc n) (waitingIn rooms d) (earliesIn rooms k d) (latesIn rooms k d) ≡ line ∷ others =
+        rw (free-ranked s r, ← best) at (place-turn (jobIn d) (nth d 3) n (waitingIn rooms d) (earliesIn rooms k d) (latesIn rooms k d) (lines-left s h) (nth d 0)) in
+        rw (placed-next false, placed-next true, job-laid, losses-same, tasks-same, m, ← waiting-next, lines-same d e rooms (nth d 3 + 1) k (omega (arith, w .losses-most)) old-rows, x .task, new-line)
         (append-snoc lines line others ∙ rw (← turn) (rest-here s h))
 
     -- k + 1 lines are drawn up.
-    pub drawn-next : Drawn (k + 1) e
+    pub drawn-next : Drawn rooms (k + 1) e
     drawn-next =
         let job = s .standing .job in
         let most : (y : ℕ) → y ≤ k * lineTicks → y ≤ suc k * lineTicks = λ y l. omega arith in
         rw (add-one k)
         (record {
           standing = standing-next;
-          linked = linked-out-same job (same-part 0 levelAt before-lines (omega arith) (omega arith)) (s .linked);
+          linked = linked-out-same job (same-part 0 (levelAt rooms) before-lines (omega arith) (omega arith)) (s .linked);
           far = far-same job job-cells far-table (s .far);
-          levels = levels-same job job-cells (same-part levelAt raisedAt before-lines (omega arith) (omega arith)) (s .levels);
+          levels = levels-same job job-cells (same-part (levelAt rooms) (raisedAt rooms) before-lines (omega arith) (omega arith)) (s .levels);
           ticks = λ i c l m.
               let n : c < nth d 3 + 1 = rw losses-same at m in
               let few : c < 8 = omega (arith, w .losses-most) in
               ⊎-elim (λ (q : i ≡ k). rw q (let x = new-early c n in let y = new-late c n in (omega arith, omega arith)))
               (λ q. let (x, y) = s .ticks i c q n in
-              (rw (old-rows .cell (rowAt i + (2 + 3 * c)) (omega arith) (omega arith)) (most (nth d (rowAt i + (2 + 3 * c))) x), rw (old-rows .cell (rowAt i + (3 + 3 * c)) (omega arith) (omega arith)) (most (nth d (rowAt i + (3 + 3 * c))) y)))
+              (rw (old-rows .cell (rowAt rooms i + (2 + 3 * c)) (omega arith) (omega arith)) (most (nth d (rowAt rooms i + (2 + 3 * c))) x), rw (old-rows .cell (rowAt rooms i + (3 + 3 * c)) (omega arith) (omega arith)) (most (nth d (rowAt rooms i + (3 + 3 * c))) y)))
               (last-or-before k i l);
           rest = rest-next;
         })
@@ -312,12 +312,12 @@ module _ {k : ℕ} {d : List ℕ} (s : Drawn k d) (h : k < nth d 0) (r : Ranked 
     -- Counts and priorities ---------------------------------------------------------------------------------------------
 
     -- The edges that block u: those before the line are those after it, and those from t to u.
-    blocking : (u : ℕ) → length (keep (λ a. eqb (nth d (lineAt + a .from)) 0) (incoming (jobIn d) u))
-        ≡ length (keep (λ a. eqb (nth e (lineAt + a .from)) 0) (incoming (jobIn d) u)) + length (keep (λ a. eqb (a .to) u) (reverse (outgoing (jobIn d) t)))
+    blocking : (u : ℕ) → length (keep (λ a. eqb (nth d (lineAt rooms + a .from)) 0) (incoming (jobIn d) u))
+        ≡ length (keep (λ a. eqb (nth e (lineAt rooms + a .from)) 0) (incoming (jobIn d) u)) + length (keep (λ a. eqb (a .to) u) (reverse (outgoing (jobIn d) t)))
     unfolding incoming outgoing keep
     blocking u =
-        let f : Edge → Bool = λ a. eqb (nth d (lineAt + a .from)) 0 in
-        let g : Edge → Bool = λ a. eqb (nth e (lineAt + a .from)) 0 in
+        let f : Edge → Bool = λ a. eqb (nth d (lineAt rooms + a .from)) 0 in
+        let g : Edge → Bool = λ a. eqb (nth e (lineAt rooms + a .from)) 0 in
         let from : Edge → Bool = λ a. eqb (a .from) t in
         let to : Edge → Bool = λ a. eqb (a .to) u in
         let es = jobIn d .edges in
@@ -326,62 +326,62 @@ module _ {k : ℕ} {d : List ℕ} (s : Drawn k d) (h : k < nth d 0) (r : Ranked 
         count-split f g from (keep to es)
         (λ a i.
         let l : a .from < nth d 0 = rw (tasks-in d) at (s .standing .job .facts .from-task a (in-keep to a es i .0)) in (
-          λ b. let q = eqb-true (a .from) t b in (eq-eqb (nth d (lineAt + a .from)) 0 (rw q waits), ne-eqb (nth e (lineAt + a .from)) 0 (λ z. let y : nth e (lineAt + t) ≡ 0 = rw q at z in omega (arith, x .line))),
+          λ b. let q = eqb-true (a .from) t b in (eq-eqb (nth d (lineAt rooms + a .from)) 0 (rw q waits), ne-eqb (nth e (lineAt rooms + a .from)) 0 (λ z. let y : nth e (lineAt rooms + t) ≡ 0 = rw q at z in omega (arith, x .line))),
           λ b. ap (λ (y : ℕ). eqb y 0) (sym (line-other (a .from) l (eqb-false (a .from) t b))),
         ))
         ∙ ap (λ (n : ℕ). length (keep g (keep to es)) + n) (sym back)
 
-    outcomes-of : (a : Edge) → 0 < nth d (lineAt + a .from) → ofTask (a .from) (earliesIn (suc k) e) ≡ ofTask (a .from) (earliesIn k d)
+    outcomes-of : (a : Edge) → 0 < nth d (lineAt rooms + a .from) → ofTask (a .from) (earliesIn rooms (suc k) e) ≡ ofTask (a .from) (earliesIn rooms k d)
     unfolding placedIn
     outcomes-of a l =
         rw (losses-same, placed-old false)
-        (ofTask-append (a .from) (rowOutcomes false (rowAt k) (nth d 3 + 1) e) (earliesIn k d)
-        ∙ rw (row-none false e (a .from) (rowAt k) (nth d 3 + 1) (λ q. let z : t ≡ a .from = sym (x .task) ∙ q in let y : 0 < nth d (lineAt + t) = rw z l in omega (arith, waits))))
+        (ofTask-append (a .from) (rowOutcomes false (rowAt rooms k) (nth d 3 + 1) e) (earliesIn rooms k d)
+        ∙ rw (row-none false e (a .from) (rowAt rooms k) (nth d 3 + 1) (λ q. let z : t ≡ a .from = sym (x .task) ∙ q in let y : 0 < nth d (lineAt rooms + t) = rw z l in omega (arith, waits))))
 
     -- The line is of no predecessor of u, so u's top level is as it was.
-    level-same : (u : ℕ) → FedIn u d → topLevel (jobIn d) (earliesIn (suc k) e) u ≡ topLevel (jobIn d) (earliesIn k d) u
+    level-same : (u : ℕ) → FedIn rooms u d → topLevel (jobIn d) (earliesIn rooms (suc k) e) u ≡ topLevel (jobIn d) (earliesIn rooms k d) u
     unfolding topLevel
     level-same u f =
         let sent : List Outcome → Edge → Time = λ ds a. least (map (λ o. after (a .volume * largestDelay (jobIn d) (o .processor)) (o .time)) (ofTask (a .from) ds)) in
-        let q : map (sent (earliesIn (suc k) e)) (incoming (jobIn d) u) ≡ map (sent (earliesIn k d)) (incoming (jobIn d) u) =
-        map-same (sent (earliesIn (suc k) e)) (sent (earliesIn k d)) (incoming (jobIn d) u) (λ a i. rw (outcomes-of a (f a i))) in
+        let q : map (sent (earliesIn rooms (suc k) e)) (incoming (jobIn d) u) ≡ map (sent (earliesIn rooms k d)) (incoming (jobIn d) u) =
+        map-same (sent (earliesIn rooms (suc k) e)) (sent (earliesIn rooms k d)) (incoming (jobIn d) u) (λ a i. rw (outcomes-of a (f a i))) in
         rw q
 
-    fed-same : (u : ℕ) → FedIn u d → FedIn u e
+    fed-same : (u : ℕ) → FedIn rooms u d → FedIn rooms u e
     fed-same u f a i =
         let m : In a (incoming (jobIn d) u) = rw job-laid at i in
         let b : a .from < nth d 0 = rw (tasks-in d) at (s .standing .job .facts .from-task a (in-incoming (jobIn d) u a m .0)) in
-        rw (line-other (a .from) b (λ q. let z : 0 < nth d (lineAt + t) = rw q at (f a m) in omega (arith, waits))) (f a m)
+        rw (line-other (a .from) b (λ q. let z : 0 < nth d (lineAt rooms + t) = rw q at (f a m) in omega (arith, waits))) (f a m)
 
-    top-same : (u : ℕ) → FedIn u d → tickOf (topIn u e) * scale (jobIn d) ≡ tickOf (topIn u d) * scale (jobIn d)
+    top-same : (u : ℕ) → FedIn rooms u d → tickOf (topIn rooms u e) * scale (jobIn d) ≡ tickOf (topIn rooms u d) * scale (jobIn d)
     top-same u f =
         let a = level-placed standing-next (suc k) u (omega arith) (fed-all standing-next u (fed-same u f)) (drawn-next .far) in
         sym (rw job-laid at a) ∙ level-same u f ∙ sym (top-here s u f)
 
-    pub ranked-next : Ranked (reverse (outgoing (jobIn e) t)) e
+    pub ranked-next : Ranked rooms (reverse (outgoing (jobIn e) t)) e
     unfolding keep
     ranked-next =
         record {
           blocked = λ u l.
               let g : u < nth d 0 = rw tasks-same at l in
-              rw (job-laid, before-row .cell (blockedAt + u) (omega arith) (omega (arith, w .tasks-most))) (r .blocked u g ∙ add-zero _ ∙ blocking u);
+              rw (job-laid, before-row .cell (blockedAt rooms + u) (omega arith) (omega (arith, w .tasks-most))) (r .blocked u g ∙ add-zero _ ∙ blocking u);
           priorities = λ u l f.
               let g : u < nth d 0 = rw tasks-same at l in
-              let m : nth d 0 ≤ 255 = w .tasks-most in
-              let (a, b) = both (eqb (nth e (lineAt + u)) 0) (eqb (nth e (blockedAt + u)) 0) f in
-              let z = eqb-true (nth e (lineAt + u)) 0 a in
-              let other : u ≡ t → ⊥ = λ q. let y : nth e (lineAt + t) ≡ 0 = rw q at z in omega (arith, x .line) in
-              let same : nth e (blockedAt + u) ≡ nth d (blockedAt + u) = before-row .cell (blockedAt + u) (omega arith) (omega arith) in
+              let m : nth d 0 ≤ 8 * rooms = w .tasks-most .1 in
+              let (a, b) = both (eqb (nth e (lineAt rooms + u)) 0) (eqb (nth e (blockedAt rooms + u)) 0) f in
+              let z = eqb-true (nth e (lineAt rooms + u)) 0 a in
+              let other : u ≡ t → ⊥ = λ q. let y : nth e (lineAt rooms + t) ≡ 0 = rw q at z in omega (arith, x .line) in
+              let same : nth e (blockedAt rooms + u) ≡ nth d (blockedAt rooms + u) = before-row .cell (blockedAt rooms + u) (omega arith) (omega arith) in
               let line = line-other u g other in
-              let n = eqb-true (nth e (blockedAt + u)) 0 b in
-              let free : isFree d u ≡ true = both-true (eq-eqb (nth d (lineAt + u)) 0 (omega arith)) (eq-eqb (nth d (blockedAt + u)) 0 (omega arith)) in
-              rw (before-row .cell (priorityAt + u) (omega arith) (omega arith), job-laid, top-same u (free-fed s r u g free), before-lines .cell (levelAt + u) (omega arith) (omega arith)) (r .priorities u g free);
+              let n = eqb-true (nth e (blockedAt rooms + u)) 0 b in
+              let free : isFree rooms d u ≡ true = both-true (eq-eqb (nth d (lineAt rooms + u)) 0 (omega arith)) (eq-eqb (nth d (blockedAt rooms + u)) 0 (omega arith)) in
+              rw (before-row .cell (priorityAt rooms + u) (omega arith) (omega arith), job-laid, top-same u (free-fed s r u g free), before-lines .cell (levelAt rooms + u) (omega arith) (omega arith)) (r .priorities u g free);
         }
 
     -- The clocks after the line.
-    pub clocks-next : (clocks : Clocks) (mem : List ℕ) → Begun k t (boxesFor k t d) clocks d mem → ClocksHeld clocks (jobIn e) (earliesIn (k + 1) e) (latesIn (k + 1) e)
+    pub clocks-next : (clocks : Clocks) (mem : List ℕ) → Begun rooms k t (boxesFor rooms k t d) clocks d mem → ClocksHeld clocks (jobIn e) (earliesIn rooms (k + 1) e) (latesIn rooms (k + 1) e)
     unfolding finishOn
     clocks-next clocks mem b =
-        let ps = boxesFor k t d in
-        let one = chosen-distinct (jobIn d) (trial (jobIn d) (earliesIn k d) t) (nth d 3 + 1) in
-        rw (add-one k, placed-next false, placed-next true, job-laid, walk-apart (jobIn d) least t apart ps one (earliesIn k d), walk-apart (jobIn d) largest t apart ps one (latesIn k d)) (b .clocks-after)
+        let ps = boxesFor rooms k t d in
+        let one = chosen-distinct (jobIn d) (trial (jobIn d) (earliesIn rooms k d) t) (nth d 3 + 1) in
+        rw (add-one k, placed-next false, placed-next true, job-laid, walk-apart (jobIn d) least t apart ps one (earliesIn rooms k d), walk-apart (jobIn d) largest t apart ps one (latesIn rooms k d)) (b .clocks-after)

@@ -10,7 +10,7 @@ use lib.ListN.{length, set, length-set}
 use lib.Seq.{getD-set-same, getD-set-other}
 use Rattle.definitions.specs.Lists.{nth}
 use Rattle.definitions.specs.Limits.{document01}
-use Rattle.definitions.specs.Text.{good}
+use Rattle.definitions.specs.Text.{good, bad}
 use Rattle.definitions.specs.Job.{readJob}
 use Rattle.definitions.specs.Plan.{Plan, planText}
 use Rattle.definitions.specs.Times.{end}
@@ -20,33 +20,32 @@ use Rattle.definitions.specs.Tools.{fitting, planned, planAnswer}
 use Rattle.definitions.proofs.Placing.{placed-apart, placed-agrees, placed-ends}
 use Rattle.definitions.proofs.Claims.{own-facts, roomy01}
 use Rattle.slices.specs.Over.{over}
-use Rattle.text.specs.declared.Step.the-variants.{Next, Refused}
+use Rattle.text.specs.declared.Step.the-variants.{Next}
 use Rattle.mirguneth.specs.Layout.{memorySize, inHeadAt, bestAt, worstAt, rowAt}
 use Rattle.mirguneth.specs.Answers.{Answered, Loaded}
 use Rattle.mirguneth.specs.Schedule.{jobIn, timeIn, choiceOf, placedIn, linesIn, LinkedOut, KeptOutside, JobHeld, Standing}
 use Rattle.mirguneth.specs.Planning.{Drawn}
-use Rattle.mirguneth.specs.Loading.{planIn}
+use Rattle.mirguneth.specs.Loading.{planIn, Opened}
 use Rattle.mirguneth.specs.Checking.{PlanHeld}
 use Rattle.mirguneth.specs.declared.Answer.{Answer}
 use Rattle.mirguneth.specs.declared.Answer.the-variants.{Done, Refusal}
 use Rattle.mirguneth.proofs.Held.{equal-or-not, sizes, placed-same, lines-same, same-behind, kept-all, kept-set, job-kept, standing-choice}
-use Rattle.mirguneth.proofs.AnswerLaws.{loaded-no}
-use Rattle.mirguneth.proofs.Loads.{loaded-held}
+use Rattle.mirguneth.proofs.Loads.{opened-held}
 use Rattle.mirguneth.proofs.Drawing.{drawn-lines}
 use Rattle.mirguneth.proofs.JudgeLaws.{best-differs, worst-decides}
 
 -- The lines of the job's own plan stand in a memory.
-module _ {mem : List ℕ} (s : Standing (nth mem 0) mem) (e : linesIn (nth mem 3 + 1) (nth mem 0) mem ≡ planFor (jobIn mem) (jobIn mem .losses) .lines) where
+module _ {rooms : ℕ} {mem : List ℕ} (s : Standing rooms (nth mem 0) mem) (e : linesIn rooms (nth mem 3 + 1) (nth mem 0) mem ≡ planFor (jobIn mem) (jobIn mem .losses) .lines) where
   abbrev own : Plan
   own = planFor (jobIn mem) (jobIn mem .losses)
 
   -- Two cells more.
   abbrev ended : ℕ → ℕ → List ℕ
-  ended x y = set (set mem bestAt x) worstAt y
+  ended x y = set (set mem (bestAt rooms) x) (worstAt rooms) y
 
   module _ (x y : ℕ) where
-    ended-kept : KeptOutside bestAt (rowAt 0) mem (ended x y)
-    ended-kept = kept-set worstAt y (kept-set bestAt x kept-all (omega arith) (omega arith)) (omega arith) (omega arith)
+    ended-kept : KeptOutside (bestAt rooms) (rowAt rooms 0) mem (ended x y)
+    ended-kept = kept-set (worstAt rooms) y (kept-set (bestAt rooms) x kept-all (omega arith) (omega arith)) (omega arith) (omega arith)
 
     ended-job : jobIn (ended x y) ≡ jobIn mem
     ended-job = job-kept (s .job) ended-kept (omega arith)
@@ -57,117 +56,116 @@ module _ {mem : List ℕ} (s : Standing (nth mem 0) mem) (e : linesIn (nth mem 3
     ended-losses : nth (ended x y) 3 ≡ nth mem 3
     ended-losses = ended-kept .before 3 (omega arith)
 
-    ended-best : nth (ended x y) bestAt ≡ x
+    ended-best : nth (ended x y) (bestAt rooms) ≡ x
     ended-best =
-        getD-set-other (set mem bestAt x) worstAt bestAt y 0 (λ q. omega arith)
-        ∙ getD-set-same mem bestAt x 0 (omega (arith, s .job .size))
+        getD-set-other (set mem (bestAt rooms) x) (worstAt rooms) (bestAt rooms) y 0 (λ q. omega arith)
+        ∙ getD-set-same mem (bestAt rooms) x 0 (omega (arith, s .job .size))
 
-    ended-worst : nth (ended x y) worstAt ≡ y
-    ended-worst = getD-set-same (set mem bestAt x) worstAt y 0 (omega (arith, s .job .size, length-set mem bestAt x))
+    ended-worst : nth (ended x y) (worstAt rooms) ≡ y
+    ended-worst = getD-set-same (set mem (bestAt rooms) x) (worstAt rooms) y 0 (omega (arith, s .job .size, length-set mem (bestAt rooms) x))
 
-    ended-lines : linesIn (nth (ended x y) 3 + 1) (nth (ended x y) 0) (ended x y) ≡ own .lines
+    ended-lines : linesIn rooms (nth (ended x y) 3 + 1) (nth (ended x y) 0) (ended x y) ≡ own .lines
     ended-lines =
         rw (ended-losses, ended-tasks)
-        (lines-same mem (ended x y) (nth mem 3 + 1) (nth mem 0) (omega (arith, sizes (s .job))) (same-behind (rowAt 0) (rowAt (nth mem 0)) ended-kept (omega arith)) ∙ e)
+        (lines-same mem (ended x y) rooms (nth mem 3 + 1) (nth mem 0) (omega (arith, sizes (s .job))) (same-behind (rowAt rooms 0) (rowAt rooms (nth mem 0)) ended-kept (omega arith)) ∙ e)
 
-    ended-placed : (late : Bool) → placedIn late (nth (ended x y) 3 + 1) (nth (ended x y) 0) (ended x y) ≡ placedIn late (nth mem 3 + 1) (nth mem 0) mem
+    ended-placed : (late : Bool) → placedIn rooms late (nth (ended x y) 3 + 1) (nth (ended x y) 0) (ended x y) ≡ placedIn rooms late (nth mem 3 + 1) (nth mem 0) mem
     ended-placed late =
         rw (ended-losses, ended-tasks)
-        (placed-same mem (ended x y) late (nth mem 3 + 1) (nth mem 0) (omega (arith, sizes (s .job))) (same-behind (rowAt 0) (rowAt (nth mem 0)) ended-kept (omega arith)))
+        (placed-same mem (ended x y) rooms late (nth mem 3 + 1) (nth mem 0) (omega (arith, sizes (s .job))) (same-behind (rowAt rooms 0) (rowAt rooms (nth mem 0)) ended-kept (omega arith)))
 
   -- With its M* and M it is the plan, and the checker's tests would find no fault.
   abbrev whole : List ℕ
   whole = ended (own .best) (own .worst)
 
-  whole-plan : planIn whole ≡ own
+  whole-plan : planIn rooms whole ≡ own
   unfolding planIn
   whole-plan = rw (ended-best (own .best) (own .worst), ended-worst (own .best) (own .worst), ended-lines (own .best) (own .worst))
 
   whole-job : jobIn whole ≡ jobIn mem
   whole-job = ended-job (own .best) (own .worst)
 
-  whole-held : PlanHeld whole
+  whole-held : PlanHeld rooms whole
   whole-held =
       record {
         standing = rw (ended-tasks (own .best) (own .worst)) (standing-choice (ended-kept (own .best) (own .worst)) s (omega arith) (omega arith));
         facts = rw (whole-job, whole-plan) (own-facts document01 (jobIn mem) (s .job .facts) roomy01);
       }
 
-  none-twice : doubledTasks (planIn whole .lines) ≡ []
+  none-twice : doubledTasks (planIn rooms whole .lines) ≡ []
   none-twice = rw whole-plan (placed-apart document01 (jobIn mem) (s .job .facts))
 
-  ticks-right : ticksAgree (jobIn whole) (planIn whole .lines) ≡ true
+  ticks-right : ticksAgree (jobIn whole) (planIn rooms whole .lines) ≡ true
   ticks-right = rw (whole-job, whole-plan) (placed-agrees document01 (jobIn mem) (s .job .facts))
 
-  ends-right : endsAgree (jobIn whole) (planIn whole) ≡ true
+  ends-right : endsAgree (jobIn whole) (planIn rooms whole) ≡ true
   ends-right = rw (whole-job, whole-plan) (placed-ends document01 (jobIn mem) (s .job .facts))
 
   -- So the ends of what is placed are its M* and M.
-  module _ (x y : ℕ) (f : timeIn x ≡ end (jobIn mem) (choiceOf false) (placedIn false (nth mem 3 + 1) (nth mem 0) mem))
-      (g : timeIn y ≡ end (jobIn mem) (choiceOf true) (placedIn true (nth mem 3 + 1) (nth mem 0) mem)) where
-    best-end : timeIn x ≡ end (jobIn whole) (choiceOf false) (placedIn false (nth whole 3 + 1) (nth whole 0) whole)
+  module _ (x y : ℕ) (f : timeIn x ≡ end (jobIn mem) (choiceOf false) (placedIn rooms false (nth mem 3 + 1) (nth mem 0) mem))
+      (g : timeIn y ≡ end (jobIn mem) (choiceOf true) (placedIn rooms true (nth mem 3 + 1) (nth mem 0) mem)) where
+    best-end : timeIn x ≡ end (jobIn whole) (choiceOf false) (placedIn rooms false (nth whole 3 + 1) (nth whole 0) whole)
     best-end = rw (whole-job, ended-placed (own .best) (own .worst) false) f
 
-    best-found : x ≡ nth whole bestAt
+    best-found : x ≡ nth whole (bestAt rooms)
     best-found =
-        ⊎-elim (λ q. q) (λ n. absurd (true≢false (sym (best-differs whole-held none-twice ticks-right x best-end n ∙ ends-right)))) (equal-or-not x (nth whole bestAt))
+        ⊎-elim (λ q. q) (λ n. absurd (true≢false (sym (best-differs whole-held none-twice ticks-right x best-end n ∙ ends-right)))) (equal-or-not x (nth whole (bestAt rooms)))
 
-    worst-found : y ≡ nth whole worstAt
+    worst-found : y ≡ nth whole (worstAt rooms)
     worst-found =
-        eqb-true y (nth whole worstAt)
+        eqb-true y (nth whole (worstAt rooms))
         (worst-decides whole-held none-twice ticks-right x best-end best-found y (rw (whole-job, ended-placed (own .best) (own .worst) true) g) ∙ ends-right)
 
     ended-whole : ended x y ≡ whole
     ended-whole = rw (best-found ∙ ended-best (own .best) (own .worst), worst-found ∙ ended-worst (own .best) (own .worst))
 
-    ended-text : planText document01 (jobIn (ended x y)) (planIn (ended x y)) ≡ planned document01 (jobIn mem)
+    ended-text : planText document01 (jobIn (ended x y)) (planIn rooms (ended x y)) ≡ planned document01 (jobIn mem)
     unfolding planned
     ended-text = rw (ended-whole, whole-job, whole-plan)
 
 -- The plan of the job in d was drawn up, and then M* and M were stored.
-module _ {d mem : List ℕ} (h : JobHeld d) (k : KeptOutside inHeadAt memorySize d mem) (w : Drawn (nth d 0) mem) where
-  drawn-all : Drawn (nth mem 0) mem
+module _ {rooms : ℕ} {d mem : List ℕ} (h : JobHeld rooms d) (k : KeptOutside (inHeadAt rooms) (memorySize rooms) d mem) (w : Drawn rooms (nth d 0) mem) where
+  drawn-all : Drawn rooms (nth mem 0) mem
   drawn-all = rw (k .before 0 (omega arith)) w
 
-  own-lines : linesIn (nth mem 3 + 1) (nth mem 0) mem ≡ planFor (jobIn mem) (jobIn mem .losses) .lines
+  own-lines : linesIn rooms (nth mem 3 + 1) (nth mem 0) mem ≡ planFor (jobIn mem) (jobIn mem .losses) .lines
   unfolding jobIn
   own-lines = drawn-lines drawn-all
 
-  pub ends-asked : Standing (nth mem 0) mem × LinkedOut mem
+  pub ends-asked : Standing rooms (nth mem 0) mem × LinkedOut rooms mem
   ends-asked = (drawn-all .standing, drawn-all .linked)
 
-  module _ (x y : ℕ) (f : timeIn x ≡ end (jobIn mem) (choiceOf false) (placedIn false (nth mem 3 + 1) (nth mem 0) mem))
-      (g : timeIn y ≡ end (jobIn mem) (choiceOf true) (placedIn true (nth mem 3 + 1) (nth mem 0) mem)) where
+  module _ (x y : ℕ) (f : timeIn x ≡ end (jobIn mem) (choiceOf false) (placedIn rooms false (nth mem 3 + 1) (nth mem 0) mem))
+      (g : timeIn y ≡ end (jobIn mem) (choiceOf true) (placedIn rooms true (nth mem 3 + 1) (nth mem 0) mem)) where
     abbrev complete : List ℕ
-    complete = set (set mem bestAt x) worstAt y
+    complete = set (set mem (bestAt rooms) x) (worstAt rooms) y
 
-    pub text-asked : JobHeld complete
+    pub text-asked : JobHeld rooms complete
     text-asked = rw (ended-whole (drawn-all .standing) own-lines x y f g) (whole-held (drawn-all .standing) own-lines .standing .job)
 
-    text-is : planText document01 (jobIn complete) (planIn complete) ≡ planned document01 (jobIn d)
+    text-is : planText document01 (jobIn complete) (planIn rooms complete) ≡ planned document01 (jobIn d)
     text-is = ended-text (drawn-all .standing) own-lines x y f g ∙ ap (planned document01) (job-kept h k (omega arith))
 
     -- It does not fit, or it was written.
-    module _ (out : List ℕ) (n : ℕ) (e : n ≡ length (planText document01 (jobIn complete) (planIn complete))) where
+    module _ (out : List ℕ) (n : ℕ) (e : n ≡ length (planText document01 (jobIn complete) (planIn rooms complete))) where
       pub put-short : length out < n → Answered (fitting (length out) (planned document01 (jobIn d))) out out (Refusal 8)
       put-short l = rw (lt-ltb (length out) (length (planned document01 (jobIn d))) (omega (arith, ap length text-is))) (refl, refl)
 
-      pub put-done : n ≤ length out → (r : ℕ) (z : List ℕ) → r ≡ length (planText document01 (jobIn complete) (planIn complete))
-          → z ≡ over out 0 (planText document01 (jobIn complete) (planIn complete)) → Answered (fitting (length out) (planned document01 (jobIn d))) out z (Done r)
+      pub put-done : n ≤ length out → (r : ℕ) (z : List ℕ) → r ≡ length (planText document01 (jobIn complete) (planIn rooms complete))
+          → z ≡ over out 0 (planText document01 (jobIn complete) (planIn rooms complete)) → Answered (fitting (length out) (planned document01 (jobIn d))) out z (Done r)
       put-done l r z q o =
           rw (le-ltb (length out) (length (planned document01 (jobIn d))) (omega (arith, ap length text-is)))
           (ap good (q ∙ ap length text-is), o ∙ ap (over out 0) text-is)
 
 -- The job's text was refused, or loaded.
-module _ (s mem d : List ℕ) (n : ℕ) where
-  pub plan-no : Loaded (readJob document01 s) mem (Refused n) → Answered (planAnswer document01 s (length d)) d d (Refusal n)
+pub plan-no : (s d : List ℕ) (n : ℕ) → readJob document01 s ≡ bad n → Answered (planAnswer document01 s (length d)) d d (Refusal n)
+unfolding planAnswer
+plan-no s d n h = rw h (refl, refl)
+
+module _ (s mem d : List ℕ) (n rooms : ℕ) (head : List ℕ) (at : ℕ) (o : Opened rooms s at head) (l : length mem ≡ memorySize rooms) (h : Loaded (readJob document01 s) mem (Next n)) where
+  pub plan-asked : JobHeld rooms mem
+  plan-asked = opened-held rooms s mem head at n o l h .1
+
+  pub plan-put : (e : List ℕ) (r : Answer) → Answered (fitting (length d) (planned document01 (jobIn mem))) d e r → Answered (planAnswer document01 s (length d)) d e r
   unfolding planAnswer
-  plan-no h = rw (loaded-no (readJob document01 s) mem n h) (refl, refl)
-
-  module _ (l : length mem ≡ memorySize) (h : Loaded (readJob document01 s) mem (Next n)) where
-    pub plan-asked : JobHeld mem
-    plan-asked = loaded-held s mem n l h .1
-
-    pub plan-put : (e : List ℕ) (r : Answer) → Answered (fitting (length d) (planned document01 (jobIn mem))) d e r → Answered (planAnswer document01 s (length d)) d e r
-    unfolding planAnswer
-    plan-put e r a = rw (loaded-held s mem n l h .0) a
+  plan-put e r a = rw (opened-held rooms s mem head at n o l h .0) a

@@ -214,85 +214,85 @@ all-reverse f (x ∷ xs) ys = all-reverse f xs (x ∷ ys) ∙ by (f x) (all f xs
     by false false = refl
 
 -- Task t has a line in the table.
-abbrev pub hasLine : List ℕ → ℕ → Bool
-hasLine mem t = not (eqb (nth mem (lineAt + t)) 0)
+abbrev pub hasLine : ℕ → List ℕ → ℕ → Bool
+hasLine rooms mem t = not (eqb (nth mem (lineAt rooms + t)) 0)
 
 -- The edges from link k on lead to what is left to see of the predecessors of t.
-module _ (mem : List ℕ) (t : ℕ) where
+module _ (rooms : ℕ) (mem : List ℕ) (t : ℕ) where
   unfoldable pub linedFrom : ℕ → Bool
-  linedFrom k = all (λ e. hasLine mem (e .from)) (chain inNextAt (nth mem 2) mem k)
+  linedFrom k = all (λ e. hasLine rooms mem (e .from)) (chain (inNextAt rooms) (nth mem 2) mem k)
 
-  pub lined-all : LinkedIn mem → t < nth mem 0 → linedFrom (nth mem (inHeadAt + t)) ≡ all (λ e. hasLine mem (e .from)) (incoming (jobIn mem) t)
+  pub lined-all : LinkedIn rooms mem → t < nth mem 0 → linedFrom (nth mem (inHeadAt rooms + t)) ≡ all (λ e. hasLine rooms mem (e .from)) (incoming (jobIn mem) t)
   unfolding linedFrom all
   lined-all l h =
-      rw (l .chains t h) (all-reverse (λ e. hasLine mem (e .from)) (incoming (jobIn mem) t) [] ∙ and-true (all (λ e. hasLine mem (e .from)) (incoming (jobIn mem) t)))
+      rw (l .chains t h) (all-reverse (λ e. hasLine rooms mem (e .from)) (incoming (jobIn mem) t) [] ∙ and-true (all (λ e. hasLine rooms mem (e .from)) (incoming (jobIn mem) t)))
 
   pub lined-end : true ≡ linedFrom 0
   unfolding linedFrom all
-  lined-end = rw (chain-end inNextAt mem (nth mem 2))
+  lined-end = rw (chain-end (inNextAt rooms) mem (nth mem 2))
 
   -- The edge of a link, and those after it.
-  module _ (l : LinkedIn mem) (k : ℕ) (h : 0 < k) (g : k ≤ nth mem 2) where
+  module _ (l : LinkedIn rooms mem) (k : ℕ) (h : 0 < k) (g : k ≤ nth mem 2) where
     abbrev here : ℕ
     here = nth mem (edgeAt mem (k - 1)) % 256
 
-    pub lined-no : nth mem (lineAt + here) ≡ 0 → false ≡ linedFrom k
+    pub lined-no : nth mem (lineAt rooms + here) ≡ 0 → false ≡ linedFrom k
     unfolding linedFrom all
-    lined-no e = rw (chain-step l k h g, eq-eqb (nth mem (lineAt + here)) 0 e)
+    lined-no e = rw (chain-step l k h g, eq-eqb (nth mem (lineAt rooms + here)) 0 e)
 
-    pub lined-next : (nth mem (lineAt + here) ≡ 0 → ⊥) → linedFrom (nth mem (inNextAt + (k - 1))) ≡ linedFrom k
+    pub lined-next : (nth mem (lineAt rooms + here) ≡ 0 → ⊥) → linedFrom (nth mem (inNextAt rooms + (k - 1))) ≡ linedFrom k
     unfolding linedFrom all
-    lined-next e = rw (chain-step l k h g, ne-eqb (nth mem (lineAt + here)) 0 e)
+    lined-next e = rw (chain-step l k h g, ne-eqb (nth mem (lineAt rooms + here)) 0 e)
 
-    pub link-falls : nth mem (inNextAt + (k - 1)) < k
+    pub link-falls : nth mem (inNextAt rooms + (k - 1)) < k
     link-falls = omega (arith, l .falls (k - 1) (omega arith))
 
 -- The tasks of the first k lines, in order.
-module _ (w : ℕ) (mem : List ℕ) where
+module _ (rooms w : ℕ) (mem : List ℕ) where
   abbrev pub tasksIn : ℕ → List ℕ
-  tasksIn k = map (λ n. n .task) (linesIn w k mem)
+  tasksIn k = map (λ n. n .task) (linesIn rooms w k mem)
 
-  tasks-last : (k : ℕ) → tasksIn (suc k) ≡ tasksIn k ++ nth mem (rowAt k) ∷ []
+  tasks-last : (k : ℕ) → tasksIn (suc k) ≡ tasksIn k ++ nth mem (rowAt rooms k) ∷ []
   unfolding linesIn
-  tasks-last k = map-append (λ n. n .task) (linesIn w k mem) (record { task = nth mem (rowAt k); replicas = rowReplicas (rowAt k) w mem } ∷ [])
+  tasks-last k = map-append (λ n. n .task) (linesIn rooms w k mem) (record { task = nth mem (rowAt rooms k); replicas = rowReplicas (rowAt rooms k) w mem } ∷ [])
 
-  pub row-in-tasks : (k i : ℕ) → i < k → In (nth mem (rowAt i)) (tasksIn k)
+  pub row-in-tasks : (k i : ℕ) → i < k → In (nth mem (rowAt rooms i)) (tasksIn k)
   row-in-tasks zero i h = absurd (omega arith)
   row-in-tasks (suc k) i h =
       rw (tasks-last k)
       (⊎-elim
-      (λ (e : i ≡ k). append-right (nth mem (rowAt i)) (tasksIn k) (nth mem (rowAt k) ∷ []) (inl (rw e)))
-      (λ l. append-left (nth mem (rowAt i)) (tasksIn k) (nth mem (rowAt k) ∷ []) (row-in-tasks k i l))
+      (λ (e : i ≡ k). append-right (nth mem (rowAt rooms i)) (tasksIn k) (nth mem (rowAt rooms k) ∷ []) (inl (rw e)))
+      (λ l. append-left (nth mem (rowAt rooms i)) (tasksIn k) (nth mem (rowAt rooms k) ∷ []) (row-in-tasks k i l))
       (last-or-before k i h))
 
-  pub in-tasks-row : (k t : ℕ) → In t (tasksIn k) → (i : ℕ) × (i < k) × (nth mem (rowAt i) ≡ t)
+  pub in-tasks-row : (k t : ℕ) → In t (tasksIn k) → (i : ℕ) × (i < k) × (nth mem (rowAt rooms i) ≡ t)
   unfolding linesIn
   in-tasks-row zero t m = absurd m
   in-tasks-row (suc k) t m =
       ⊎-elim
       (λ a. let r = in-tasks-row k t a in (r .0, omega (arith, r .1), r .2))
       (λ b. ⊎-elim (λ e. (k, omega arith, e)) (λ n. absurd n) b)
-      (in-append t (tasksIn k) (nth mem (rowAt k) ∷ []) (rw (tasks-last k) at m))
+      (in-append t (tasksIn k) (nth mem (rowAt rooms k) ∷ []) (rw (tasks-last k) at m))
 
   -- A task is in one of the lines exactly if the table has its line.
-  pub has-line : (k t : ℕ) → Standing k mem → t < nth mem 0 → has t (tasksIn k) ≡ hasLine mem t
+  pub has-line : (k t : ℕ) → Standing rooms k mem → t < nth mem 0 → has t (tasksIn k) ≡ hasLine rooms mem t
   has-line k t s h =
       ⊎-elim
-      (λ (z : nth mem (lineAt + t) ≡ 0).
+      (λ (z : nth mem (lineAt rooms + t) ≡ 0).
       has-not t (tasksIn k) (λ m.
       let r = in-tasks-row k t m in
-      let e : nth mem (lineAt + t) ≡ suc (r .0) = ap (λ (u : ℕ). nth mem (lineAt + u)) (sym (r .2)) ∙ s .line-of (r .0) (r .1) in
-      omega arith) ∙ rw (eq-eqb (nth mem (lineAt + t)) 0 z))
-      (λ (p : (i : ℕ) × (i < k) × (nth mem (lineAt + t) ≡ suc i) × (nth mem (rowAt i) ≡ t)).
-      let n : nth mem (lineAt + t) ≡ 0 → ⊥ = λ z. omega (arith, p .2) in
-      in-has t (tasksIn k) (rw (p .3) at (row-in-tasks k (p .0) (p .1))) ∙ rw (ne-eqb (nth mem (lineAt + t)) 0 n))
+      let e : nth mem (lineAt rooms + t) ≡ suc (r .0) = ap (λ (u : ℕ). nth mem (lineAt rooms + u)) (sym (r .2)) ∙ s .line-of (r .0) (r .1) in
+      omega arith) ∙ rw (eq-eqb (nth mem (lineAt rooms + t)) 0 z))
+      (λ (p : (i : ℕ) × (i < k) × (nth mem (lineAt rooms + t) ≡ suc i) × (nth mem (rowAt rooms i) ≡ t)).
+      let n : nth mem (lineAt rooms + t) ≡ 0 → ⊥ = λ z. omega (arith, p .2) in
+      in-has t (tasksIn k) (rw (p .3) at (row-in-tasks k (p .0) (p .1))) ∙ rw (ne-eqb (nth mem (lineAt rooms + t)) 0 n))
       (s .placed t h)
 
 -- The rule of a line ----------------------------------------------------------------------------------------------------
 
-module _ (mem : List ℕ) (a k : ℕ) (s : Standing k mem) where
+module _ {rooms : ℕ} (mem : List ℕ) (a k : ℕ) (s : Standing rooms k mem) where
   abbrev seen : List Line
-  seen = linesIn (nth mem 3 + 1) k mem
+  seen = linesIn rooms (nth mem 3 + 1) k mem
 
   pub line-strays : true ≡ strays document01 (jobIn mem) (lineIn a mem) → 3 ≡ planLineRule document01 (jobIn mem) seen (lineIn a mem)
   unfolding planLineRule firstOf
@@ -307,23 +307,23 @@ module _ (mem : List ℕ) (a k : ℕ) (s : Standing k mem) where
       task-below : nth mem a < nth mem 0
       task-below = strays-not mem a (sym e) .0
 
-      lines-of-all : all (λ d. has (d .from) (tasksIn (nth mem 3 + 1) mem k)) (incoming (jobIn mem) (nth mem a)) ≡ all (λ d. hasLine mem (d .from)) (incoming (jobIn mem) (nth mem a))
+      lines-of-all : all (λ d. has (d .from) (tasksIn rooms (nth mem 3 + 1) mem k)) (incoming (jobIn mem) (nth mem a)) ≡ all (λ d. hasLine rooms mem (d .from)) (incoming (jobIn mem) (nth mem a))
       unfolding incoming
       lines-of-all =
-          all-same (λ d. has (d .from) (tasksIn (nth mem 3 + 1) mem k)) (λ d. hasLine mem (d .from)) (incoming (jobIn mem) (nth mem a))
+          all-same (λ d. has (d .from) (tasksIn rooms (nth mem 3 + 1) mem k)) (λ d. hasLine rooms mem (d .from)) (incoming (jobIn mem) (nth mem a))
           (λ d i.
           let (m, _) = in-keep (λ d. eqb (d .to) (nth mem a)) d (jobIn mem .edges) i in
-          has-line (nth mem 3 + 1) mem k (d .from) s (rw (tasks-in mem) at (s .job .facts .from-task d m)))
+          has-line rooms (nth mem 3 + 1) mem k (d .from) s (rw (tasks-in mem) at (s .job .facts .from-task d m)))
 
-      pub line-again : (nth mem (lineAt + nth mem a) ≡ 0 → ⊥) → 10 ≡ planLineRule document01 (jobIn mem) seen (lineIn a mem)
+      pub line-again : (nth mem (lineAt rooms + nth mem a) ≡ 0 → ⊥) → 10 ≡ planLineRule document01 (jobIn mem) seen (lineIn a mem)
       unfolding planLineRule firstOf
-      line-again n = rw (← e, ← f, has-line (nth mem 3 + 1) mem k (nth mem a) s task-below, ne-eqb (nth mem (lineAt + nth mem a)) 0 n)
+      line-again n = rw (← e, ← f, has-line rooms (nth mem 3 + 1) mem k (nth mem a) s task-below, ne-eqb (nth mem (lineAt rooms + nth mem a)) 0 n)
 
-      module _ (z : nth mem (lineAt + nth mem a) ≡ 0) where
-        pub line-unfed : false ≡ all (λ d. hasLine mem (d .from)) (incoming (jobIn mem) (nth mem a)) → 10 ≡ planLineRule document01 (jobIn mem) seen (lineIn a mem)
+      module _ (z : nth mem (lineAt rooms + nth mem a) ≡ 0) where
+        pub line-unfed : false ≡ all (λ d. hasLine rooms mem (d .from)) (incoming (jobIn mem) (nth mem a)) → 10 ≡ planLineRule document01 (jobIn mem) seen (lineIn a mem)
         unfolding planLineRule firstOf
-        line-unfed g = rw (← e, ← f, has-line (nth mem 3 + 1) mem k (nth mem a) s task-below, eq-eqb (nth mem (lineAt + nth mem a)) 0 z, lines-of-all, ← g)
+        line-unfed g = rw (← e, ← f, has-line rooms (nth mem 3 + 1) mem k (nth mem a) s task-below, eq-eqb (nth mem (lineAt rooms + nth mem a)) 0 z, lines-of-all, ← g)
 
-        pub line-good : true ≡ all (λ d. hasLine mem (d .from)) (incoming (jobIn mem) (nth mem a)) → 0 ≡ planLineRule document01 (jobIn mem) seen (lineIn a mem)
+        pub line-good : true ≡ all (λ d. hasLine rooms mem (d .from)) (incoming (jobIn mem) (nth mem a)) → 0 ≡ planLineRule document01 (jobIn mem) seen (lineIn a mem)
         unfolding planLineRule firstOf
-        line-good g = rw (← e, ← f, has-line (nth mem 3 + 1) mem k (nth mem a) s task-below, eq-eqb (nth mem (lineAt + nth mem a)) 0 z, lines-of-all, ← g)
+        line-good g = rw (← e, ← f, has-line rooms (nth mem 3 + 1) mem k (nth mem a) s task-below, eq-eqb (nth mem (lineAt rooms + nth mem a)) 0 z, lines-of-all, ← g)

@@ -22,22 +22,22 @@ use Rattle.mirguneth.proofs.Held.{equal-or-not, last-or-before, Same, s
 
 -- The table of lines, emptied -------------------------------------------------------------------------------------------
 
-pub cleared-more : (d : List ℕ) (t : ℕ) → lineAt + t < length d → ((u : ℕ) → u < t → nth d (lineAt + u) ≡ 0) → (u : ℕ) → u < t + 1 → nth (set d (lineAt + t) 0) (lineAt + u) ≡ 0
-cleared-more d t l h u g =
+pub cleared-more : (rooms : ℕ) (d : List ℕ) (t : ℕ) → lineAt rooms + t < length d → ((u : ℕ) → u < t → nth d (lineAt rooms + u) ≡ 0) → (u : ℕ) → u < t + 1 → nth (set d (lineAt rooms + t) 0) (lineAt rooms + u) ≡ 0
+cleared-more rooms d t l h u g =
     ⊎-elim
-    (λ (e : u ≡ t). rw e (getD-set-same d (lineAt + t) 0 0 l))
-    (λ b. getD-set-other d (lineAt + t) (lineAt + u) 0 0 (λ e. omega arith) ∙ h u b)
+    (λ (e : u ≡ t). rw e (getD-set-same d (lineAt rooms + t) 0 0 l))
+    (λ b. getD-set-other d (lineAt rooms + t) (lineAt rooms + u) 0 0 (λ e. omega arith) ∙ h u b)
     (last-or-before t u (omega arith))
 
 -- The links from each task to the edges that enter it are as they were.
-pub linked-in-same : {d e : List ℕ} → JobHeld d → Same 0 levelAt d e → LinkedIn d → LinkedIn e
-linked-in-same {d} {e} h j c =
+pub linked-in-same : {rooms : ℕ} {d e : List ℕ} → JobHeld rooms d → Same 0 (levelAt rooms) d e → LinkedIn rooms d → LinkedIn rooms e
+linked-in-same {rooms} {d} {e} h j c =
     let w = sizes h in
-    let a : Same 0 jobSize d e = same-part 0 jobSize j (omega arith) (omega arith) in
-    rw (job-same w a) (chained-same w a (same-part inHeadAt (inHeadAt + nth d 0) j (omega arith) (omega arith)) (same-part inNextAt (inNextAt + nth d 2) j (omega arith) (omega arith)) c)
+    let a : Same 0 (jobSize rooms) d e = same-part 0 (jobSize rooms) j (omega arith) (omega arith) in
+    rw (job-same w a) (chained-same w a (same-part (inHeadAt rooms) (inHeadAt rooms + nth d 0) j (omega arith) (omega arith)) (same-part (inNextAt rooms) (inNextAt rooms + nth d 2) j (omega arith) (omega arith)) c)
 
 -- No line yet.
-pub standing-none : {d : List ℕ} → JobHeld d → LinkedIn d → ((t : ℕ) → t < 256 → nth d (lineAt + t) ≡ 0) → Standing 0 d
+pub standing-none : {rooms : ℕ} {d : List ℕ} → JobHeld rooms d → LinkedIn rooms d → ((t : ℕ) → t < 8 * rooms → nth d (lineAt rooms + t) ≡ 0) → Standing rooms 0 d
 standing-none h l z =
     let w = sizes h in
     record {
@@ -51,67 +51,67 @@ standing-none h l z =
     }
 
 -- The line of row k gets its place in the table.
-module _ {k : ℕ} {d : List ℕ} (s : Standing k d) (b : k < nth d 0) (t : nth d (rowAt k) < nth d 0) (z : nth d (lineAt + nth d (rowAt k)) ≡ 0)
-    (r : RowHeld (rowAt k) d) where
+module _ {rooms k : ℕ} {d : List ℕ} (s : Standing rooms k d) (b : k < nth d 0) (t : nth d (rowAt rooms k) < nth d 0) (z : nth d (lineAt rooms + nth d (rowAt rooms k)) ≡ 0)
+    (r : RowHeld (rowAt rooms k) d) where
   abbrev task : ℕ
-  task = nth d (rowAt k)
+  task = nth d (rowAt rooms k)
 
   abbrev e : List ℕ
-  e = set d (lineAt + task) (suc k)
+  e = set d (lineAt rooms + task) (suc k)
 
-  w : Sizes d
+  w : Sizes rooms d
   w = sizes (s .job)
 
-  other : (i : ℕ) → (i ≡ lineAt + task → ⊥) → nth e i ≡ nth d i
-  other i n = getD-set-other d (lineAt + task) i (suc k) 0 n
+  other : (i : ℕ) → (i ≡ lineAt rooms + task → ⊥) → nth e i ≡ nth d i
+  other i n = getD-set-other d (lineAt rooms + task) i (suc k) 0 n
 
-  new : nth e (lineAt + task) ≡ suc k
-  new = getD-set-same d (lineAt + task) (suc k) 0 (omega (arith, w))
+  new : nth e (lineAt rooms + task) ≡ suc k
+  new = getD-set-same d (lineAt rooms + task) (suc k) 0 (omega (arith, w))
 
-  same-job : Same 0 levelAt d e
+  same-job : Same 0 (levelAt rooms) d e
   same-job = record { cell = λ i p q. other i (λ f. omega arith) }
 
-  row-cell : (i : ℕ) → nth e (rowAt i) ≡ nth d (rowAt i)
-  row-cell i = other (rowAt i) (λ f. omega (arith, w))
+  row-cell : (i : ℕ) → nth e (rowAt rooms i) ≡ nth d (rowAt rooms i)
+  row-cell i = other (rowAt rooms i) (λ f. omega (arith, w))
 
-  line-cell : (u : ℕ) → (u ≡ task → ⊥) → nth e (lineAt + u) ≡ nth d (lineAt + u)
-  line-cell u n = other (lineAt + u) (λ f. n (omega arith))
+  line-cell : (u : ℕ) → (u ≡ task → ⊥) → nth e (lineAt rooms + u) ≡ nth d (lineAt rooms + u)
+  line-cell u n = other (lineAt rooms + u) (λ f. n (omega arith))
 
-  same-rows : (i : ℕ) → Same (rowAt i) (rowAt i + 25) d e
+  same-rows : (i : ℕ) → Same (rowAt rooms i) (rowAt rooms i + 25) d e
   same-rows i = record { cell = λ x p q. other x (λ f. omega (arith, w)) }
 
   tasks-same : nth e 0 ≡ nth d 0
   tasks-same = same-job .cell 0 (omega arith) (omega arith)
 
-  of-task : (i : ℕ) → i < suc k → nth d (rowAt i) < nth d 0
+  of-task : (i : ℕ) → i < suc k → nth d (rowAt rooms i) < nth d 0
   of-task i h = ⊎-elim (λ (q : i ≡ k). rw q t) (λ l. s .task-of i l) (last-or-before k i h)
 
-  of-line : (i : ℕ) → i < suc k → nth e (lineAt + nth d (rowAt i)) ≡ suc i
+  of-line : (i : ℕ) → i < suc k → nth e (lineAt rooms + nth d (rowAt rooms i)) ≡ suc i
   of-line i h =
       ⊎-elim
       (λ (q : i ≡ k). rw q new)
       (λ l.
-      let n : nth d (rowAt i) ≡ task → ⊥ = λ (q : nth d (rowAt i) ≡ task). let x : nth d (lineAt + task) ≡ suc i = rw q at (s .line-of i l) in omega arith in
-      line-cell (nth d (rowAt i)) n ∙ s .line-of i l)
+      let n : nth d (rowAt rooms i) ≡ task → ⊥ = λ (q : nth d (rowAt rooms i) ≡ task). let x : nth d (lineAt rooms + task) ≡ suc i = rw q at (s .line-of i l) in omega arith in
+      line-cell (nth d (rowAt rooms i)) n ∙ s .line-of i l)
       (last-or-before k i h)
 
-  of-place : (u : ℕ) → u < nth d 0 → (nth e (lineAt + u) ≡ 0) ⊎ ((i : ℕ) × (i < suc k) × (nth e (lineAt + u) ≡ suc i) × (nth e (rowAt i) ≡ u))
+  of-place : (u : ℕ) → u < nth d 0 → (nth e (lineAt rooms + u) ≡ 0) ⊎ ((i : ℕ) × (i < suc k) × (nth e (lineAt rooms + u) ≡ suc i) × (nth e (rowAt rooms i) ≡ u))
   of-place u h =
       ⊎-elim
       (λ (q : u ≡ task). inr (k, omega arith, rw q new, row-cell k ∙ sym q))
       (λ n.
       ⊎-elim
       (λ x. inl (line-cell u n ∙ x))
-      (λ (x : (i : ℕ) × (i < k) × (nth d (lineAt + u) ≡ suc i) × (nth d (rowAt i) ≡ u)). inr (x .0, omega (arith, x .1), line-cell u n ∙ x .2, row-cell (x .0) ∙ x .3))
+      (λ (x : (i : ℕ) × (i < k) × (nth d (lineAt rooms + u) ≡ suc i) × (nth d (rowAt rooms i) ≡ u)). inr (x .0, omega (arith, x .1), line-cell u n ∙ x .2, row-cell (x .0) ∙ x .3))
       (s .placed u h))
       (equal-or-not u task)
 
-  of-row : (i : ℕ) → i < suc k → RowHeld (rowAt i) d
+  of-row : (i : ℕ) → i < suc k → RowHeld (rowAt rooms i) d
   of-row i h = ⊎-elim (λ (q : i ≡ k). rw q r) (λ l. s .row i l) (last-or-before k i h)
 
-  pub standing-more : Standing (suc k) (set d (lineAt + nth d (rowAt k)) (suc k))
+  pub standing-more : Standing rooms (suc k) (set d (lineAt rooms + nth d (rowAt rooms k)) (suc k))
   standing-more =
-      let c : KeptOutside lineAt blockedAt d e = kept-set (lineAt + task) (suc k) kept-all (omega arith) (omega (arith, w)) in
+      let c : KeptOutside (lineAt rooms) (blockedAt rooms) d e = kept-set (lineAt rooms + task) (suc k) kept-all (omega arith) (omega (arith, w)) in
       record {
         job = held-kept (s .job) c (omega arith);
         linked = linked-in-same (s .job) same-job (s .linked);
@@ -119,7 +119,7 @@ module _ {k : ℕ} {d : List ℕ} (s : Standing k d) (b : k < nth d 0) (t : nth 
         task-of = λ i h. rw (row-cell i, tasks-same) (of-task i h);
         line-of = λ i h. rw (row-cell i) (of-line i h);
         placed = λ u h. of-place u (rw tasks-same at h);
-        row = λ i h. row-held-same (rowAt i) w (same-part 0 4 same-job (omega arith) (omega arith)) (same-rows i) (of-row i h);
+        row = λ i h. row-held-same (rowAt rooms i) w (same-part 0 4 same-job (omega arith) (omega arith)) (same-rows i) (of-row i h);
       }
 
 -- A row that was read ---------------------------------------------------------------------------------------------------
@@ -187,13 +187,13 @@ abbrev pub allLines : List ℕ → List ℕ → ℕ → Reading (List Line)
 allLines d s at = lines (planLine document01 (jobIn d)) (planLineRule document01 (jobIn d)) (nth d 0) [] (drop at s)
 
 -- k lines were read, up to the place p of the text s, into the memory d.
-pub record LinesUpTo (s : List ℕ) (at : ℕ) (d : List ℕ) (k p : ℕ) (mem : List ℕ) : Type 0 where
-  pub job : JobHeld d
-  pub kept : KeptOutside lineAt farAt d mem
-  pub standing : Standing k mem
-  pub rest : lines (planLine document01 (jobIn d)) (planLineRule document01 (jobIn d)) (nth d 0 - k) (linesIn (nth d 3 + 1) k mem) (drop p s) ≡ allLines d s at
+pub record LinesUpTo (rooms : ℕ) (s : List ℕ) (at : ℕ) (d : List ℕ) (k p : ℕ) (mem : List ℕ) : Type 0 where
+  pub job : JobHeld rooms d
+  pub kept : KeptOutside (lineAt rooms) (farAt rooms) d mem
+  pub standing : Standing rooms k mem
+  pub rest : lines (planLine document01 (jobIn d)) (planLineRule document01 (jobIn d)) (nth d 0 - k) (linesIn rooms (nth d 3 + 1) k mem) (drop p s) ≡ allLines d s at
 
-pub upto-none : (s : List ℕ) (at : ℕ) (d : List ℕ) → Standing 0 d → LinesUpTo s at d 0 at d
+pub upto-none : {rooms : ℕ} (s : List ℕ) (at : ℕ) (d : List ℕ) → Standing rooms 0 d → LinesUpTo rooms s at d 0 at d
 unfolding linesIn
 upto-none s at d h = record { job = h .job; kept = kept-all; standing = h; rest = rw sub-zero }
 
@@ -206,12 +206,12 @@ unfolding planLine
 line-read d s vs r n q e = let m : 1 + 3 * (1 + jobIn d .losses) ≡ n = omega (arith, losses-in d) in rw (m, e)
 
 -- One line more, after the lines in `seen`.
-lines-more : (d mem : List ℕ) (k : ℕ) (seen : List Line) → linesIn (nth d 3 + 1) k mem ≡ seen → nth mem 3 ≡ nth d 3
-    → linesIn (nth d 3 + 1) (suc k) mem ≡ seen ++ lineIn (rowAt k) mem ∷ []
+lines-more : (rooms : ℕ) (d mem : List ℕ) (k : ℕ) (seen : List Line) → linesIn rooms (nth d 3 + 1) k mem ≡ seen → nth mem 3 ≡ nth d 3
+    → linesIn rooms (nth d 3 + 1) (suc k) mem ≡ seen ++ lineIn (rowAt rooms k) mem ∷ []
 unfolding linesIn
-lines-more d mem k seen e l = rw (e, l)
+lines-more rooms d mem k seen e l = rw (e, l)
 
-module _ {s : List ℕ} {at : ℕ} {d : List ℕ} {k p : ℕ} {mem : List ℕ} (u : LinesUpTo s at d k p mem) where
+module _ {rooms : ℕ} {s : List ℕ} {at : ℕ} {d : List ℕ} {k p : ℕ} {mem : List ℕ} (u : LinesUpTo rooms s at d k p mem) where
   abbrev form : Reader Line
   form = planLine document01 (jobIn d)
 
@@ -225,39 +225,39 @@ module _ {s : List ℕ} {at : ℕ} {d : List ℕ} {k p : ℕ} {mem : List ℕ} (
   losses-kept = u .kept .before 3 (omega arith)
 
   -- All lines were read.
-  pub upto-end : nth d 0 ≤ k → (found (linesIn (nth mem 3 + 1) (nth mem 0) mem) (drop p s) ≡ allLines d s at) × Standing (nth mem 0) mem
+  pub upto-end : nth d 0 ≤ k → (found (linesIn rooms (nth mem 3 + 1) (nth mem 0) mem) (drop p s) ≡ allLines d s at) × Standing rooms (nth mem 0) mem
   upto-end h =
       let e : nth mem 0 ≡ k = omega (arith, u .standing .count, tasks-kept) in
-      (rw (e, losses-kept) (lines-end form rule (nth d 0) k (linesIn (nth d 3 + 1) k mem) (drop p s) h ∙ u .rest), rw e (u .standing))
+      (rw (e, losses-kept) (lines-end form rule (nth d 0) k (linesIn rooms (nth d 3 + 1) k mem) (drop p s) h ∙ u .rest), rw e (u .standing))
 
   module _ (h : k < nth d 0) (n : ℕ) (q : n ≡ 4 + 3 * nth d 3) where
     pub upto-bad : (x : ℕ) → line document01 (bytes "T,") n (drop p s) ≡ refused x → refused x ≡ allLines d s at
-    upto-bad x e = lines-bad form rule (nth d 0) k (linesIn (nth d 3 + 1) k mem) (drop p s) h x (line-bad d (drop p s) n x q e) ∙ u .rest
+    upto-bad x e = lines-bad form rule (nth d 0) k (linesIn rooms (nth d 3 + 1) k mem) (drop p s) h x (line-bad d (drop p s) n x q e) ∙ u .rest
 
     -- The numbers of one more line are in its row.
-    module _ (ys : List ℕ) (l : length ys ≡ length (midOf (rowAt k) (rowAt k + n - rowAt k) mem)) where
+    module _ (ys : List ℕ) (l : length ys ≡ length (midOf (rowAt rooms k) (rowAt rooms k + n - rowAt rooms k) mem)) where
       abbrev filled : List ℕ
-      filled = putMid (rowAt k) (rowAt k + n - rowAt k) mem ys
+      filled = putMid (rowAt rooms k) (rowAt rooms k + n - rowAt rooms k) mem ys
 
-      limits : Sizes mem
+      limits : Sizes rooms mem
       limits = sizes (u .standing .job)
 
-      fits : rowAt k + n ≤ rowAt k + 25
+      fits : rowAt rooms k + n ≤ rowAt rooms k + 25
       fits = omega (arith, limits, losses-kept)
 
-      within : rowAt k + n ≤ length mem
+      within : rowAt rooms k + n ≤ length mem
       within = omega (arith, limits, fits, tasks-kept)
 
-      width : length ys ≡ rowAt k + n - rowAt k
-      width = l ∙ mid-len (rowAt k) (rowAt k + n) mem within
+      width : length ys ≡ rowAt rooms k + n - rowAt rooms k
+      width = l ∙ mid-len (rowAt rooms k) (rowAt rooms k + n) mem within
 
-      row-kept : KeptOutside (rowAt k) (rowAt k + n) mem filled
-      row-kept = lent-kept (rowAt k) (rowAt k + n) mem ys (omega arith) within width
+      row-kept : KeptOutside (rowAt rooms k) (rowAt rooms k + n) mem filled
+      row-kept = lent-kept (rowAt rooms k) (rowAt rooms k + n) mem ys (omega arith) within width
 
-      pub upto-kept : KeptOutside lineAt farAt d (putMid (rowAt k) (rowAt k + n - rowAt k) mem ys)
-      upto-kept = kept-then (u .kept) (kept-wider lineAt farAt row-kept (omega arith) (omega (arith, limits, fits, tasks-kept)))
+      pub upto-kept : KeptOutside (lineAt rooms) (farAt rooms) d (putMid (rowAt rooms k) (rowAt rooms k + n - rowAt rooms k) mem ys)
+      upto-kept = kept-then (u .kept) (kept-wider (lineAt rooms) (farAt rooms) row-kept (omega arith) (omega (arith, limits, fits, tasks-kept)))
 
-      pub upto-standing : Standing k (putMid (rowAt k) (rowAt k + n - rowAt k) mem ys)
+      pub upto-standing : Standing rooms k (putMid (rowAt rooms k) (rowAt rooms k + n - rowAt rooms k) mem ys)
       upto-standing = standing-behind row-kept (u .standing) (omega arith)
 
       job-filled : jobIn filled ≡ jobIn d
@@ -266,37 +266,37 @@ module _ {s : List ℕ} {at : ℕ} {d : List ℕ} {k p : ℕ} {mem : List ℕ} (
       losses-filled : nth filled 3 ≡ nth d 3
       losses-filled = upto-kept .before 3 (omega arith)
 
-      lines-filled : linesIn (nth d 3 + 1) k filled ≡ linesIn (nth d 3 + 1) k mem
-      lines-filled = lines-same mem filled (nth d 3 + 1) k (omega (arith, limits, losses-kept)) (same-before (rowAt 0) (rowAt k) row-kept (omega arith))
+      lines-filled : linesIn rooms (nth d 3 + 1) k filled ≡ linesIn rooms (nth d 3 + 1) k mem
+      lines-filled = lines-same mem filled rooms (nth d 3 + 1) k (omega (arith, limits, losses-kept)) (same-before (rowAt rooms 0) (rowAt rooms k) row-kept (omega arith))
 
       -- The line was read, and q is the place after it.
       module _ (r : ℕ) (e : line document01 (bytes "T,") n (drop p s) ≡ found (take n ys) (drop r s)) where
-        read-line : form (drop p s) ≡ found (lineIn (rowAt k) filled) (drop r s)
+        read-line : form (drop p s) ≡ found (lineIn (rowAt rooms k) filled) (drop r s)
         read-line =
             let m : length ys ≡ n = omega (arith, width) in
-            let f : lineOf ys ≡ lineIn (rowAt k) filled = row-line filled (rowAt k) ys (lent-cell (rowAt k) (rowAt k + n) mem ys (omega arith) within width) (omega (arith, losses-filled)) in
+            let f : lineOf ys ≡ lineIn (rowAt rooms k) filled = row-line filled (rowAt rooms k) ys (lent-cell (rowAt rooms k) (rowAt rooms k + n) mem ys (omega arith) within width) (omega (arith, losses-filled)) in
             line-read d (drop p s) (take n ys) (drop r s) n q e ∙ rw (take-all n ys (omega arith), f)
 
-        module _ (x : ℕ) (f : x ≡ planLineRule document01 (jobIn filled) (linesIn (nth filled 3 + 1) k filled) (lineIn (rowAt k) filled)) where
-          by-rule : x ≡ rule (linesIn (nth d 3 + 1) k mem) (lineIn (rowAt k) filled)
-          by-rule = f ∙ ap (λ (j : Job). planLineRule document01 j (linesIn (nth filled 3 + 1) k filled) (lineIn (rowAt k) filled)) job-filled ∙ ap (λ (z : ℕ). rule (linesIn (z + 1) k filled) (lineIn (rowAt k) filled)) losses-filled ∙ ap (λ (ns : List Line). rule ns (lineIn (rowAt k) filled)) lines-filled
+        module _ (x : ℕ) (f : x ≡ planLineRule document01 (jobIn filled) (linesIn rooms (nth filled 3 + 1) k filled) (lineIn (rowAt rooms k) filled)) where
+          by-rule : x ≡ rule (linesIn rooms (nth d 3 + 1) k mem) (lineIn (rowAt rooms k) filled)
+          by-rule = f ∙ ap (λ (j : Job). planLineRule document01 j (linesIn rooms (nth filled 3 + 1) k filled) (lineIn (rowAt rooms k) filled)) job-filled ∙ ap (λ (z : ℕ). rule (linesIn rooms (z + 1) k filled) (lineIn (rowAt rooms k) filled)) losses-filled ∙ ap (λ (ns : List Line). rule ns (lineIn (rowAt rooms k) filled)) lines-filled
 
           pub upto-no : 0 < x → refused x ≡ allLines d s at
-          upto-no g = lines-no form rule (nth d 0) k (linesIn (nth d 3 + 1) k mem) (drop p s) h (lineIn (rowAt k) filled) (drop r s) read-line x by-rule g ∙ u .rest
+          upto-no g = lines-no form rule (nth d 0) k (linesIn rooms (nth d 3 + 1) k mem) (drop p s) h (lineIn (rowAt rooms k) filled) (drop r s) read-line x by-rule g ∙ u .rest
 
-          pub upto-next : x ≤ 0 → (x ≡ 0 → (nth filled (rowAt k) < nth filled 0) × (nth filled (lineAt + nth filled (rowAt k)) ≡ 0) × RowHeld (rowAt k) filled)
-              → LinesUpTo s at d (k + 1) r (set filled (lineAt + nth filled (rowAt k)) (k + 1))
+          pub upto-next : x ≤ 0 → (x ≡ 0 → (nth filled (rowAt rooms k) < nth filled 0) × (nth filled (lineAt rooms + nth filled (rowAt rooms k)) ≡ 0) × RowHeld (rowAt rooms k) filled)
+              → LinesUpTo rooms s at d (k + 1) r (set filled (lineAt rooms + nth filled (rowAt rooms k)) (k + 1))
           upto-next g v =
               let (b, z, t) = v (omega arith) in
-              let full : Sizes filled = sizes (upto-standing .job) in
-              let last = set filled (lineAt + nth filled (rowAt k)) (suc k) in
-              let c : KeptOutside lineAt blockedAt filled last = kept-set (lineAt + nth filled (rowAt k)) (suc k) kept-all (omega arith) (omega (arith, full)) in
-              let more : linesIn (nth d 3 + 1) (suc k) last ≡ linesIn (nth d 3 + 1) k mem ++ lineIn (rowAt k) filled ∷ [] =
-              lines-same filled last (nth d 3 + 1) (suc k) (omega (arith, limits, losses-kept)) (same-behind (rowAt 0) (rowAt (suc k)) c (omega arith)) ∙ lines-more d filled k (linesIn (nth d 3 + 1) k mem) lines-filled losses-filled in
+              let full : Sizes rooms filled = sizes (upto-standing .job) in
+              let last = set filled (lineAt rooms + nth filled (rowAt rooms k)) (suc k) in
+              let c : KeptOutside (lineAt rooms) (blockedAt rooms) filled last = kept-set (lineAt rooms + nth filled (rowAt rooms k)) (suc k) kept-all (omega arith) (omega (arith, full)) in
+              let more : linesIn rooms (nth d 3 + 1) (suc k) last ≡ linesIn rooms (nth d 3 + 1) k mem ++ lineIn (rowAt rooms k) filled ∷ [] =
+              lines-same filled last rooms (nth d 3 + 1) (suc k) (omega (arith, limits, losses-kept)) (same-behind (rowAt rooms 0) (rowAt rooms (suc k)) c (omega arith)) ∙ lines-more rooms d filled k (linesIn rooms (nth d 3 + 1) k mem) lines-filled losses-filled in
               rw (add-one k)
               (record {
                 job = u .job;
-                kept = kept-then upto-kept (kept-wider lineAt farAt c (omega arith) (omega arith));
+                kept = kept-then upto-kept (kept-wider (lineAt rooms) (farAt rooms) c (omega arith) (omega arith));
                 standing = standing-more upto-standing (omega (arith, upto-kept .before 0 (omega arith))) b z t;
-                rest = rw more (ap (λ (i : ℕ). lines form rule (nth d 0 - i) (linesIn (nth d 3 + 1) k mem ++ lineIn (rowAt k) filled ∷ []) (drop r s)) (sym (add-one k)) ∙ lines-next form rule (nth d 0) k (linesIn (nth d 3 + 1) k mem) (drop p s) h (lineIn (rowAt k) filled) (drop r s) read-line x by-rule g ∙ u .rest);
+                rest = rw more (ap (λ (i : ℕ). lines form rule (nth d 0 - i) (linesIn rooms (nth d 3 + 1) k mem ++ lineIn (rowAt rooms k) filled ∷ []) (drop r s)) (sym (add-one k)) ∙ lines-next form rule (nth d 0) k (linesIn rooms (nth d 3 + 1) k mem) (drop p s) h (lineIn (rowAt rooms k) filled) (drop r s) read-line x by-rule g ∙ u .rest);
               })

@@ -1,7 +1,7 @@
 -- A plan's text as a whole: the head, the lines, and what is left over.
 use mathlib.Core.Path.{_≡_, refl, _∙_}
 use mathlib.Core.List.{List}
-use Prim.Native.Nat.{ℕ, zero, suc, _+_, _<_, _≤_}
+use Prim.Native.Nat.{ℕ, zero, suc, _+_, _*_, _<_, _≤_}
 use native.Mathlib.Omega.{arith}
 use borrow.Author.Tests.{lt-ltb, le-ltb}
 use lib.ListN.{length, set, take, drop, length-set, drop-of-length-le}
@@ -18,14 +18,14 @@ use Rattle.mirguneth.proofs.Held.{sizes, same-before, same-behind, job-
 use Rattle.mirguneth.proofs.PlanReading.{allLines, linked-in-same, standing-none}
 
 module _ (d s : List ℕ) where
-  pub plan-long : (mem : List ℕ) → 65536 < length s → PlanLoaded (readPlan document01 (jobIn d) s) mem (Refused 1)
+  pub plan-long : (rooms : ℕ) (mem : List ℕ) → 65536 < length s → PlanLoaded rooms (readPlan document01 (jobIn d) s) mem (Refused 1)
   unfolding readPlan
-  plan-long mem h = rw (lt-ltb _ _ h)
+  plan-long rooms mem h = rw (lt-ltb _ _ h)
 
   module _ (h : length s ≤ 65536) where
-    pub plan-head-bad : (mem : List ℕ) (x : ℕ) → line document01 (bytes "PLAN,") 5 (drop 0 s) ≡ refused x → PlanLoaded (readPlan document01 (jobIn d) s) mem (Refused x)
+    pub plan-head-bad : (rooms : ℕ) (mem : List ℕ) (x : ℕ) → line document01 (bytes "PLAN,") 5 (drop 0 s) ≡ refused x → PlanLoaded rooms (readPlan document01 (jobIn d) s) mem (Refused x)
     unfolding readPlan planLines planHead
-    plan-head-bad mem x e = rw (le-ltb _ _ h, e)
+    plan-head-bad rooms mem x e = rw (le-ltb _ _ h, e)
 
     -- The head has the numbers vs, and p is the place after it.
     module _ (vs : List ℕ) (p : ℕ) (e : line document01 (bytes "PLAN,") 5 (drop 0 s) ≡ found (take 5 vs) (drop p s)) where
@@ -34,10 +34,10 @@ module _ (d s : List ℕ) where
       head-read =
           rw (e, getD-take 5 vs 0 0 (omega arith), getD-take 5 vs 1 0 (omega arith), getD-take 5 vs 2 0 (omega arith), getD-take 5 vs 3 0 (omega arith), getD-take 5 vs 4 0 (omega arith))
 
-      pub plan-head-no : (mem : List ℕ) (x : ℕ) → x ≡ planHeadRule document01 (jobIn d) (planHeadOf vs) → 0 < x → PlanLoaded (readPlan document01 (jobIn d) s) mem (Refused x)
+      pub plan-head-no : (rooms : ℕ) (mem : List ℕ) (x : ℕ) → x ≡ planHeadRule document01 (jobIn d) (planHeadOf vs) → 0 < x → PlanLoaded rooms (readPlan document01 (jobIn d) s) mem (Refused x)
       unfolding readPlan planLines
-      plan-head-no mem zero f g = absurd (omega arith)
-      plan-head-no mem (suc x) f g = rw (le-ltb _ _ h, head-read, ← f)
+      plan-head-no rooms mem zero f g = absurd (omega arith)
+      plan-head-no rooms mem (suc x) f g = rw (le-ltb _ _ h, head-read, ← f)
 
       -- The head passes its rule.
       module _ (f : 0 ≡ planHeadRule document01 (jobIn d) (planHeadOf vs)) where
@@ -48,40 +48,40 @@ module _ (d s : List ℕ) where
         unfolding readPlan planLines
         plan-lines = rw (le-ltb _ _ h, head-read, ← f, tasks-in d)
 
-        pub plan-lines-bad : (mem : List ℕ) (x : ℕ) → refused x ≡ allLines d s p → PlanLoaded (readPlan document01 (jobIn d) s) mem (Refused x)
-        plan-lines-bad mem x g = rw (plan-lines, ← g)
+        pub plan-lines-bad : (rooms : ℕ) (mem : List ℕ) (x : ℕ) → refused x ≡ allLines d s p → PlanLoaded rooms (readPlan document01 (jobIn d) s) mem (Refused x)
+        plan-lines-bad rooms mem x g = rw (plan-lines, ← g)
 
         module _ (ns : List Line) (q : ℕ) (g : found ns (drop q s) ≡ allLines d s p) where
-          pub plan-left-over : (mem : List ℕ) → q < length s → PlanLoaded (readPlan document01 (jobIn d) s) mem (Refused 2)
-          plan-left-over mem l = rw (plan-lines, ← g, drop-cons s q 0 l)
+          pub plan-left-over : (rooms : ℕ) (mem : List ℕ) → q < length s → PlanLoaded rooms (readPlan document01 (jobIn d) s) mem (Refused 2)
+          plan-left-over rooms mem l = rw (plan-lines, ← g, drop-cons s q 0 l)
 
-          pub plan-good : (mem : List ℕ) → length s ≤ q → planIn mem ≡ planOf ns → Standing (nth mem 0) mem → PlanLoaded (readPlan document01 (jobIn d) s) mem (Next q)
+          pub plan-good : {rooms : ℕ} (mem : List ℕ) → length s ≤ q → planIn rooms mem ≡ planOf ns → Standing rooms (nth mem 0) mem → PlanLoaded rooms (readPlan document01 (jobIn d) s) mem (Next q)
           plan-good mem l m t = rw (plan-lines, ← g, drop-of-length-le s l) ((q, refl), m, t)
 
 -- The table of lines is empty.
-module _ {d mem : List ℕ} (h : JobHeld d) (l : LinkedIn d) (k : KeptOutside lineAt blockedAt d mem) where
-  pub cleared-standing : ((t : ℕ) → t < 256 → nth mem (lineAt + t) ≡ 0) → Standing 0 mem
-  cleared-standing z = standing-none (held-kept h k (omega arith)) (linked-in-same h (same-before 0 levelAt k (omega arith)) l) z
+module _ {rooms : ℕ} {d mem : List ℕ} (h : JobHeld rooms d) (l : LinkedIn rooms d) (k : KeptOutside (lineAt rooms) (blockedAt rooms) d mem) where
+  pub cleared-standing : ((t : ℕ) → t < 8 * rooms → nth mem (lineAt rooms + t) ≡ 0) → Standing rooms 0 mem
+  cleared-standing z = standing-none (held-kept h k (omega arith)) (linked-in-same h (same-before 0 (levelAt rooms) k (omega arith)) l) z
 
   pub cleared-lines : (s : List ℕ) (p : ℕ) → allLines mem s p ≡ allLines d s p
   cleared-lines s p = rw (job-kept h k (omega arith), k .before 0 (omega arith))
 
 -- M* and M are stored.
-module _ (mem : List ℕ) (best worst : ℕ) (s : Standing (nth mem 0) mem) where
+module _ {rooms : ℕ} (mem : List ℕ) (best worst : ℕ) (s : Standing rooms (nth mem 0) mem) where
   abbrev stored : List ℕ
-  stored = set (set mem bestAt best) worstAt worst
+  stored = set (set mem (bestAt rooms) best) (worstAt rooms) worst
 
-  pub stored-kept : KeptOutside blockedAt (rowAt 0) mem (set (set mem bestAt best) worstAt worst)
-  stored-kept = kept-set worstAt worst (kept-set bestAt best kept-all (omega arith) (omega arith)) (omega arith) (omega arith)
+  pub stored-kept : KeptOutside (blockedAt rooms) (rowAt rooms 0) mem (set (set mem (bestAt rooms) best) (worstAt rooms) worst)
+  stored-kept = kept-set (worstAt rooms) worst (kept-set (bestAt rooms) best kept-all (omega arith) (omega arith)) (omega arith) (omega arith)
 
-  pub stored-standing : Standing (nth (set (set mem bestAt best) worstAt worst) 0) (set (set mem bestAt best) worstAt worst)
+  pub stored-standing : Standing rooms (nth (set (set mem (bestAt rooms) best) (worstAt rooms) worst) 0) (set (set mem (bestAt rooms) best) (worstAt rooms) worst)
   stored-standing = rw (stored-kept .before 0 (omega arith)) (standing-choice stored-kept s (omega arith) (omega arith))
 
-  pub stored-plan : planIn (set (set mem bestAt best) worstAt worst) ≡ record { best = best; worst = worst; lines = linesIn (nth mem 3 + 1) (nth mem 0) mem }
+  pub stored-plan : planIn rooms (set (set mem (bestAt rooms) best) (worstAt rooms) worst) ≡ record { best = best; worst = worst; lines = linesIn rooms (nth mem 3 + 1) (nth mem 0) mem }
   unfolding planIn
   stored-plan =
       let w = sizes (s .job) in
-      let m : worstAt < length (set mem bestAt best) = rw (length-set mem bestAt best) (omega arith) in
-      let a : nth stored bestAt ≡ best = getD-set-other (set mem bestAt best) worstAt bestAt worst 0 (λ e. omega arith) ∙ getD-set-same mem bestAt best 0 (omega arith) in
-      let b : nth stored worstAt ≡ worst = getD-set-same (set mem bestAt best) worstAt worst 0 m in
-      rw (a, b, stored-kept .before 3 (omega arith), stored-kept .before 0 (omega arith), lines-same mem stored (nth mem 3 + 1) (nth mem 0) (omega arith) (same-behind (rowAt 0) (rowAt (nth mem 0)) stored-kept (omega arith)))
+      let m : worstAt rooms < length (set mem (bestAt rooms) best) = rw (length-set mem (bestAt rooms) best) (omega arith) in
+      let a : nth stored (bestAt rooms) ≡ best = getD-set-other (set mem (bestAt rooms) best) (worstAt rooms) (bestAt rooms) worst 0 (λ e. omega arith) ∙ getD-set-same mem (bestAt rooms) best 0 (omega arith) in
+      let b : nth stored (worstAt rooms) ≡ worst = getD-set-same (set mem (bestAt rooms) best) (worstAt rooms) worst 0 m in
+      rw (a, b, stored-kept .before 3 (omega arith), stored-kept .before 0 (omega arith), lines-same mem stored rooms (nth mem 3 + 1) (nth mem 0) (omega arith) (same-behind (rowAt rooms 0) (rowAt rooms (nth mem 0)) stored-kept (omega arith)))

@@ -26,77 +26,77 @@ use Rattle.mirguneth.proofs.FreeLaws.{Recounted, free-in, free-same}
 use Rattle.mirguneth.proofs.Drawing.{drawn-choice, top-here, fed-none, short-most}
 
 -- How many edges to u come from tasks that are not placed.
-abbrev pub blocking : List ℕ → ℕ → ℕ
-blocking mem u = length (keep (λ e. eqb (nth mem (lineAt + e .from)) 0) (incoming (jobIn mem) u))
+abbrev pub blocking : ℕ → List ℕ → ℕ → ℕ
+blocking rooms mem u = length (keep (λ e. eqb (nth mem (lineAt rooms + e .from)) 0) (incoming (jobIn mem) u))
 
 -- How many of the edges es go to u.
 abbrev pub entries : ℕ → List Edge → ℕ
 entries u es = length (keep (λ e. eqb (e .to) u) es)
 
 -- The edges from link k on are still counted; n lines are drawn up in d.
-pub record Releasing (n k : ℕ) (d mem : List ℕ) : Type 0 where
-  pub kept : KeptOutside blockedAt (rowAt 0) d mem
+pub record Releasing (rooms n k : ℕ) (d mem : List ℕ) : Type 0 where
+  pub kept : KeptOutside (blockedAt rooms) (rowAt rooms 0) d mem
   pub most : k ≤ nth d 2
-  pub blocked : (u : ℕ) → u < nth d 0 → nth mem (blockedAt + u) ≡ blocking d u + entries u (chain outNextAt (nth d 2) d k)
-  pub priorities : (u : ℕ) → u < nth d 0 → nth d (lineAt + u) ≡ 0 → nth mem (blockedAt + u) ≡ 0
-      → nth mem (priorityAt + u) ≡ topLevel (jobIn d) (earliesIn n d) u + nth d (levelAt + u)
+  pub blocked : (u : ℕ) → u < nth d 0 → nth mem (blockedAt rooms + u) ≡ blocking rooms d u + entries u (chain (outNextAt rooms) (nth d 2) d k)
+  pub priorities : (u : ℕ) → u < nth d 0 → nth d (lineAt rooms + u) ≡ 0 → nth mem (blockedAt rooms + u) ≡ 0
+      → nth mem (priorityAt rooms + u) ≡ topLevel (jobIn d) (earliesIn rooms n d) u + nth d (levelAt rooms + u)
 
-module _ {n : ℕ} {d : List ℕ} (s : Drawn n d) where
-  w : Sizes d
+module _ {rooms n : ℕ} {d : List ℕ} (s : Drawn rooms n d) where
+  w : Sizes rooms d
   w = sizes (s .standing .job)
 
-  pub release-first : (t : ℕ) → t < nth d 0 → Ranked (reverse (outgoing (jobIn d) t)) d → Releasing n (nth d (outHeadAt + t)) d d
+  pub release-first : (t : ℕ) → t < nth d 0 → Ranked rooms (reverse (outgoing (jobIn d) t)) d → Releasing rooms n (nth d (outHeadAt rooms + t)) d d
   release-first t h r =
       record {
         kept = kept-all;
         most = s .linked .head-most t h;
         blocked = λ u l. rw (s .linked .chains t h) (r .blocked u l);
         priorities = λ u l z b.
-            let f : FedIn u d = fed-none u d (omega (arith, r .blocked u l)) in
-            r .priorities u l (both-true (eq-eqb (nth d (lineAt + u)) 0 z) (eq-eqb (nth d (blockedAt + u)) 0 b)) ∙ ap (λ (x : ℕ). x + nth d (levelAt + u)) (top-here s u f);
+            let f : FedIn rooms u d = fed-none rooms u d (omega (arith, r .blocked u l)) in
+            r .priorities u l (both-true (eq-eqb (nth d (lineAt rooms + u)) 0 z) (eq-eqb (nth d (blockedAt rooms + u)) 0 b)) ∙ ap (λ (x : ℕ). x + nth d (levelAt rooms + u)) (top-here s u f);
       }
 
   -- A change among the counts and the priorities.
-  module _ {e : List ℕ} (c : KeptOutside blockedAt (rowAt 0) d e) where
+  module _ {e : List ℕ} (c : KeptOutside (blockedAt rooms) (rowAt rooms 0) d e) where
     job-released : jobIn e ≡ jobIn d
     job-released = job-kept (s .standing .job) c (omega arith)
 
-    line-released : (u : ℕ) → u < nth d 0 → nth e (lineAt + u) ≡ nth d (lineAt + u)
-    line-released u l = c .before (lineAt + u) (omega (arith, w .tasks-most))
+    line-released : (u : ℕ) → u < nth d 0 → nth e (lineAt rooms + u) ≡ nth d (lineAt rooms + u)
+    line-released u l = c .before (lineAt rooms + u) (omega (arith, w .tasks-most))
 
-    blocking-same : (u : ℕ) → blocking e u ≡ blocking d u
+    blocking-same : (u : ℕ) → blocking rooms e u ≡ blocking rooms d u
     blocking-same u =
         rw job-released
-        (ap length (keep-same (λ a. eqb (nth e (lineAt + a .from)) 0) (λ a. eqb (nth d (lineAt + a .from)) 0) (incoming (jobIn d) u)
+        (ap length (keep-same (λ a. eqb (nth e (lineAt rooms + a .from)) 0) (λ a. eqb (nth d (lineAt rooms + a .from)) 0) (incoming (jobIn d) u)
         (λ a i. rw (line-released (a .from) (rw (tasks-in d) at (s .standing .job .facts .from-task a (in-incoming (jobIn d) u a i .0)))))))
 
     -- A task that nothing blocks, and its top level.
-    fed-released : (u : ℕ) → blocking d u ≡ 0 → FedIn u e
-    fed-released u b = fed-none u e (blocking-same u ∙ b)
+    fed-released : (u : ℕ) → blocking rooms d u ≡ 0 → FedIn rooms u e
+    fed-released u b = fed-none rooms u e (blocking-same u ∙ b)
 
-    top-released : (u : ℕ) → FedIn u e → tickOf (topIn u e) * scale (jobIn e) ≡ topLevel (jobIn d) (earliesIn n d) u
+    top-released : (u : ℕ) → FedIn rooms u e → tickOf (topIn rooms u e) * scale (jobIn e) ≡ topLevel (jobIn d) (earliesIn rooms n d) u
     top-released u f =
         top-here (drawn-choice c s (omega arith) (omega arith)) u f
-        ∙ rw (job-released, c .before 3 (omega arith), placed-same d e false (nth d 3 + 1) n (omega (arith, w .losses-most)) (same-behind (rowAt 0) (rowAt n) c (omega arith)))
+        ∙ rw (job-released, c .before 3 (omega arith), placed-same d e rooms false (nth d 3 + 1) n (omega (arith, w .losses-most)) (same-behind (rowAt rooms 0) (rowAt rooms n) c (omega arith)))
 
-  module _ {k : ℕ} {mem : List ℕ} (r : Releasing n k d mem) where
-    pub release-done : k ≡ 0 → Ranked [] mem
+  module _ {k : ℕ} {mem : List ℕ} (r : Releasing rooms n k d mem) where
+    pub release-done : k ≡ 0 → Ranked rooms [] mem
     unfolding keep
     release-done e =
-        let z : chain outNextAt (nth d 2) d k ≡ [] = rw e (chain-end outNextAt d (nth d 2)) in
+        let z : chain (outNextAt rooms) (nth d 2) d k ≡ [] = rw e (chain-end (outNextAt rooms) d (nth d 2)) in
         let v : nth mem 0 ≡ nth d 0 = r .kept .before 0 (omega arith) in
         record {
           blocked = λ u l. rw (blocking-same (r .kept) u) (rw z at (r .blocked u (omega arith)));
           priorities = λ u l f.
               let g : u < nth d 0 = omega arith in
-              let (a, b) = both (eqb (nth mem (lineAt + u)) 0) (eqb (nth mem (blockedAt + u)) 0) f in
-              let y = eqb-true (nth mem (blockedAt + u)) 0 b in
-              let x : nth d (lineAt + u) ≡ 0 = sym (line-released (r .kept) u g) ∙ eqb-true (nth mem (lineAt + u)) 0 a in
+              let (a, b) = both (eqb (nth mem (lineAt rooms + u)) 0) (eqb (nth mem (blockedAt rooms + u)) 0) f in
+              let y = eqb-true (nth mem (blockedAt rooms + u)) 0 b in
+              let x : nth d (lineAt rooms + u) ≡ 0 = sym (line-released (r .kept) u g) ∙ eqb-true (nth mem (lineAt rooms + u)) 0 a in
               let fed = fed-released (r .kept) u (omega (arith, r .blocked u g)) in
-              rw (top-released (r .kept) u fed, r .kept .before (levelAt + u) (omega (arith, w .tasks-most))) (r .priorities u g x y);
+              rw (top-released (r .kept) u fed, r .kept .before (levelAt rooms + u) (omega (arith, w .tasks-most))) (r .priorities u g x y);
         }
 
-    few-released : nth mem 0 ≤ 255
+    few-released : (nth mem 0 ≤ 255) × (nth mem 0 ≤ 8 * rooms)
     few-released = rw (r .kept .before 0 (omega arith)) (w .tasks-most)
 
     -- The edge at hand.
@@ -109,16 +109,16 @@ module _ {n : ℕ} {d : List ℕ} (s : Drawn n d) where
       goes = nth mem (edgeAt d (k - 1)) / 256 % 256
 
       abbrev next : ℕ
-      next = nth d (outNextAt + (k - 1))
+      next = nth d (outNextAt rooms + (k - 1))
 
       abbrev count : ℕ
-      count = nth mem (blockedAt + goes) - 1
+      count = nth mem (blockedAt rooms + goes) - 1
 
       -- The memory with the edge not counted.
       abbrev lowered : List ℕ
-      lowered = set mem (blockedAt + goes) count
+      lowered = set mem (blockedAt rooms + goes) count
 
-      step : chain outNextAt (nth d 2) d k ≡ here ∷ chain outNextAt (nth d 2) d next
+      step : chain (outNextAt rooms) (nth d 2) d k ≡ here ∷ chain (outNextAt rooms) (nth d 2) d next
       step = chain-step (s .linked) k h (r .most)
 
       within : k - 1 < nth d 2
@@ -133,127 +133,130 @@ module _ {n : ℕ} {d : List ℕ} (s : Drawn n d) where
       goes-below : goes < nth mem 0
       goes-below = rw (r .kept .before 0 (omega arith)) release-below
 
+      pub release-within : goes < 8 * rooms
+      release-within = omega (arith, goes-below, few-released)
+
       pub release-falls : next < k
       release-falls = omega (arith, s .linked .falls (k - 1) within)
 
-      entered : (u : ℕ) → nth mem (blockedAt + u) ≡ blocking d u + entries u (chain outNextAt (nth d 2) d k)
-          → nth mem (blockedAt + u) ≡ blocking d u + (if eqb goes u then suc (entries u (chain outNextAt (nth d 2) d next)) else entries u (chain outNextAt (nth d 2) d next))
+      entered : (u : ℕ) → nth mem (blockedAt rooms + u) ≡ blocking rooms d u + entries u (chain (outNextAt rooms) (nth d 2) d k)
+          → nth mem (blockedAt rooms + u) ≡ blocking rooms d u + (if eqb goes u then suc (entries u (chain (outNextAt rooms) (nth d 2) d next)) else entries u (chain (outNextAt rooms) (nth d 2) d next))
       unfolding keep
-      entered u e = e ∙ rw (step, goes-here) (ap (λ (x : ℕ). blocking d u + x) (by (eqb (here .to) u)))
+      entered u e = e ∙ rw (step, goes-here) (ap (λ (x : ℕ). blocking rooms d u + x) (by (eqb (here .to) u)))
         where
-          by : (b : Bool) → length (if b then here ∷ keep (λ e. eqb (e .to) u) (chain outNextAt (nth d 2) d next) else keep (λ e. eqb (e .to) u) (chain outNextAt (nth d 2) d next))
-              ≡ (if b then suc (entries u (chain outNextAt (nth d 2) d next)) else entries u (chain outNextAt (nth d 2) d next))
+          by : (b : Bool) → length (if b then here ∷ keep (λ e. eqb (e .to) u) (chain (outNextAt rooms) (nth d 2) d next) else keep (λ e. eqb (e .to) u) (chain (outNextAt rooms) (nth d 2) d next))
+              ≡ (if b then suc (entries u (chain (outNextAt rooms) (nth d 2) d next)) else entries u (chain (outNextAt rooms) (nth d 2) d next))
           by true = refl
           by false = refl
 
-      entered-here : nth mem (blockedAt + goes) ≡ blocking d goes + suc (entries goes (chain outNextAt (nth d 2) d next))
+      entered-here : nth mem (blockedAt rooms + goes) ≡ blocking rooms d goes + suc (entries goes (chain (outNextAt rooms) (nth d 2) d next))
       entered-here = rw (eq-eqb goes goes refl) at (entered goes (r .blocked goes release-below))
 
-      pub release-some : 0 < nth mem (blockedAt + goes)
+      pub release-some : 0 < nth mem (blockedAt rooms + goes)
       release-some = omega (arith, entered-here)
 
-      lowered-size : length mem ≡ memorySize
+      lowered-size : length mem ≡ memorySize rooms
       lowered-size = r .kept .size ∙ w .size
 
-      lowered-kept : KeptOutside blockedAt (rowAt 0) d lowered
-      lowered-kept = let g = release-below in kept-set (blockedAt + goes) count (r .kept) (omega arith) (omega (arith, w .tasks-most))
+      lowered-kept : KeptOutside (blockedAt rooms) (rowAt rooms 0) d lowered
+      lowered-kept = let g = release-below in kept-set (blockedAt rooms + goes) count (r .kept) (omega arith) (omega (arith, w .tasks-most))
 
-      lowered-here : nth lowered (blockedAt + goes) ≡ count
-      lowered-here = getD-set-same mem (blockedAt + goes) count 0 (omega (arith, release-below, w .tasks-most, lowered-size))
+      lowered-here : nth lowered (blockedAt rooms + goes) ≡ count
+      lowered-here = getD-set-same mem (blockedAt rooms + goes) count 0 (omega (arith, release-below, w .tasks-most, lowered-size))
 
-      lowered-other : (u : ℕ) → (u ≡ goes → ⊥) → nth lowered (blockedAt + u) ≡ nth mem (blockedAt + u)
-      lowered-other u o = getD-set-other mem (blockedAt + goes) (blockedAt + u) count 0 (λ q. o (omega arith))
+      lowered-other : (u : ℕ) → (u ≡ goes → ⊥) → nth lowered (blockedAt rooms + u) ≡ nth mem (blockedAt rooms + u)
+      lowered-other u o = getD-set-other mem (blockedAt rooms + goes) (blockedAt rooms + u) count 0 (λ q. o (omega arith))
 
-      lowered-blocked : (u : ℕ) → u < nth d 0 → nth lowered (blockedAt + u) ≡ blocking d u + entries u (chain outNextAt (nth d 2) d next)
+      lowered-blocked : (u : ℕ) → u < nth d 0 → nth lowered (blockedAt rooms + u) ≡ blocking rooms d u + entries u (chain (outNextAt rooms) (nth d 2) d next)
       lowered-blocked u l = by (eqb goes u) refl
         where
-          by : (b : Bool) → eqb goes u ≡ b → nth lowered (blockedAt + u) ≡ blocking d u + entries u (chain outNextAt (nth d 2) d next)
+          by : (b : Bool) → eqb goes u ≡ b → nth lowered (blockedAt rooms + u) ≡ blocking rooms d u + entries u (chain (outNextAt rooms) (nth d 2) d next)
           by true f = let q = eqb-true goes u f in rw (← q) (lowered-here ∙ (let e = entered-here in omega arith))
           by false f = let q = eqb-false goes u f in lowered-other u (λ o. q (sym o)) ∙ rw f at (entered u (r .blocked u l))
 
       -- Only its count changed, whatever its priority is now.
-      lowered-count : Recounted goes mem lowered
+      lowered-count : Recounted rooms goes mem lowered
       lowered-count = record {
-        tasks = getD-set-other mem (blockedAt + goes) 0 count 0 (λ q. omega arith);
-        lines = λ x i. getD-set-other mem (blockedAt + goes) (lineAt + x) count 0 (λ q. omega (arith, few-released));
+        tasks = getD-set-other mem (blockedAt rooms + goes) 0 count 0 (λ q. omega arith);
+        lines = λ x i. getD-set-other mem (blockedAt rooms + goes) (lineAt rooms + x) count 0 (λ q. omega (arith, few-released));
         others = λ x i o. lowered-other x o;
       }
 
-      ranked-count : (y : ℕ) → Recounted goes mem (set lowered (priorityAt + goes) y)
+      ranked-count : (y : ℕ) → Recounted rooms goes mem (set lowered (priorityAt rooms + goes) y)
       ranked-count y =
           let few = few-released in
           record {
-            tasks = getD-set-other lowered (priorityAt + goes) 0 y 0 (λ q. omega arith) ∙ lowered-count .tasks;
-            lines = λ x i. getD-set-other lowered (priorityAt + goes) (lineAt + x) y 0 (λ q. omega arith) ∙ lowered-count .lines x i;
-            others = λ x i o. getD-set-other lowered (priorityAt + goes) (blockedAt + x) y 0 (λ q. omega arith) ∙ lowered-count .others x i o;
+            tasks = getD-set-other lowered (priorityAt rooms + goes) 0 y 0 (λ q. omega arith) ∙ lowered-count .tasks;
+            lines = λ x i. getD-set-other lowered (priorityAt rooms + goes) (lineAt rooms + x) y 0 (λ q. omega arith) ∙ lowered-count .lines x i;
+            others = λ x i o. getD-set-other lowered (priorityAt rooms + goes) (blockedAt rooms + x) y 0 (λ q. omega arith) ∙ lowered-count .others x i o;
           }
 
       -- The list of free tasks, when other tasks block it still, and when it is free.
-      pub list-held : {cells : List ℕ} {i : ℕ} → FreeList cells i mem → (count ≡ 0 → ⊥) → FreeList cells i lowered
+      pub list-held : {cells : List ℕ} {i : ℕ} → FreeList rooms cells i mem → (count ≡ 0 → ⊥) → FreeList rooms cells i lowered
       list-held l o = free-same l lowered-count goes-below release-some (rw lowered-here (omega (arith, o)))
 
-      pub list-free : {cells after : List ℕ} {i : ℕ} → FreeList cells i mem → count ≡ 0 → (y : ℕ) → length after ≡ 256 → take (i + 1) after ≡ inserted goes (take i cells)
-          → FreeList after (i + 1) (set lowered (priorityAt + goes) y)
+      pub list-free : {cells after : List ℕ} {i : ℕ} → FreeList rooms cells i mem → count ≡ 0 → (y : ℕ) → length after ≡ 256 → take (i + 1) after ≡ inserted goes (take i cells)
+          → FreeList rooms after (i + 1) (set lowered (priorityAt rooms + goes) y)
       list-free l o y z p =
-          let few = few-released in
+          let few = few-released .0 in
           let b = goes-below in
-          free-in l (ranked-count y) b release-some few (getD-set-other lowered (priorityAt + goes) (blockedAt + goes) y 0 (λ q. omega arith) ∙ lowered-here ∙ o) z p
+          free-in l (ranked-count y) b release-some few (getD-set-other lowered (priorityAt rooms + goes) (blockedAt rooms + goes) y 0 (λ q. omega arith) ∙ lowered-here ∙ o) z p
 
       -- Other tasks block it still.
-      pub release-held : (count ≡ 0 → ⊥) → Releasing n next d lowered
+      pub release-held : (count ≡ 0 → ⊥) → Releasing rooms n next d lowered
       release-held o =
           record {
             kept = lowered-kept;
             most = omega (arith, release-falls, r .most);
             blocked = lowered-blocked;
             priorities = λ u l z b.
-                let other : u ≡ goes → ⊥ = λ q. o (sym lowered-here ∙ ap (λ (x : ℕ). nth lowered (blockedAt + x)) (sym q) ∙ b) in
-                getD-set-other mem (blockedAt + goes) (priorityAt + u) count 0 (λ q. omega (arith, release-below, w .tasks-most)) ∙ r .priorities u l z (sym (lowered-other u other) ∙ b);
+                let other : u ≡ goes → ⊥ = λ q. o (sym lowered-here ∙ ap (λ (x : ℕ). nth lowered (blockedAt rooms + x)) (sym q) ∙ b) in
+                getD-set-other mem (blockedAt rooms + goes) (priorityAt rooms + u) count 0 (λ q. omega (arith, release-below, w .tasks-most)) ∙ r .priorities u l z (sym (lowered-other u other) ∙ b);
           }
 
       -- It is free.
       module _ (o : count ≡ 0) where
-        released : FedIn goes lowered
+        released : FedIn rooms goes lowered
         released = fed-released lowered-kept goes (omega (arith, lowered-here, lowered-blocked goes release-below))
 
-        pub release-asks : ((i : ℕ) × Standing i lowered × ((j c : ℕ) → j < i → c < nth lowered 3 + 1 → nth lowered (rowAt j + (2 + 3 * c)) ≤ document01 .tick))
-            × (goes < nth lowered 0) × FedIn goes lowered × FarFilled lowered
+        pub release-asks : ((i : ℕ) × Standing rooms i lowered × ((j c : ℕ) → j < i → c < nth lowered 3 + 1 → nth lowered (rowAt rooms j + (2 + 3 * c)) ≤ document01 .tick))
+            × (goes < nth lowered 0) × FedIn rooms goes lowered × FarFilled rooms lowered
         release-asks =
             let x = drawn-choice lowered-kept s (omega arith) (omega arith) in
             ((n, x .standing, λ j c l m. omega (arith, x .ticks j c l m .0, short-most (s .standing) (omega arith) (s .ticks))), rw (lowered-kept .before 0 (omega arith)) release-below, released, x .far)
 
-        pub release-level : nth lowered (levelAt + goes) ≤ 133_447_008_000
+        pub release-level : nth lowered (levelAt rooms + goes) ≤ 133_447_008_000
         unfolding jobIn
         release-level =
             let f = s .standing .job .facts in
             let m = nth d 1 in
             let few : m * m ≤ 256 = mul-le-mul {n₁ = m} {m₁ = m} {n₂ = 16} {m₂ = 16} (w .processors-most) (w .processors-most) in
-            rw (lowered-kept .before (levelAt + goes) (omega (arith, release-below, w .tasks-most)), s .levels goes release-below)
+            rw (lowered-kept .before (levelAt rooms + goes) (omega (arith, release-below, w .tasks-most)), s .levels goes release-below)
             (omega (arith, nth-most (bottomLevels (jobIn d)) goes (bottom-most document01 (jobIn d) f)))
 
-        pub release-free : (x : ℕ) → x ≡ tickOf (topIn goes lowered) * scale (jobIn lowered) → Releasing n next d (set lowered (priorityAt + goes) (x + nth lowered (levelAt + goes)))
+        pub release-free : (x : ℕ) → x ≡ tickOf (topIn rooms goes lowered) * scale (jobIn lowered) → Releasing rooms n next d (set lowered (priorityAt rooms + goes) (x + nth lowered (levelAt rooms + goes)))
         release-free x e =
             let g = release-below in
-            let y = x + nth lowered (levelAt + goes) in
-            let z : length lowered ≡ memorySize = length-set mem (blockedAt + goes) count ∙ lowered-size in
-            let blocked-same : (u : ℕ) → u < nth d 0 → nth (set lowered (priorityAt + goes) y) (blockedAt + u) ≡ nth lowered (blockedAt + u) =
-            λ u l. getD-set-other lowered (priorityAt + goes) (blockedAt + u) y 0 (λ q. omega (arith, w .tasks-most)) in
+            let y = x + nth lowered (levelAt rooms + goes) in
+            let z : length lowered ≡ memorySize rooms = length-set mem (blockedAt rooms + goes) count ∙ lowered-size in
+            let blocked-same : (u : ℕ) → u < nth d 0 → nth (set lowered (priorityAt rooms + goes) y) (blockedAt rooms + u) ≡ nth lowered (blockedAt rooms + u) =
+            λ u l. getD-set-other lowered (priorityAt rooms + goes) (blockedAt rooms + u) y 0 (λ q. omega (arith, w .tasks-most)) in
             record {
-              kept = kept-set (priorityAt + goes) y lowered-kept (omega arith) (omega (arith, w .tasks-most));
+              kept = kept-set (priorityAt rooms + goes) y lowered-kept (omega arith) (omega (arith, w .tasks-most));
               most = omega (arith, release-falls, r .most);
               blocked = λ u l. blocked-same u l ∙ lowered-blocked u l;
               priorities = λ u l i b. rank u l i (sym (blocked-same u l) ∙ b) (eqb u goes) refl;
             }
           where
-            rank : (u : ℕ) → u < nth d 0 → nth d (lineAt + u) ≡ 0 → nth lowered (blockedAt + u) ≡ 0 → (b : Bool) → eqb u goes ≡ b
-                → nth (set lowered (priorityAt + goes) (x + nth lowered (levelAt + goes))) (priorityAt + u) ≡ topLevel (jobIn d) (earliesIn n d) u + nth d (levelAt + u)
+            rank : (u : ℕ) → u < nth d 0 → nth d (lineAt rooms + u) ≡ 0 → nth lowered (blockedAt rooms + u) ≡ 0 → (b : Bool) → eqb u goes ≡ b
+                → nth (set lowered (priorityAt rooms + goes) (x + nth lowered (levelAt rooms + goes))) (priorityAt rooms + u) ≡ topLevel (jobIn d) (earliesIn rooms n d) u + nth d (levelAt rooms + u)
             rank u l i b true f =
                 let q = eqb-true u goes f in
                 rw q
-                (getD-set-same lowered (priorityAt + goes) (x + nth lowered (levelAt + goes)) 0 (omega (arith, release-below, w .tasks-most, length-set mem (blockedAt + goes) count, lowered-size))
-                ∙ rw (lowered-kept .before (levelAt + goes) (omega (arith, release-below, w .tasks-most))) (ap (λ (i : ℕ). i + nth d (levelAt + goes)) (e ∙ top-released lowered-kept goes released)))
+                (getD-set-same lowered (priorityAt rooms + goes) (x + nth lowered (levelAt rooms + goes)) 0 (omega (arith, release-below, w .tasks-most, length-set mem (blockedAt rooms + goes) count, lowered-size))
+                ∙ rw (lowered-kept .before (levelAt rooms + goes) (omega (arith, release-below, w .tasks-most))) (ap (λ (i : ℕ). i + nth d (levelAt rooms + goes)) (e ∙ top-released lowered-kept goes released)))
             rank u l i b false f =
                 let q = eqb-false u goes f in
-                getD-set-other lowered (priorityAt + goes) (priorityAt + u) (x + nth lowered (levelAt + goes)) 0 (λ o. q (omega arith))
-                ∙ getD-set-other mem (blockedAt + goes) (priorityAt + u) count 0 (λ o. omega (arith, release-below, w .tasks-most))
+                getD-set-other lowered (priorityAt rooms + goes) (priorityAt rooms + u) (x + nth lowered (levelAt rooms + goes)) 0 (λ o. q (omega arith))
+                ∙ getD-set-other mem (blockedAt rooms + goes) (priorityAt rooms + u) count 0 (λ o. omega (arith, release-below, w .tasks-most))
                 ∙ r .priorities u l i (sym (lowered-other u q) ∙ b)

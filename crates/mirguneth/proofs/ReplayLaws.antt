@@ -29,7 +29,7 @@ use Rattle.mirguneth.specs.Replaying.{StopsIn, outcomesIn, RisingIn, Rou
 use Rattle.mirguneth.specs.declared.Answer.{Answer}
 use Rattle.mirguneth.specs.declared.Answer.the-variants.{Done, Refusal}
 use Rattle.mirguneth.proofs.Held.{same-before, job-kept, linked-out-same}
-use Rattle.mirguneth.proofs.JobAndPlan.{both-no, both-next, both-facts}
+use Rattle.mirguneth.proofs.JobAndPlan.{both-next}
 use Rattle.mirguneth.proofs.FirstLaws.{least-same, lowest-same}
 
 -- The order of outcomes -------------------------------------------------------------------------------------------------
@@ -94,36 +94,36 @@ stops-read (good ss) cells n (_, f) = (ss, refl, λ p h. f p h .0)
 stops-read (bad k) cells n e = absurd (let z : _≡_ {A = ℕ} 0 1 = cc in omega arith)
 
 -- The plan in d has run under the stops in the cells, and e is the memory after it.
-module _ {d e cells : List ℕ} (h : PlanHeld d) (r : RoundRun cells d e) where
-  pub run-asked : LinkedOut d → Standing (nth e 0) e × RisingIn e × LinkedOut e
-  run-asked l = (r .standing, r .rising, linked-out-same (h .standing .job) (same-before 0 levelAt (r .outside) (omega arith)) l)
+module _ {rooms : ℕ} {d e cells : List ℕ} (h : PlanHeld rooms d) (r : RoundRun rooms cells d e) where
+  pub run-asked : LinkedOut rooms d → Standing rooms (nth e 0) e × RisingIn rooms e × LinkedOut rooms e
+  run-asked l = (r .standing, r .rising, linked-out-same (h .standing .job) (same-before 0 (levelAt rooms) (r .outside) (omega arith)) l)
 
   run-text : (ss : List Stop) → StopsIn ss cells
-      → replayText document01 (jobIn e) (outcomesIn e) ≡ replayText document01 (jobIn d) (replay (jobIn d) ss (planIn d .lines))
+      → replayText document01 (jobIn e) (outcomesIn rooms e) ≡ replayText document01 (jobIn d) (replay (jobIn d) ss (planIn rooms d .lines))
   run-text ss i =
       rw (r .outcomes ss i, job-kept (h .standing .job) (r .outside) (omega arith))
-      (text-alike (alike-reverse (replay (jobIn d) ss (planIn d .lines))) document01 (jobIn d))
+      (text-alike (alike-reverse (replay (jobIn d) ss (planIn rooms d .lines))) document01 (jobIn d))
 
   -- Its lines do not fit, or they were written.
   module _ (stops out : List ℕ) (k n : ℕ) (g : StopsLoaded (readStops document01 (jobIn d) stops) cells (Next k))
-      (q : n ≡ length (replayText document01 (jobIn e) (outcomesIn e))) where
-    pub run-short : length out < n → Answered (replayIn d stops (length out)) out out (Refusal 8)
+      (q : n ≡ length (replayText document01 (jobIn e) (outcomesIn rooms e))) where
+    pub run-short : length out < n → Answered (replayIn rooms d stops (length out)) out out (Refusal 8)
     unfolding replayIn
     run-short l =
         let (ss, f, i) = stops-read (readStops document01 (jobIn d) stops) cells k g in
-        rw (f, ← run-text ss i, lt-ltb (length out) (length (replayText document01 (jobIn e) (outcomesIn e))) (omega arith)) (refl, refl)
+        rw (f, ← run-text ss i, lt-ltb (length out) (length (replayText document01 (jobIn e) (outcomesIn rooms e))) (omega arith)) (refl, refl)
 
-    pub run-done : n ≤ length out → (m : ℕ) (z : List ℕ) → m ≡ length (replayText document01 (jobIn e) (outcomesIn e))
-        → z ≡ over out 0 (replayText document01 (jobIn e) (outcomesIn e)) → Answered (replayIn d stops (length out)) out z (Done m)
+    pub run-done : n ≤ length out → (m : ℕ) (z : List ℕ) → m ≡ length (replayText document01 (jobIn e) (outcomesIn rooms e))
+        → z ≡ over out 0 (replayText document01 (jobIn e) (outcomesIn rooms e)) → Answered (replayIn rooms d stops (length out)) out z (Done m)
     unfolding replayIn
     run-done l m z a o =
         let (ss, f, i) = stops-read (readStops document01 (jobIn d) stops) cells k g in
-        rw (f, ← run-text ss i, le-ltb (length out) (length (replayText document01 (jobIn e) (outcomesIn e))) (omega arith)) (ap good a, o)
+        rw (f, ← run-text ss i, le-ltb (length out) (length (replayText document01 (jobIn e) (outcomesIn rooms e))) (omega arith)) (ap good a, o)
 
-pub run-refused : (d cells stops out : List ℕ) (n : ℕ) → StopsLoaded (readStops document01 (jobIn d) stops) cells (Refused n)
-    → Answered (replayIn d stops (length out)) out out (Refusal n)
+pub run-refused : (rooms : ℕ) (d cells stops out : List ℕ) (n : ℕ) → StopsLoaded (readStops document01 (jobIn d) stops) cells (Refused n)
+    → Answered (replayIn rooms d stops (length out)) out out (Refusal n)
 unfolding replayIn
-run-refused d cells stops out n h = rw (stops-refused (readStops document01 (jobIn d) stops) cells n h) (refl, refl)
+run-refused rooms d cells stops out n h = rw (stops-refused (readStops document01 (jobIn d) stops) cells n h) (refl, refl)
 
 -- The three texts -----------------------------------------------------------------------------------------------------------
 
@@ -153,16 +153,10 @@ answer-told job plan stops room = by (readJob document01 job)
     by (good j) = then j (readPlan document01 j plan)
     by (bad n) = refl
 
-module _ (job plan stops mem out : List ℕ) (n : ℕ) where
-  pub replay-refused : BothLoaded (readBoth job plan) mem (Refused n) → Answered (replayAnswer document01 job plan stops (length out)) out out (Refusal n)
-  replay-refused h = rw (answer-told job plan stops (length out), both-no job plan mem n h) (refl, refl)
+pub replay-refused : (job plan stops out : List ℕ) (n : ℕ) → readBoth job plan ≡ bad n → Answered (replayAnswer document01 job plan stops (length out)) out out (Refusal n)
+replay-refused job plan stops out n h = rw (answer-told job plan stops (length out), h) (refl, refl)
 
-  module _ (h : BothLoaded (readBoth job plan) mem (Next n)) where
-    pub replay-asked : PlanHeld mem × LinkedOut mem
-    replay-asked =
-        let (e, s, l) = both-next job plan mem n h in
-        (record { standing = s; facts = both-facts job plan (jobIn mem) (planIn mem) e }, l)
-
-    pub replay-put : (z : List ℕ) (r : Answer) → Answered (replayIn mem stops (length out)) out z r → Answered (replayAnswer document01 job plan stops (length out)) out z r
-    unfolding replayIn
-    replay-put z r a = rw (answer-told job plan stops (length out), both-next job plan mem n h .0) a
+pub replay-put : (job plan stops mem out : List ℕ) (n rooms : ℕ) → BothLoaded rooms (readBoth job plan) mem (Next n) → (z : List ℕ) (r : Answer)
+    → Answered (replayIn rooms mem stops (length out)) out z r → Answered (replayAnswer document01 job plan stops (length out)) out z r
+unfolding replayIn
+replay-put job plan stops mem out n rooms h z r a = rw (answer-told job plan stops (length out), both-next job plan mem n h .0) a

@@ -71,34 +71,34 @@ module _ (x : ℕ) where
 -- The lines that are left -----------------------------------------------------------------------------------------------
 
 -- The R lines of the tasks from t on, and the L line.
-unfoldable pub restText : ℕ → List ℕ → List ℕ
-restText t mem = resultLines document01 (countFrom t (nth mem 0 - t)) (outcomesIn mem) ++ endLine document01 (roundEnd (jobIn mem) (outcomesIn mem))
+unfoldable pub restText : ℕ → ℕ → List ℕ → List ℕ
+restText rooms t mem = resultLines document01 (countFrom t (nth mem 0 - t)) (outcomesIn rooms mem) ++ endLine document01 (roundEnd (jobIn mem) (outcomesIn rooms mem))
 
-pub rest-all : (mem : List ℕ) → restText 0 mem ≡ replayText document01 (jobIn mem) (outcomesIn mem)
+pub rest-all : (rooms : ℕ) (mem : List ℕ) → restText rooms 0 mem ≡ replayText document01 (jobIn mem) (outcomesIn rooms mem)
 unfolding restText replayText
-rest-all mem = rw (tasks-in mem, sub-zero (nth mem 0))
+rest-all rooms mem = rw (tasks-in mem, sub-zero (nth mem 0))
 
-first-line : {t x p : ℕ} {mem : List ℕ} → FirstIn t x p mem
-    → resultLine document01 t (firstFinish t (outcomesIn mem)) (firstBox t (firstFinish t (outcomesIn mem)) (outcomesIn mem)) ≡ resultLine document01 t (timeIn x) p
+first-line : {rooms t x p : ℕ} {mem : List ℕ} → FirstIn rooms t x p mem
+    → resultLine document01 t (firstFinish t (outcomesIn rooms mem)) (firstBox t (firstFinish t (outcomesIn rooms mem)) (outcomesIn rooms mem)) ≡ resultLine document01 t (timeIn x) p
 first-line {t} {x} {p} f =
     ⊎-elim
     (λ (e : x ≡ neverCell). rw (← f .finish, e))
     (λ n. rw (← f .finish, ← f .box n))
     (equal-or-not x neverCell)
 
-pub rest-next : (t x p : ℕ) (mem : List ℕ) → t < nth mem 0 → FirstIn t x p mem → restText t mem ≡ resultLine document01 t (timeIn x) p ++ restText (t + 1) mem
+pub rest-next : {rooms : ℕ} (t x p : ℕ) (mem : List ℕ) → t < nth mem 0 → FirstIn rooms t x p mem → restText rooms t mem ≡ resultLine document01 t (timeIn x) p ++ restText rooms (t + 1) mem
 unfolding restText countFrom resultLines
 rest-next t x p mem h f =
     let n : nth mem 0 - t ≡ suc (nth mem 0 - suc t) = omega arith in
     rw (n, add-one t, first-line f) (append-assoc (resultLine document01 t (timeIn x) p) _ _)
 
-pub rest-length : (t x p : ℕ) (mem : List ℕ) → t < nth mem 0 → FirstIn t x p mem
-    → length (restText t mem) ≡ length (resultLine document01 t (timeIn x) p) + length (restText (t + 1) mem)
-rest-length t x p mem h f = ap length (rest-next t x p mem h f) ∙ length-append (resultLine document01 t (timeIn x) p) (restText (t + 1) mem)
+pub rest-length : {rooms : ℕ} (t x p : ℕ) (mem : List ℕ) → t < nth mem 0 → FirstIn rooms t x p mem
+    → length (restText rooms t mem) ≡ length (resultLine document01 t (timeIn x) p) + length (restText rooms (t + 1) mem)
+rest-length {rooms} t x p mem h f = ap length (rest-next t x p mem h f) ∙ length-append (resultLine document01 t (timeIn x) p) (restText rooms (t + 1) mem)
 
-pub rest-end : (t x : ℕ) (mem : List ℕ) → nth mem 0 ≤ t → timeIn x ≡ end (jobIn mem) least (outcomesIn mem) → restText t mem ≡ endLine document01 (timeIn x)
+pub rest-end : (rooms : ℕ) (t x : ℕ) (mem : List ℕ) → nth mem 0 ≤ t → timeIn x ≡ end (jobIn mem) least (outcomesIn rooms mem) → restText rooms t mem ≡ endLine document01 (timeIn x)
 unfolding restText countFrom resultLines roundEnd
-rest-end t x mem h e = let n : nth mem 0 - t ≡ 0 = omega arith in rw (n, e)
+rest-end rooms t x mem h e = let n : nth mem 0 - t ≡ 0 = omega arith in rw (n, e)
 
 -- One text after another into what is left of an output -------------------------------------------------------------------
 

@@ -37,28 +37,28 @@ ordered-last j seen (m ∷ ns) n (o, os) =
     let (p, before, f, g) = ordered-last j (m .task ∷ seen) ns n os in
     ((o, p), before, f, λ t i. ⊎-elim (⊎-elim (λ e. inr (inl e)) inl) (λ k. inr (inr k)) (g t i))
 
-abbrev lineIn : ℕ → ℕ → List ℕ → Line
-lineIn w k mem = record { task = nth mem (rowAt k); replicas = rowReplicas (rowAt k) w mem }
+abbrev lineIn : ℕ → ℕ → ℕ → List ℕ → Line
+lineIn rooms w k mem = record { task = nth mem (rowAt rooms k); replicas = rowReplicas (rowAt rooms k) w mem }
 
 module _ (w : ℕ) (mem : List ℕ) where
-  task-among : (t n : ℕ) → In t (map (λ n. n .task) (linesIn w n mem)) → (i : ℕ) × (i < n) × (nth mem (rowAt i) ≡ t)
+  task-among : (rooms : ℕ) (t n : ℕ) → In t (map (λ n. n .task) (linesIn rooms w n mem)) → (i : ℕ) × (i < n) × (nth mem (rowAt rooms i) ≡ t)
   unfolding linesIn
-  task-among t (suc n) h =
+  task-among rooms t (suc n) h =
       ⊎-elim
-      (λ i. let r = task-among t n i in (r .0, omega (arith, r .1), r .2))
+      (λ i. let r = task-among rooms t n i in (r .0, omega (arith, r .1), r .2))
       (⊎-elim (λ e. (n, omega arith, e)) absurd)
-      (in-append t (map (λ n. n .task) (linesIn w n mem)) (nth mem (rowAt n) ∷ []) (rw (map-append (λ n. n .task) (linesIn w n mem) (lineIn w n mem ∷ [])) at h))
+      (in-append t (map (λ n. n .task) (linesIn rooms w n mem)) (nth mem (rowAt rooms n) ∷ []) (rw (map-append (λ n. n .task) (linesIn rooms w n mem) (lineIn rooms w n mem ∷ [])) at h))
 
   -- Line k follows lines with the tasks of those before it.
-  pub line-among : (j : Job) (n : ℕ) → Ordered j [] (linesIn w n mem) → (k : ℕ) → k < n
-      → (before : List ℕ) × LineFacts j before (lineIn w k mem) × ((t : ℕ) → In t before → (i : ℕ) × (i < k) × (nth mem (rowAt i) ≡ t))
+  pub line-among : (rooms : ℕ) (j : Job) (n : ℕ) → Ordered j [] (linesIn rooms w n mem) → (k : ℕ) → k < n
+      → (before : List ℕ) × LineFacts j before (lineIn rooms w k mem) × ((t : ℕ) → In t before → (i : ℕ) × (i < k) × (nth mem (rowAt rooms i) ≡ t))
   unfolding linesIn
-  line-among j zero o k h = absurd (omega arith)
-  line-among j (suc n) o k h =
-      let (p, before, f, g) = ordered-last j [] (linesIn w n mem) (lineIn w n mem) o in
+  line-among rooms j zero o k h = absurd (omega arith)
+  line-among rooms j (suc n) o k h =
+      let (p, before, f, g) = ordered-last j [] (linesIn rooms w n mem) (lineIn rooms w n mem) o in
       ⊎-elim
-      (λ (e : k ≡ n). rw e (before, f, λ t i. ⊎-elim absurd (task-among t n) (g t i)))
-      (λ l. line-among j n p k l)
+      (λ (e : k ≡ n). rw e (before, f, λ t i. ⊎-elim absurd (task-among rooms t n) (g t i)))
+      (λ l. line-among rooms j n p k l)
       (last-or-before n k h)
 
   -- Processors by their places.
@@ -84,49 +84,49 @@ rising-at [] i d h = absurd (omega arith)
 rising-at (p ∷ ps) zero d h = rising p ps d .0 (nth ps 0) (nth-in ps 0 (omega arith))
 rising-at (p ∷ ps) (suc i) d h = rising-at ps i (rising p ps d .1) (omega arith)
 
-module _ {mem : List ℕ} (s : Standing (nth mem 0) mem) (o : Ordered (jobIn mem) [] (linesIn (nth mem 3 + 1) (nth mem 0) mem)) where
-  pub fed-lines : (k : ℕ) → k < nth mem 0 → FedBefore k mem
+module _ {rooms : ℕ} {mem : List ℕ} (s : Standing rooms (nth mem 0) mem) (o : Ordered (jobIn mem) [] (linesIn rooms (nth mem 3 + 1) (nth mem 0) mem)) where
+  pub fed-lines : (k : ℕ) → k < nth mem 0 → FedBefore rooms k mem
   fed-lines k h e m =
-      let (before, f, g) = line-among (nth mem 3 + 1) mem (jobIn mem) (nth mem 0) o k h in
+      let (before, f, g) = line-among (nth mem 3 + 1) mem rooms (jobIn mem) (nth mem 0) o k h in
       let (i, l, q) = g (e .from) (f .fed e m) in
       let own = s .line-of i (omega arith) in
-      let here : nth mem (lineAt + e .from) ≡ suc i = rw q at own in
+      let here : nth mem (lineAt rooms + e .from) ≡ suc i = rw q at own in
       (omega arith, omega arith)
 
-  pub rising-lines : RisingIn mem
+  pub rising-lines : RisingIn rooms mem
   rising-lines i c h g =
       let w = nth mem 3 + 1 in
-      let (before, f, _) = line-among w mem (jobIn mem) (nth mem 0) o i h in
-      let ps = map (λ r. r .processor) (rowReplicas (rowAt i) w mem) in
-      let up = rising-at ps c (f .ascends) (omega (arith, boxes-length w mem (rowAt i) w)) in
-      let here = boxes-at w mem (rowAt i) w c (omega arith) in
-      let next = boxes-at w mem (rowAt i) w (suc c) (omega arith) in
+      let (before, f, _) = line-among w mem rooms (jobIn mem) (nth mem 0) o i h in
+      let ps = map (λ r. r .processor) (rowReplicas (rowAt rooms i) w mem) in
+      let up = rising-at ps c (f .ascends) (omega (arith, boxes-length w mem (rowAt rooms i) w)) in
+      let here = boxes-at w mem (rowAt rooms i) w c (omega arith) in
+      let next = boxes-at w mem (rowAt rooms i) w (suc c) (omega arith) in
       rw (← here, add-one c, ← next) up
 
 -- Line after line -----------------------------------------------------------------------------------------------------
 
-lines-more : (k w : ℕ) (mem : List ℕ) → copies (jobIn mem) (linesIn w k mem) ++ copiesIn k w mem ≡ copies (jobIn mem) (linesIn w (suc k) mem)
+lines-more : (rooms : ℕ) (k w : ℕ) (mem : List ℕ) → copies (jobIn mem) (linesIn rooms w k mem) ++ copiesIn rooms k w mem ≡ copies (jobIn mem) (linesIn rooms w (suc k) mem)
 unfolding linesIn copiesIn
-lines-more k w mem = sym (copies-more (jobIn mem) (linesIn w k mem) (lineIn w k mem))
+lines-more rooms k w mem = sym (copies-more (jobIn mem) (linesIn rooms w k mem) (lineIn rooms w k mem))
 
 -- The replicas of a line are as they were.
-copies-retimed : {a n : ℕ} {d e : List ℕ} → Retimed a n d e → JobHeld d → (k c : ℕ) → c ≤ 8 → copiesIn k c e ≡ copiesIn k c d
+copies-retimed : {rooms a n : ℕ} {d e : List ℕ} → Retimed rooms a n d e → JobHeld rooms d → (k c : ℕ) → c ≤ 8 → copiesIn rooms k c e ≡ copiesIn rooms k c d
 unfolding copiesIn
-copies-retimed {d = d} {e} z h k c g =
-    let ps : List ℕ → List ℕ = λ x. map (λ r. r .processor) (rowReplicas (rowAt k) c x) in
+copies-retimed {rooms} {d = d} {e} z h k c g =
+    let ps : List ℕ → List ℕ = λ x. map (λ r. r .processor) (rowReplicas (rowAt rooms k) c x) in
     let same : ps e ≡ ps d =
-    ext-getD 0 (ps e) (ps d) (boxes-length c e (rowAt k) c ∙ sym (boxes-length c d (rowAt k) c)) (λ i l.
-    let b : i < c = rw (boxes-length c e (rowAt k) c) at l in
-    boxes-at c e (rowAt k) c i b ∙ processor-retimed z k i (omega arith) ∙ sym (boxes-at c d (rowAt k) c i b)) in
+    ext-getD 0 (ps e) (ps d) (boxes-length c e (rowAt rooms k) c ∙ sym (boxes-length c d (rowAt rooms k) c)) (λ i l.
+    let b : i < c = rw (boxes-length c e (rowAt rooms k) c) at l in
+    boxes-at c e (rowAt rooms k) c i b ∙ processor-retimed z k i (omega arith) ∙ sym (boxes-at c d (rowAt rooms k) c i b)) in
     rw (job-retimed z h, task-retimed z k, same)
 
 -- k lines have run, from a memory d.
-pub record RoundRuns (k : ℕ) (stops cells d e : List ℕ) : Type 0 where
-  pub running : Running k 0 cells e
-  pub retimed : Retimed 0 (nth d 0) d e
-  pub outcomes : (ss : List Stop) → StopsIn ss stops → placedIn false (nth e 3 + 1) k e ≡ walked (jobIn d) ss [] (copies (jobIn d) (linesIn (nth d 3 + 1) k d))
+pub record RoundRuns (rooms k : ℕ) (stops cells d e : List ℕ) : Type 0 where
+  pub running : Running rooms k 0 cells e
+  pub retimed : Retimed rooms 0 (nth d 0) d e
+  pub outcomes : (ss : List Stop) → StopsIn ss stops → placedIn rooms false (nth e 3 + 1) k e ≡ walked (jobIn d) ss [] (copies (jobIn d) (linesIn rooms (nth d 3 + 1) k d))
 
-pub round-first : (stops : List ℕ) {mem : List ℕ} → Standing (nth mem 0) mem → RoundRuns 0 stops (replicate 16 0) mem mem
+pub round-first : {rooms : ℕ} (stops : List ℕ) {mem : List ℕ} → Standing rooms (nth mem 0) mem → RoundRuns rooms 0 stops (replicate 16 0) mem mem
 unfolding ready ranIn rowOutcomes placedIn linesIn copies walked walk
 round-first stops {mem} s =
     let w = sizes (s .job) in
@@ -142,13 +142,13 @@ round-first stops {mem} s =
       outcomes = λ ss h. refl;
     }
 
-module _ (k : ℕ) {stops cells d e : List ℕ} (l : RoundRuns k stops cells d e) (s : Standing (nth d 0) d) (o : Ordered (jobIn d) [] (planIn d .lines)) where
+module _ {rooms : ℕ} (k : ℕ) {stops cells d e : List ℕ} (l : RoundRuns rooms k stops cells d e) (s : Standing rooms (nth d 0) d) (o : Ordered (jobIn d) [] (planIn rooms d .lines)) where
   -- What the next line asks for.
-  pub round-asks : {delays : List ℕ} → DelayTable delays d → k < nth d 0 → DelayTable delays e × (k < nth e 0) × FedBefore k e
+  pub round-asks : {delays : List ℕ} → DelayTable delays d → k < nth d 0 → DelayTable delays e × (k < nth e 0) × FedBefore rooms k e
   unfolding planIn
-  round-asks t h = (delays-kept (s .job) (same-before 0 jobSize (l .retimed .outside) (omega arith)) t, rw (cell-retimed (l .retimed) 0 (omega arith)) h, fed-retimed (l .retimed) (s .job) k (fed-lines s o k h))
+  round-asks t h = (delays-kept (s .job) (same-before 0 (jobSize rooms) (l .retimed .outside) (omega arith)) t, rw (cell-retimed (l .retimed) 0 (omega arith)) h, fed-retimed (l .retimed) (s .job) k (fed-lines s o k h))
 
-  pub round-next : {after f : List ℕ} → k < nth d 0 → Running (suc k) 0 after f → LineRun k stops e f → RoundRuns (k + 1) stops after d f
+  pub round-next : {after f : List ℕ} → k < nth d 0 → Running rooms (suc k) 0 after f → LineRun rooms k stops e f → RoundRuns rooms (k + 1) stops after d f
   round-next {after} {f} h r q =
       let w = sizes (s .job) in
       let j : jobIn e ≡ jobIn d = job-retimed (l .retimed) (s .job) in
@@ -160,17 +160,17 @@ module _ (k : ℕ) {stops cells d e : List ℕ} (l : RoundRuns k stops cells d e
         outcomes = λ ss g.
             q .outcomes ss g
             ∙ rw (j, l .outcomes ss g, three, copies-retimed (l .retimed) (s .job) k (nth d 3 + 1) (omega arith))
-            (sym (walked-append (jobIn d) ss [] (copies (jobIn d) (linesIn (nth d 3 + 1) k d)) (copiesIn k (nth d 3 + 1) d)) ∙ ap (walked (jobIn d) ss []) (lines-more k (nth d 3 + 1) d));
+            (sym (walked-append (jobIn d) ss [] (copies (jobIn d) (linesIn rooms (nth d 3 + 1) k d)) (copiesIn rooms k (nth d 3 + 1) d)) ∙ ap (walked (jobIn d) ss []) (lines-more rooms k (nth d 3 + 1) d));
       }
 
-  pub round-done : k ≡ nth d 0 → RoundRun stops d e
+  pub round-done : k ≡ nth d 0 → RoundRun rooms stops d e
   unfolding planIn walked replay
   round-done q =
       let w = sizes (s .job) in
       let zero-cell : nth e 0 ≡ nth d 0 = cell-retimed (l .retimed) 0 (omega arith) in
       let three : nth e 3 ≡ nth d 3 = cell-retimed (l .retimed) 3 (omega arith) in
       record {
-        outside = kept-wider (rowAt 0) farAt (l .retimed .outside) (omega arith) (omega arith);
+        outside = kept-wider (rowAt rooms 0) (farAt rooms) (l .retimed .outside) (omega arith) (omega arith);
         standing = l .running .standing;
         rising = λ i c h g.
             let u : i < nth d 0 = rw zero-cell at h in

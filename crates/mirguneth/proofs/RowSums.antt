@@ -18,7 +18,7 @@ use Rattle.mirguneth.proofs.Held.{below-same, tasks-in, processors-in, 
 -- Rows --------------------------------------------------------------------------------------------------------
 
 -- The cells of row r end within the job.
-pub row-room : {mem : List ℕ} → Sizes mem → (r : ℕ) → r < nth mem 0 + nth mem 1 → 4 + r * (nth mem 1 + 1) + 1 + nth mem 1 ≤ jobSize
+pub row-room : {rooms : ℕ} {mem : List ℕ} → Sizes rooms mem → (r : ℕ) → r < nth mem 0 + nth mem 1 → 4 + r * (nth mem 1 + 1) + 1 + nth mem 1 ≤ jobSize rooms
 row-room {mem} s r h = omega (arith, row-below s r (nth mem 1 - 1) h (omega arith))
 
 module _ (mem : List ℕ) where
@@ -37,7 +37,7 @@ module _ (mem : List ℕ) where
       below-same (delay (jobIn mem) p) (λ q. nth mem (a + 1 + q)) (processors-in mem)
       (λ q g. let e : a + (q + 1) ≡ a + 1 + q = omega arith in delay-in mem p q h g ∙ ap (λ (x : ℕ). nth mem x) e)
 
-  module _ (held : JobHeld mem) where
+  module _ {rooms : ℕ} (held : JobHeld rooms mem) where
     pub run-most : (t q : ℕ) → t < nth mem 0 → q < nth mem 1 → nth mem (4 + t * (nth mem 1 + 1) + 1 + q) ≤ 1_000_000
     run-most t q h g =
         let e : 4 + t * (nth mem 1 + 1) + (q + 1) ≡ 4 + t * (nth mem 1 + 1) + 1 + q = omega arith in
@@ -74,7 +74,7 @@ sum-others f p (x ∷ xs) e = by (eqb x p) refl (sum-others f p xs e)
 abbrev pub rowSum : List ℕ → ℕ → ℕ
 rowSum mem r = sum (map (λ q. nth mem (4 + r * (nth mem 1 + 1) + 1 + q)) (below (nth mem 1)))
 
-module _ (mem : List ℕ) (held : JobHeld mem) where
+module _ {rooms : ℕ} (mem : List ℕ) (held : JobHeld rooms mem) where
   pub run-sum-most : (t : ℕ) → t < nth mem 0 → rowSum mem t ≤ 16_000_000
   run-sum-most t h =
       let s = sizes held in

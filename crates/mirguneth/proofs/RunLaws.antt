@@ -41,63 +41,63 @@ processor-place c e = omega arith
 late-place : (c : ℕ) → (3 + 3 * c) % 3 ≡ 2 → ⊥
 late-place c e = omega arith
 
-pub retimed-none : {k n : ℕ} {d : List ℕ} → Retimed k n d d
+pub retimed-none : {rooms k n : ℕ} {d : List ℕ} → Retimed rooms k n d d
 retimed-none = record { outside = kept-all; row = λ i o h g. refl }
 
-pub retimed-set : {k n : ℕ} {d e : List ℕ} (i c y : ℕ) → Retimed k n d e → k ≤ i → i < n → c < 8 → Retimed k n d (set e (rowAt i + (2 + 3 * c)) y)
-retimed-set {k} {n} {d} {e} i c y r a b h =
+pub retimed-set : {rooms k n : ℕ} {d e : List ℕ} (i c y : ℕ) → Retimed rooms k n d e → k ≤ i → i < n → c < 8 → Retimed rooms k n d (set e (rowAt rooms i + (2 + 3 * c)) y)
+retimed-set {rooms} {k} {n} {d} {e} i c y r a b h =
     record {
-      outside = kept-set (rowAt i + (2 + 3 * c)) y (r .outside) (omega arith) (omega arith);
-      row = λ m o g f. getD-set-other e (rowAt i + (2 + 3 * c)) (rowAt m + o) y 0 (λ q. let z : i ≡ m = omega arith in f (early-place c o (omega arith))) ∙ r .row m o g f;
+      outside = kept-set (rowAt rooms i + (2 + 3 * c)) y (r .outside) (omega arith) (omega arith);
+      row = λ m o g f. getD-set-other e (rowAt rooms i + (2 + 3 * c)) (rowAt rooms m + o) y 0 (λ q. let z : i ≡ m = omega arith in f (early-place c o (omega arith))) ∙ r .row m o g f;
     }
 
-pub retimed-then : {k n m : ℕ} {d e f : List ℕ} → Retimed 0 n d e → Retimed k m e f → m ≤ n → Retimed 0 n d f
-retimed-then {k} {n} {m} p q h =
+pub retimed-then : {rooms k n m : ℕ} {d e f : List ℕ} → Retimed rooms 0 n d e → Retimed rooms k m e f → m ≤ n → Retimed rooms 0 n d f
+retimed-then {rooms} {k} {n} {m} p q h =
     record {
-      outside = kept-then (p .outside) (kept-wider (rowAt 0) (rowAt n) (q .outside) (omega arith) (omega arith));
+      outside = kept-then (p .outside) (kept-wider (rowAt rooms 0) (rowAt rooms n) (q .outside) (omega arith) (omega arith));
       row = λ i o g f. q .row i o g f ∙ p .row i o g f;
     }
 
-module _ {k n : ℕ} {d e : List ℕ} (z : Retimed k n d e) where
-  pub cell-retimed : (i : ℕ) → i < rowAt 0 → nth e i ≡ nth d i
+module _ {rooms k n : ℕ} {d e : List ℕ} (z : Retimed rooms k n d e) where
+  pub cell-retimed : (i : ℕ) → i < rowAt rooms 0 → nth e i ≡ nth d i
   cell-retimed i h = z .outside .before i (omega arith)
 
-  pub task-retimed : (i : ℕ) → nth e (rowAt i) ≡ nth d (rowAt i)
-  task-retimed i = rw (add-zero (rowAt i)) at (z .row i 0 (omega arith) (λ q. omega arith))
+  pub task-retimed : (i : ℕ) → nth e (rowAt rooms i) ≡ nth d (rowAt rooms i)
+  task-retimed i = rw (add-zero (rowAt rooms i)) at (z .row i 0 (omega arith) (λ q. omega arith))
 
-  pub processor-retimed : (i c : ℕ) → c < 8 → nth e (rowAt i + (1 + 3 * c)) ≡ nth d (rowAt i + (1 + 3 * c))
+  pub processor-retimed : (i c : ℕ) → c < 8 → nth e (rowAt rooms i + (1 + 3 * c)) ≡ nth d (rowAt rooms i + (1 + 3 * c))
   processor-retimed i c h = z .row i (1 + 3 * c) (omega arith) (processor-place c)
 
-  late-retimed : (i c : ℕ) → c < 8 → nth e (rowAt i + (3 + 3 * c)) ≡ nth d (rowAt i + (3 + 3 * c))
+  late-retimed : (i c : ℕ) → c < 8 → nth e (rowAt rooms i + (3 + 3 * c)) ≡ nth d (rowAt rooms i + (3 + 3 * c))
   late-retimed i c h = z .row i (3 + 3 * c) (omega arith) (late-place c)
 
-  module _ (s : JobHeld d) where
+  module _ (s : JobHeld rooms d) where
     pub job-retimed : jobIn e ≡ jobIn d
     job-retimed = job-kept s (z .outside) (omega arith)
 
-    pub fed-retimed : (i : ℕ) → FedBefore i d → FedBefore i e
+    pub fed-retimed : (i : ℕ) → FedBefore rooms i d → FedBefore rooms i e
     fed-retimed i f x h =
         let w = sizes s in
-        let g : In x (incoming (jobIn d) (nth d (rowAt i))) = rw (job-retimed, task-retimed i) at h in
-        let t : x .from < nth d 0 = rw (tasks-in d) at (s .facts .from-task x (in-incoming (jobIn d) (nth d (rowAt i)) x g .0)) in
-        rw (cell-retimed (lineAt + x .from) (omega arith)) (f x g)
+        let g : In x (incoming (jobIn d) (nth d (rowAt rooms i))) = rw (job-retimed, task-retimed i) at h in
+        let t : x .from < nth d 0 = rw (tasks-in d) at (s .facts .from-task x (in-incoming (jobIn d) (nth d (rowAt rooms i)) x g .0)) in
+        rw (cell-retimed (lineAt rooms + x .from) (omega arith)) (f x g)
 
   -- Lines whose early times are those of ticks still stand.
-  pub standing-retimed : Standing (nth d 0) d → ((i c : ℕ) → i < nth d 0 → c < nth d 3 + 1 → Small (document01 .tick) (nth e (rowAt i + (2 + 3 * c)))) → Standing (nth e 0) e
+  pub standing-retimed : Standing rooms (nth d 0) d → ((i c : ℕ) → i < nth d 0 → c < nth d 3 + 1 → Small (document01 .tick) (nth e (rowAt rooms i + (2 + 3 * c)))) → Standing rooms (nth e 0) e
   standing-retimed s early =
       let w = sizes (s .job) in
-      let j : Same 0 (rowAt 0) d e = same-before 0 (rowAt 0) (z .outside) (omega arith) in
+      let j : Same 0 (rowAt rooms 0) d e = same-before 0 (rowAt rooms 0) (z .outside) (omega arith) in
       let v : nth e 0 ≡ nth d 0 = cell-retimed 0 (omega arith) in
       let m : nth e 1 ≡ nth d 1 = cell-retimed 1 (omega arith) in
       let l : nth e 3 ≡ nth d 3 = cell-retimed 3 (omega arith) in
-      let line : (t : ℕ) → t < nth d 0 → nth e (lineAt + t) ≡ nth d (lineAt + t) = λ t h. cell-retimed (lineAt + t) (omega arith) in
+      let line : (t : ℕ) → t < nth d 0 → nth e (lineAt rooms + t) ≡ nth d (lineAt rooms + t) = λ t h. cell-retimed (lineAt rooms + t) (omega arith) in
       record {
         job = held-kept (s .job) (z .outside) (omega arith);
         linked = rw (job-retimed (s .job))
-            (chained-same w (same-part 0 jobSize j (omega arith) (omega arith)) (same-part inHeadAt (inHeadAt + nth d 0) j (omega arith) (omega arith)) (same-part inNextAt (inNextAt + nth d 2) j (omega arith) (omega arith)) (s .linked));
+            (chained-same w (same-part 0 (jobSize rooms) j (omega arith) (omega arith)) (same-part (inHeadAt rooms) (inHeadAt rooms + nth d 0) j (omega arith) (omega arith)) (same-part (inNextAt rooms) (inNextAt rooms + nth d 2) j (omega arith) (omega arith)) (s .linked));
         count = omega arith;
         task-of = λ i h. rw (task-retimed i, v) (s .task-of i (rw v at h));
-        line-of = λ i h. let g : i < nth d 0 = rw v at h in rw (task-retimed i, line (nth d (rowAt i)) (s .task-of i g)) (s .line-of i g);
+        line-of = λ i h. let g : i < nth d 0 = rw v at h in rw (task-retimed i, line (nth d (rowAt rooms i)) (s .task-of i g)) (s .line-of i g);
         placed = λ t h.
             let g : t < nth d 0 = rw v at h in
             rw (line t g, v) (⊎-elim (λ p. inl p) (λ p. inr (p .0, p .1, p .2, task-retimed (p .0) ∙ p .3)) (s .placed t g));
@@ -143,30 +143,30 @@ row-small j b a (suc c) i mem h g =
     (λ l. row-small j b a c i mem l (λ d m. g d (inr m)))
     (last-or-before c i h)
 
-module _ (k c : ℕ) {cells mem : List ℕ} (r : Running k c cells mem) (a : k < nth mem 0) (b : c < nth mem 3 + 1) (f : FedBefore k mem) where
+module _ {rooms : ℕ} (k c : ℕ) {cells mem : List ℕ} (r : Running rooms k c cells mem) (a : k < nth mem 0) (b : c < nth mem 3 + 1) (f : FedBefore rooms k mem) where
   abbrev runner : ℕ
-  runner = nth mem (rowAt k)
+  runner = nth mem (rowAt rooms k)
 
   abbrev box : ℕ
-  box = nth mem (rowAt k + (1 + 3 * c))
+  box = nth mem (rowAt rooms k + (1 + 3 * c))
 
   pub box-below : box < nth mem 1
   box-below = r .standing .row k a .processor-of c b
 
   -- The data comes from the lines before.
-  data-ran : dataReady (jobIn mem) least (ranIn k c mem) runner box ≡ dataIn false runner box mem
+  data-ran : dataReady (jobIn mem) least (ranIn rooms k c mem) runner box ≡ dataIn rooms false runner box mem
   unfolding dataReady arrival ranIn
   data-ran =
       ap largest
-      (map-same (arrival (jobIn mem) least (ranIn k c mem) box) (arrival (jobIn mem) least (placedIn false (nth mem 3 + 1) k mem) box) (incoming (jobIn mem) runner) λ e i.
+      (map-same (arrival (jobIn mem) least (ranIn rooms k c mem) box) (arrival (jobIn mem) least (placedIn rooms false (nth mem 3 + 1) k mem) box) (incoming (jobIn mem) runner) λ e i.
       let l = f e i .1 in
       let own = r .standing .line-of k a in
-      rw (ofTask-append (e .from) (rowOutcomes false (rowAt k) c mem) (placedIn false (nth mem 3 + 1) k mem), row-none false mem (e .from) (rowAt k) c (λ q. let g : nth mem (lineAt + e .from) ≡ suc k = rw q at own in omega arith)))
+      rw (ofTask-append (e .from) (rowOutcomes false (rowAt rooms k) c mem) (placedIn rooms false (nth mem 3 + 1) k mem), row-none false mem (e .from) (rowAt rooms k) c (λ q. let g : nth mem (lineAt rooms + e .from) ≡ suc k = rw q at own in omega arith)))
       ∙ sym (data-placed (r .standing) k runner (omega arith) f false box)
 
-  module _ (x : ℕ) (e : timeIn x ≡ after (runTime (jobIn mem) runner box) (later (timeIn (nth cells box)) (dataIn false runner box mem))) where
+  module _ (x : ℕ) (e : timeIn x ≡ after (runTime (jobIn mem) runner box) (later (timeIn (nth cells box)) (dataIn rooms false runner box mem))) where
     -- The finish under stops, from the finish without.
-    pub finish-ran : (ss : List Stop) → finish (jobIn mem) least ss (ranIn k c mem) (copyOf (jobIn mem) runner box) ≡ unlessStopped (stopTime ss box) (timeIn x)
+    pub finish-ran : (ss : List Stop) → finish (jobIn mem) least ss (ranIn rooms k c mem) (copyOf (jobIn mem) runner box) ≡ unlessStopped (stopTime ss box) (timeIn x)
     unfolding finish start
     finish-ran ss = rw (e, data-ran, r .ready-of box box-below)
 
@@ -175,17 +175,17 @@ module _ (k c : ℕ) {cells mem : List ℕ} (r : Running k c cells mem) (a : k <
     finish-small =
         let j = jobIn mem in
         let s = r .standing .job .facts in
-        let here : ℕ = tickOf (finish j least [] (ranIn k c mem) (copyOf j runner box)) in
-        let among : In here (trial j (ranIn k c mem) runner) =
-        map-in (λ y. tickOf (finish j least [] (ranIn k c mem) y)) (copyOf j runner box) (copiesOf j runner (below (j .processors)))
+        let here : ℕ = tickOf (finish j least [] (ranIn rooms k c mem) (copyOf j runner box)) in
+        let among : In here (trial j (ranIn rooms k c mem) runner) =
+        map-in (λ y. tickOf (finish j least [] (ranIn rooms k c mem) y)) (copyOf j runner box) (copiesOf j runner (below (j .processors)))
         (map-in (copyOf j runner) box (below (j .processors)) (below-in (j .processors) box (rw (processors-in mem) box-below))) in
-        let most : here ≤ (k * 8 + c) * lineTicks + lineTicks = trial-most document01 j s ((k * 8 + c) * lineTicks) (ranIn k c mem) runner (rw (tasks-in mem) (r .standing .task-of k a)) (r .within) here among in
+        let most : here ≤ (k * 8 + c) * lineTicks + lineTicks = trial-most document01 j s ((k * 8 + c) * lineTicks) (ranIn rooms k c mem) runner (rw (tasks-in mem) (r .standing .task-of k a)) (r .within) here among in
         ⊎-elim inl (λ n. let q : here ≡ x = ap tickOf (finish-ran [] ∙ time-tick x n) in inr (omega arith)) (equal-or-not x neverCell)
 
     -- Its outcome y takes the place of its early tick and becomes its processor's ready time.
     module _ (y : ℕ) (n : (b : ℕ) → Small b x → Small b y) where
       abbrev mem′ : List ℕ
-      mem′ = set mem (rowAt k + (2 + 3 * c)) y
+      mem′ = set mem (rowAt rooms k + (2 + 3 * c)) y
 
       abbrev cells′ : List ℕ
       cells′ = set cells box y
@@ -193,29 +193,29 @@ module _ (k c : ℕ) {cells mem : List ℕ} (r : Running k c cells mem) (a : k <
       abbrev here : Outcome
       here = record { task = runner; processor = box; time = timeIn y }
 
-      retimed : Retimed k (suc k) mem mem′
+      retimed : Retimed rooms k (suc k) mem mem′
       retimed = let w = sizes (r .standing .job) in retimed-set k c y retimed-none (omega arith) (omega arith) (omega arith)
 
       small-here : Small ((k * 8 + (c + 1)) * lineTicks) y
       small-here = small-wider ((k * 8 + c) * lineTicks + lineTicks) ((k * 8 + (c + 1)) * lineTicks) y (omega arith) (n ((k * 8 + c) * lineTicks + lineTicks) finish-small)
 
-      pub ran-next : ranIn k (c + 1) mem′ ≡ here ∷ ranIn k c mem
+      pub ran-next : ranIn rooms k (c + 1) mem′ ≡ here ∷ ranIn rooms k c mem
       unfolding ranIn rowOutcomes
       ran-next =
           let w = sizes (r .standing .job) in
-          let i : ℕ = rowAt k + (2 + 3 * c) in
+          let i : ℕ = rowAt rooms k + (2 + 3 * c) in
           let one : KeptOutside i (i + 1) mem mem′ = kept-set i y kept-all (omega arith) (omega arith) in
           rw (
             add-one c,
             task-retimed retimed k,
             processor-retimed retimed k c (omega arith),
-            getD-set-same mem (rowAt k + (2 + 3 * c)) y 0 (omega arith),
+            getD-set-same mem (rowAt rooms k + (2 + 3 * c)) y 0 (omega arith),
             cell-retimed retimed 3 (omega arith),
-            outcomes-same mem mem′ false (rowAt k) c (same-before (rowAt k) (rowAt k + (1 + 3 * c)) one (omega arith)),
-            placed-same mem mem′ false (nth mem 3 + 1) k (omega arith) (same-before (rowAt 0) (rowAt k) one (omega arith)),
+            outcomes-same mem mem′ false (rowAt rooms k) c (same-before (rowAt rooms k) (rowAt rooms k + (1 + 3 * c)) one (omega arith)),
+            placed-same mem mem′ rooms false (nth mem 3 + 1) k (omega arith) (same-before (rowAt rooms 0) (rowAt rooms k) one (omega arith)),
           )
 
-      running-next : Running k (c + 1) cells′ mem′
+      running-next : Running rooms k (c + 1) cells′ mem′
       unfolding ready
       running-next =
           let w = sizes (r .standing .job) in
@@ -224,13 +224,13 @@ module _ (k c : ℕ) {cells mem : List ℕ} (r : Running k c cells mem) (a : k <
           let most : (k * 8 + c) * lineTicks ≤ (k * 8 + (c + 1)) * lineTicks = omega arith in
           record {
             standing = standing-retimed retimed (r .standing) λ i q h g.
-                set-cell (Small (document01 .tick)) mem (rowAt k + (2 + 3 * c)) (rowAt i + (2 + 3 * q)) y (omega arith)
+                set-cell (Small (document01 .tick)) mem (rowAt rooms k + (2 + 3 * c)) (rowAt rooms i + (2 + 3 * q)) y (omega arith)
                 (λ e. small-wider ((k * 8 + (c + 1)) * lineTicks) (document01 .tick) y (omega arith) small-here)
                 (λ e. r .standing .row i h .early-of q g);
             size = length-set cells box y ∙ r .size;
             ready-of = λ p h.
                 rw (j, ran-next)
-                (set-cell (λ z. timeIn z ≡ ready (jobIn mem) p (here ∷ ranIn k c mem)) cells box p y (omega (arith, box-below, r .size))
+                (set-cell (λ z. timeIn z ≡ ready (jobIn mem) p (here ∷ ranIn rooms k c mem)) cells box p y (omega (arith, box-below, r .size))
                 (λ e. rw (eq-eqb box p e))
                 (λ e. rw (ne-eqb box p e) (r .ready-of p (rw m at h))));
             ready-small = λ p h.
@@ -258,72 +258,72 @@ unfolding walked walk
 walked-append j ss placed [] cs = refl
 walked-append j ss placed (b ∷ bs) cs = walked-append j ss (outcome b (finish j least ss placed b) ∷ placed) bs cs
 
-copies-next : (k c : ℕ) (mem : List ℕ) → copiesIn k (c + 1) mem ≡ copiesIn k c mem ++ copyOf (jobIn mem) (nth mem (rowAt k)) (nth mem (rowAt k + (1 + 3 * c))) ∷ []
+copies-next : (rooms : ℕ) (k c : ℕ) (mem : List ℕ) → copiesIn rooms k (c + 1) mem ≡ copiesIn rooms k c mem ++ copyOf (jobIn mem) (nth mem (rowAt rooms k)) (nth mem (rowAt rooms k + (1 + 3 * c))) ∷ []
 unfolding copiesIn rowReplicas
-copies-next k c mem =
-    let t = nth mem (rowAt k) in
-    rw (add-one c, map-append (λ r. r .processor) (rowReplicas (rowAt k) c mem) (_ ∷ [])) (map-append (copyOf (jobIn mem) t) (map (λ r. r .processor) (rowReplicas (rowAt k) c mem)) (_ ∷ []))
+copies-next rooms k c mem =
+    let t = nth mem (rowAt rooms k) in
+    rw (add-one c, map-append (λ r. r .processor) (rowReplicas (rowAt rooms k) c mem) (_ ∷ [])) (map-append (copyOf (jobIn mem) t) (map (λ r. r .processor) (rowReplicas (rowAt rooms k) c mem)) (_ ∷ []))
 
 -- The first data of line k comes from lines that have run.
-pub line-fed-short : (k : ℕ) {cells d : List ℕ} → Running k 0 cells d → k < nth d 0 → FedBefore k d → FirstFed (nth d (rowAt k)) d
+pub line-fed-short : {rooms : ℕ} (k : ℕ) {cells d : List ℕ} → Running rooms k 0 cells d → k < nth d 0 → FedBefore rooms k d → FirstFed rooms (nth d (rowAt rooms k)) d
 unfolding ranIn rowOutcomes ofTask
-line-fed-short k {cells} {d} r a f e i =
+line-fed-short {rooms} k {cells} {d} r a f e i =
     let w = sizes (r .standing .job) in
     let most : ℕ = (k * 8 + 0) * lineTicks in
-    let row = rowOf (e .from) d in
-    let own : ofTask (e .from) (placedIn false (nth d 3 + 1) k d) ≡ rowOutcomes false row (nth d 3 + 1) d =
-    feeding-line (r .standing) k (nth d (rowAt k)) (omega arith) f false e i in
+    let row = rowOf rooms (e .from) d in
+    let own : ofTask (e .from) (placedIn rooms false (nth d 3 + 1) k d) ≡ rowOutcomes false row (nth d 3 + 1) d =
+    feeding-line (r .standing) k (nth d (rowAt rooms k)) (omega arith) f false e i in
     let among : PlacedWithin (jobIn d) most (rowOutcomes false row (nth d 3 + 1) d) =
-    rw (← own) (λ x m. r .within x (in-keep (λ x. eqb (x .task) (e .from)) x (placedIn false (nth d 3 + 1) k d) m .0)) in
+    rw (← own) (λ x m. r .within x (in-keep (λ x. eqb (x .task) (e .from)) x (placedIn rooms false (nth d 3 + 1) k d) m .0)) in
     (f e i .0, λ c h. small-wider most lastShort (nth d (row + (2 + 3 * c))) (omega arith) (row-small (jobIn d) most row (nth d 3 + 1) c d h among))
 
 -- c replicas of line k have run, from a memory d.
-pub record LineRuns (k c : ℕ) (stops cells d e : List ℕ) : Type 0 where
-  pub running : Running k c cells e
-  pub retimed : Retimed k (suc k) d e
-  pub outcomes : (ss : List Stop) → StopsIn ss stops → ranIn k c e ≡ walked (jobIn d) ss (placedIn false (nth d 3 + 1) k d) (copiesIn k c d)
+pub record LineRuns (rooms k c : ℕ) (stops cells d e : List ℕ) : Type 0 where
+  pub running : Running rooms k c cells e
+  pub retimed : Retimed rooms k (suc k) d e
+  pub outcomes : (ss : List Stop) → StopsIn ss stops → ranIn rooms k c e ≡ walked (jobIn d) ss (placedIn rooms false (nth d 3 + 1) k d) (copiesIn rooms k c d)
 
-pub line-first : (k : ℕ) (stops : List ℕ) {cells d : List ℕ} → Running k 0 cells d → LineRuns k 0 stops cells d d
+pub line-first : {rooms : ℕ} (k : ℕ) (stops : List ℕ) {cells d : List ℕ} → Running rooms k 0 cells d → LineRuns rooms k 0 stops cells d d
 unfolding ranIn rowOutcomes copiesIn rowReplicas walked walk
 line-first k stops r = record { running = r; retimed = retimed-none; outcomes = λ ss h. refl }
 
 -- The next replica, of task t on p: its processor, the cell of its run time and when its processor is ready.
-pub record LineStep (t p : ℕ) (cells d e : List ℕ) : Type 0 where
+pub record LineStep (rooms t p : ℕ) (cells d e : List ℕ) : Type 0 where
   pub processor : p < nth d 1
   pub below : p < 16
-  pub run-below : 4 + t * (nth d 1 + 1) + 1 + p < jobSize
+  pub run-below : 4 + t * (nth d 1 + 1) + 1 + p < jobSize rooms
   pub run-most : nth e (4 + t * (nth d 1 + 1) + 1 + p) ≤ 1000000
   pub ready-small : Small 4294967295 (nth cells p)
 
-module _ (k c : ℕ) {stops cells d e : List ℕ} (l : LineRuns k c stops cells d e) (s : Standing (nth d 0) d) (a : k < nth d 0) (f : FedBefore k d) where
-  abbrev ran : Running k c cells e
+module _ {rooms : ℕ} (k c : ℕ) {stops cells d e : List ℕ} (l : LineRuns rooms k c stops cells d e) (s : Standing rooms (nth d 0) d) (a : k < nth d 0) (f : FedBefore rooms k d) where
+  abbrev ran : Running rooms k c cells e
   ran = l .running
 
   line-below : k < nth e 0
   line-below = rw (cell-retimed (l .retimed) 0 (omega arith)) a
 
-  line-fed : FedBefore k e
+  line-fed : FedBefore rooms k e
   line-fed = fed-retimed (l .retimed) (s .job) k f
 
   -- The data of the line is what it was before.
-  line-data : (p : ℕ) → dataIn false (nth e (rowAt k)) p e ≡ dataIn false (nth d (rowAt k)) p d
+  line-data : (p : ℕ) → dataIn rooms false (nth e (rowAt rooms k)) p e ≡ dataIn rooms false (nth d (rowAt rooms k)) p d
   line-data p =
       let w = sizes (s .job) in
-      data-placed (ran .standing) k (nth e (rowAt k)) (omega (arith, line-below)) line-fed false p
+      data-placed (ran .standing) k (nth e (rowAt rooms k)) (omega (arith, line-below)) line-fed false p
       ∙ rw (
         job-retimed (l .retimed) (s .job),
         task-retimed (l .retimed) k,
         cell-retimed (l .retimed) 3 (omega arith),
-        placed-same d e false (nth d 3 + 1) k (omega arith) (same-before (rowAt 0) (rowAt k) (l .retimed .outside) (omega arith)),
+        placed-same d e rooms false (nth d 3 + 1) k (omega arith) (same-before (rowAt rooms 0) (rowAt rooms k) (l .retimed .outside) (omega arith)),
       )
-      (sym (data-placed s k (nth d (rowAt k)) (omega arith) f false p))
+      (sym (data-placed s k (nth d (rowAt rooms k)) (omega arith) f false p))
 
   module _ (b : c < nth d 3 + 1) where
     abbrev its : ℕ
-    its = nth e (rowAt k + (1 + 3 * c))
+    its = nth e (rowAt rooms k + (1 + 3 * c))
 
     abbrev run : ℕ
-    run = 4 + nth d (rowAt k) * (nth d 1 + 1) + 1 + its
+    run = 4 + nth d (rowAt rooms k) * (nth d 1 + 1) + 1 + its
 
     replica-below : c < nth e 3 + 1
     replica-below = rw (cell-retimed (l .retimed) 3 (omega arith)) b
@@ -331,13 +331,13 @@ module _ (k c : ℕ) {stops cells d e : List ℕ} (l : LineRuns k c stops cells 
     its-below : its < nth e 1
     its-below = box-below k c ran line-below replica-below line-fed
 
-    run-same : run ≡ 4 + nth e (rowAt k) * (nth e 1 + 1) + (its + 1)
+    run-same : run ≡ 4 + nth e (rowAt rooms k) * (nth e 1 + 1) + (its + 1)
     run-same = rw (task-retimed (l .retimed) k, cell-retimed (l .retimed) 1 (omega arith)) (omega arith)
 
-    run-ran : nth e run ≡ runTime (jobIn e) (nth e (rowAt k)) its
-    run-ran = rw run-same (sym (run-in e (nth e (rowAt k)) its (ran .standing .task-of k line-below) its-below))
+    run-ran : nth e run ≡ runTime (jobIn e) (nth e (rowAt rooms k)) its
+    run-ran = rw run-same (sym (run-in e (nth e (rowAt rooms k)) its (ran .standing .task-of k line-below) its-below))
 
-    pub line-step : LineStep (nth d (rowAt k)) its cells d e
+    pub line-step : LineStep rooms (nth d (rowAt rooms k)) its cells d e
     line-step =
         let w = sizes (s .job) in
         let t = ran .standing .task-of k line-below in
@@ -345,34 +345,34 @@ module _ (k c : ℕ) {stops cells d e : List ℕ} (l : LineRuns k c stops cells 
         record {
           processor = h;
           below = omega arith;
-          run-below = rw run-same (row-below (sizes (ran .standing .job)) (nth e (rowAt k)) its (omega arith) its-below);
-          run-most = rw run-same (run-cell (ran .standing .job) (nth e (rowAt k)) its t its-below);
+          run-below = rw run-same (row-below (sizes (ran .standing .job)) (nth e (rowAt rooms k)) its (omega arith) its-below);
+          run-most = rw run-same (run-cell (ran .standing .job) (nth e (rowAt rooms k)) its t its-below);
           ready-small = small-wider ((k * 8 + c) * lineTicks) 4294967295 (nth cells its) (omega arith) (ran .ready-small its its-below);
         }
 
     pub line-next : (supplied x y : ℕ)
-        → timeIn supplied ≡ dataIn false (nth d (rowAt k)) its d
+        → timeIn supplied ≡ dataIn rooms false (nth d (rowAt rooms k)) its d
         → timeIn x ≡ after (nth e run) (later (timeIn (nth cells its)) (timeIn supplied))
         → timeIn y ≡ unlessStopped (timeIn (nth stops its)) (timeIn x)
         → ((b : ℕ) → Small b x → Small b y)
-        → LineRuns k (c + 1) stops (set cells its y) d (set e (rowAt k + (2 + 3 * c)) y)
+        → LineRuns rooms k (c + 1) stops (set cells its y) d (set e (rowAt rooms k + (2 + 3 * c)) y)
     line-next supplied x y o p₀ q n =
         let w = sizes (s .job) in
         let g = line-below in
         let u = replica-below in
         let v = line-fed in
-        let p : timeIn x ≡ after (runTime (jobIn e) (nth e (rowAt k)) its) (later (timeIn (nth cells its)) (dataIn false (nth e (rowAt k)) its e)) = rw (line-data its, ← o, ← run-ran) p₀ in
+        let p : timeIn x ≡ after (runTime (jobIn e) (nth e (rowAt rooms k)) its) (later (timeIn (nth cells its)) (dataIn rooms false (nth e (rowAt rooms k)) its e)) = rw (line-data its, ← o, ← run-ran) p₀ in
         record {
           running = running-next k c ran g u v x p y n;
           retimed = retimed-set k c y (l .retimed) (omega arith) (omega arith) (omega arith);
           outcomes = λ ss h.
               let j : jobIn e ≡ jobIn d = job-retimed (l .retimed) (s .job) in
-              let o : finish (jobIn e) least ss (ranIn k c e) (copyOf (jobIn e) (nth e (rowAt k)) its) ≡ timeIn y =
+              let o : finish (jobIn e) least ss (ranIn rooms k c e) (copyOf (jobIn e) (nth e (rowAt rooms k)) its) ≡ timeIn y =
               finish-ran k c ran g u v x p ss ∙ rw (← h its (line-step .below)) (sym q) in
               ran-next k c ran g u v x p y n
               ∙ rw (
-                copies-next k c d,
-                walked-more (jobIn d) ss (placedIn false (nth d 3 + 1) k d) (copiesIn k c d) (copyOf (jobIn d) (nth d (rowAt k)) (nth d (rowAt k + (1 + 3 * c)))),
+                copies-next rooms k c d,
+                walked-more (jobIn d) ss (placedIn rooms false (nth d 3 + 1) k d) (copiesIn rooms k c d) (copyOf (jobIn d) (nth d (rowAt rooms k)) (nth d (rowAt rooms k + (1 + 3 * c)))),
                 ← l .outcomes ss h,
                 ← j,
                 ← task-retimed (l .retimed) k,
@@ -381,12 +381,12 @@ module _ (k c : ℕ) {stops cells d e : List ℕ} (l : LineRuns k c stops cells 
               );
         }
 
-  pub line-done : c ≡ nth d 3 + 1 → Running (suc k) 0 cells e × LineRun k stops d e
+  pub line-done : c ≡ nth d 3 + 1 → Running rooms (suc k) 0 cells e × LineRun rooms k stops d e
   unfolding ranIn placedIn rowOutcomes
   line-done q =
       let w = sizes (s .job) in
       let three : nth e 3 ≡ nth d 3 = cell-retimed (l .retimed) 3 (omega arith) in
-      let same : ranIn k c e ≡ ranIn (suc k) 0 e = rw (q, three) in
+      let same : ranIn rooms k c e ≡ ranIn rooms (suc k) 0 e = rw (q, three) in
       let most : (k * 8 + c) * lineTicks ≤ (suc k * 8 + 0) * lineTicks = omega arith in (
         record {
           standing = ran .standing;

@@ -8,7 +8,7 @@ use native.Mathlib.Omega.{arith}
 use native.Mathlib.Numerals.{add-one}
 use borrow.Author.Tests.{ne-eqb, ltb-true, ltb-false}
 use lib.Dec.{ltb}
-use lib.ListN.{length, set, length-set, List·getD-eq-default}
+use lib.ListN.{length, set, length-set, List·getD-eq-default, replicate, length-replicate, getD-replicate}
 use lib.Seq.{getD-set-same, getD-set-other}
 use Rattle.definitions.specs.Lists.{if_then_else_, nth}
 use Rattle.definitions.specs.Job.{delay}
@@ -89,30 +89,38 @@ abbrev pub DelayCell : List ℕ → ℕ → ℕ → Type 0
 DelayCell mem i z = (z ≤ 255) × ((q p : ℕ) → q < nth mem 1 → p < nth mem 1 → i ≡ q * 16 + p → z ≡ delay (jobIn mem) q p)
 
 module _ {mem : List ℕ} where
-  pub delay-stored : JobHeld mem → (i : ℕ) → i / 16 < nth mem 1 → i % 16 < nth mem 1
+  pub delay-stored : {rooms : ℕ} → JobHeld rooms mem → (i : ℕ) → i / 16 < nth mem 1 → i % 16 < nth mem 1
       → DelayCell mem i (nth mem (4 + (nth mem 0 + i / 16) * (nth mem 1 + 1) + (i % 16 + 1)))
   delay-stored j i h g =
       let s = sizes j in
       (delay-cell j (i / 16) (i % 16) h g, λ q p a b e. let u : q ≡ i / 16 = omega arith in let v : p ≡ i % 16 = omega arith in rw (u, v) (sym (delay-in mem (i / 16) (i % 16) h g)))
 
-  pub delay-outside : Sizes mem → (i z : ℕ) → z ≤ 255 → (nth mem 1 ≤ i / 16) ⊎ (nth mem 1 ≤ i % 16) → DelayCell mem i z
-  delay-outside s i z h o =
-      (h, λ q p a b e. let u : q ≡ i / 16 = omega arith in let v : p ≡ i % 16 = omega arith in absurd (⊎-elim (λ l. omega arith) (λ l. omega arith) o))
+  pub delay-outside : {rooms : ℕ} → Sizes rooms mem → (i z : ℕ) → z ≤ 255 → nth mem 1 ≤ i % 16 → DelayCell mem i z
+  delay-outside s i z h o = (h, λ q p a b e. let v : p ≡ i % 16 = omega arith in absurd (omega arith))
 
-  pub table-made : Sizes mem → {d e : List ℕ} {n : ℕ} → length e ≡ 256 → 256 ≤ n → Filled (DelayCell mem) d e n → DelayTable e mem
-  table-made s {d} {e} {n} k h f =
+  pub table-made : {rooms : ℕ} → Sizes rooms mem → {d e : List ℕ} {n : ℕ} → length e ≡ 256 → 16 * nth mem 1 ≤ n → ((i : ℕ) → nth d i ≡ 0) → Filled (DelayCell mem) d e n
+      → DelayTable e mem
+  table-made s {d} {e} {n} k h z f =
       record {
         size = k;
         cell = λ q p a b. f .done (q * 16 + p) (omega arith) .1 q p a b refl;
-        most = λ i. by i (ltb i 256) refl;
+        most = λ i. by i (ltb i n) refl;
       }
     where
-      by : (i : ℕ) (t : Bool) → ltb i 256 ≡ t → nth e i ≤ 255
-      by i true w = f .done i (omega (arith, ltb-true i 256 w)) .0
-      by i false w = rw (List·getD-eq-default e 0 {n = i} (omega (arith, ltb-false i 256 w))) (omega arith)
+      by : (i : ℕ) (t : Bool) → ltb i n ≡ t → nth e i ≤ 255
+      by i true w = f .done i (ltb-true i n w) .0
+      by i false w = omega (arith, f .rest i (ltb-false i n w), z i)
+
+-- A table that nothing was stored in.
+pub none-set : (i : ℕ) → nth (replicate {A = ℕ} 256 0) i ≡ 0
+none-set i = by (ltb i 256) refl
+  where
+    by : (t : Bool) → ltb i 256 ≡ t → nth (replicate {A = ℕ} 256 0) i ≡ 0
+    by true w = getD-replicate 256 i 0 0 (ltb-true i 256 w)
+    by false w = List·getD-eq-default (replicate {A = ℕ} 256 0) 0 {n = i} (omega (arith, length-replicate {A = ℕ} 256 0, ltb-false i 256 w))
 
 -- The table is that of a memory with the same job.
-pub delays-kept : {delays d e : List ℕ} → JobHeld d → Same 0 jobSize d e → DelayTable delays d → DelayTable delays e
+pub delays-kept : {rooms : ℕ} {delays d e : List ℕ} → JobHeld rooms d → Same 0 (jobSize rooms) d e → DelayTable delays d → DelayTable delays e
 delays-kept {delays} {d} {e} h j t =
     let m : nth e 1 ≡ nth d 1 = j .cell 1 (omega arith) (omega arith) in
     record { size = t .size; cell = λ q p a b. rw (job-same (sizes h) j) (t .cell q p (rw m at a) (rw m at b)); most = t .most }

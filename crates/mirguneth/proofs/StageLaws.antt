@@ -2,23 +2,27 @@
 use mathlib.Core.Path.{_≡_, refl, ap, _∙_, sym}
 use mathlib.Core.List.{List, [], map}
 use mathlib.Core.Bool.{Bool, true, false, not, _||_}
-use Prim.Native.Nat.{ℕ, suc, _+_, _-_, _<_, _≤_}
+use Prim.Native.Nat.{ℕ, suc, _+_, _*_, _-_, _<_, _≤_}
 use native.Mathlib.Omega.{arith}
 use borrow.Author.Tests.{lt-ltb, le-ltb}
 use lib.Dec.{ltb}
-use lib.ListN.{length, take, drop, drop-of-length-le}
+use lib.ListN.{length, take, drop, replicate, drop-of-length-le, List·getD-append}
 use lib.Seq.{drop-cons, getD-take, length-take-le}
-use Rattle.definitions.specs.Lists.{bytes, below, empty}
+use Rattle.definitions.specs.Lists.{bytes, nth, below, empty}
 use Rattle.definitions.specs.Limits.{document01}
-use Rattle.definitions.specs.Text.{found, refused, next, due, firstOf, line, lines}
+use Rattle.definitions.specs.Text.{found, refused, next, due, firstOf, line, lines, bad}
 use Rattle.definitions.specs.Job.{Edge, JobHead, jobHeadOf, jobHead, jobHeadRule, outside, runRule, delayRule, edgeLine, edgeRule, remaining, circular, jobLines, readJob}
 use Rattle.definitions.proofs.Lists.{either-right, not-outside}
 use Rattle.definitions.proofs.Reading.{job-head-parts}
+use Rattle.slices.specs.Over.{over}
+use Rattle.slices.proofs.Over.{length-over}
 use Rattle.text.specs.declared.Step.{Step}
 use Rattle.text.specs.declared.Step.the-variants.{Next, Refused}
-use Rattle.mirguneth.specs.Memory.{jobCells}
+use Rattle.mirguneth.specs.Layout.{cellsFor}
+use Rattle.mirguneth.specs.Memory.{jobCells, Pairs}
 use Rattle.mirguneth.specs.Answers.{Loaded}
-use Rattle.mirguneth.specs.Stages.{jobOf, fromEdges, fromDelays, fromRuns, fromHead, closed, Headed}
+use Rattle.mirguneth.specs.Stages.{jobOf, fromEdges, fromDelays, fromRuns, fromHead, closed, edgesAt, Headed}
+use Rattle.mirguneth.proofs.EdgeLaws.{pairs-none}
 
 -- The rule of the head ------------------------------------------------------------------------------------------
 
@@ -60,7 +64,7 @@ module _ (v m e x : ℕ) where
     head-good h = rw (head-within, le-ltb m (x + 1) h)
 
 -- A memory with a head that passed its rule.
-pub headed : (mem : List ℕ) → jobHeadRule document01 (jobHeadOf mem) ≡ 0 → 5640 ≤ length mem → Headed mem
+pub headed : (mem : List ℕ) → jobHeadRule document01 (jobHeadOf mem) ≡ 0 → edgesAt (jobHeadOf mem) + nth mem 2 + 2 ≤ length mem → Headed mem
 headed mem z room =
     let (v1, v2, _, m2, e2, _, _) = job-head-parts document01 (jobHeadOf mem) z in
     record {
@@ -70,6 +74,33 @@ headed mem z room =
       edges-most = e2;
       room = room;
     }
+
+-- A head that was copied to the front of a memory.
+module _ (d head : List ℕ) (n : length head ≡ 4) (l : 4 ≤ length d) where
+  abbrev copied : List ℕ
+  copied = over d 0 (take 4 head)
+
+  four : length (take 4 head) ≡ 4
+  four = length-take-le 4 head (omega arith)
+
+  cell : (i : ℕ) → i < 4 → nth copied i ≡ nth head i
+  unfolding over
+  cell i h = List·getD-append (take 4 head) (drop (0 + length (take 4 head)) d) 0 i (omega (arith, four)) ∙ getD-take 4 head i 0 h
+
+  copied-head : jobHeadOf copied ≡ jobHeadOf head
+  copied-head = rw (cell 0 (omega arith), cell 1 (omega arith), cell 2 (omega arith), cell 3 (omega arith))
+
+  pub copied-headed : jobHeadRule document01 (jobHeadOf head) ≡ 0 → cellsFor (jobHeadOf head) ≤ length d → Headed copied
+  copied-headed z r =
+      let k : nth head 1 + 1 ≡ 1 + nth head 1 = omega arith in
+      headed copied (rw copied-head z) (rw (cell 0 (omega arith), cell 1 (omega arith), cell 2 (omega arith), length-over d 0 (take 4 head) (omega (arith, four))) (rw k at r))
+
+  pub copied-pairs : (k : ℕ) → nth head 0 * 32 ≤ k → Pairs (nth copied 0) [] (replicate k 0)
+  copied-pairs k h = rw (cell 0 (omega arith)) (pairs-none (nth head 0) k h)
+
+  pub copied-loaded : (s e : List ℕ) (at : ℕ) (r : Step) → readJob document01 s ≡ closed (fromRuns (jobHeadOf head) (drop at s))
+      → Loaded (closed (fromRuns (jobHeadOf copied) (drop at s))) e r → Loaded (readJob document01 s) e r
+  copied-loaded s e at r q h = rw (q, ← copied-head) h
 
 -- From the E lines on -------------------------------------------------------------------------------------------
 
@@ -127,15 +158,15 @@ module _ (h : JobHead) (s mem : List ℕ) where
 
 -- The whole -----------------------------------------------------------------------------------------------------
 
-module _ (s mem : List ℕ) where
-  pub job-long : 65536 < length s → Loaded (readJob document01 s) mem (Refused 1)
+module _ (s : List ℕ) where
+  pub job-long : 65536 < length s → readJob document01 s ≡ bad 1
   unfolding readJob
-  job-long h = rw (lt-ltb _ _ h) refl
+  job-long h = rw (lt-ltb _ _ h)
 
   module _ (h : length s ≤ 65536) where
-    pub job-no : (n : ℕ) → line document01 (bytes "JOB,") 4 s ≡ refused n → Loaded (readJob document01 s) mem (Refused n)
+    pub job-no : (n : ℕ) → line document01 (bytes "JOB,") 4 s ≡ refused n → readJob document01 s ≡ bad n
     unfolding readJob jobLines jobHead
-    job-no n e = rw (le-ltb _ _ h, e) refl
+    job-no n e = rw (le-ltb _ _ h, e)
 
     -- The memory d begins with the numbers of the head, and x is the number of its refusal.
     module _ (d r : List ℕ) (e : line document01 (bytes "JOB,") 4 s ≡ found (take 4 d) r) (x : ℕ) (f : x ≡ jobHeadRule document01 (jobHeadOf d)) where
@@ -150,9 +181,9 @@ module _ (s mem : List ℕ) where
       unfolding fromHead
       job-headed = job-open ∙ ap (λ (h : JobHead). closed (fromHead h r)) same-head ∙ rw (← f)
 
-      pub job-refused : 0 < x → Loaded (readJob document01 s) mem (Refused x)
+      pub job-refused : 0 < x → readJob document01 s ≡ bad x
       unfolding closed
-      job-refused g = let o : x ≡ suc (x - 1) = omega arith in rw (job-headed, o) refl
+      job-refused g = let o : x ≡ suc (x - 1) = omega arith in rw (job-headed, o)
 
-      pub job-next : x ≤ 0 → (z : Step) → Loaded (closed (fromRuns (jobHeadOf d) r)) mem z → Loaded (readJob document01 s) mem z
-      job-next g z l = let o : x ≡ 0 = omega arith in rw (job-headed, o) l
+      pub job-next : x ≤ 0 → (jobHeadRule document01 (jobHeadOf d) ≡ 0) × (readJob document01 s ≡ closed (fromRuns (jobHeadOf d) r))
+      job-next g = let o : x ≡ 0 = omega arith in (sym f ∙ o, rw (job-headed, o))

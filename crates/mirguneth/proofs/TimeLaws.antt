@@ -6,9 +6,8 @@ use mathlib.Core.Bool.{Bool, true, false}
 use Prim.Native.Nat.{ℕ, suc, _+_, _*_, _-_, _<_, _≤_, max, min}
 use native.Mathlib.Omega.{arith}
 use native.Mathlib.Nat.{mul-le-mul}
-use native.Mathlib.Numerals.{add-one}
 use borrow.Author.Tests.{ne-eqb}
-use Rattle.definitions.specs.Lists.{if_then_else_, nth, In}
+use Rattle.definitions.specs.Lists.{nth, In}
 use Rattle.definitions.specs.Job.{Edge, delay, incoming}
 use Rattle.definitions.specs.Times.{Time, tick, never, later, sooner, after, least, largest}
 use Rattle.definitions.proofs.Lists.{in-reverse}
@@ -98,47 +97,24 @@ small-tick b x h = ⊎-elim (λ e. absurd (h e)) (λ l. l)
 
 -- The data of one predecessor -------------------------------------------------------------------------------------
 
-choice-more : (late : Bool) (x : Time) (xs : List Time) → (if late then later x (choiceOf late xs) else sooner x (choiceOf late xs)) ≡ choiceOf late (x ∷ xs)
-unfolding least largest
-choice-more true x xs = refl
-choice-more false x xs = refl
-
 -- The choice among the first c replicas of the line at a, each put off by the ticks of its processor.
 unfoldable pub chosenBy : Bool → (ℕ → ℕ) → ℕ → ℕ → List ℕ → Time
 chosenBy late ticks a c mem = choiceOf late (map (λ d. after (ticks (d .processor)) (d .time)) (rowOutcomes late a c mem))
 
-module _ (late : Bool) (ticks : ℕ → ℕ) (a : ℕ) (mem : List ℕ) where
-  pub chosen-none : (x : ℕ) → timeIn x ≡ choiceOf late [] → timeIn x ≡ chosenBy late ticks a 0 mem
-  unfolding chosenBy rowOutcomes
-  chosen-none x h = h
-
-  pub chosen-next : (c place n y acc r : ℕ) → place ≡ (if late then 3 else 2) → n ≡ ticks (nth mem (a + (1 + 3 * c)))
-      → timeIn y ≡ after n (timeIn (nth mem (a + (place + 3 * c))))
-      → timeIn acc ≡ chosenBy late ticks a c mem
-      → timeIn r ≡ (if late then later (timeIn y) (timeIn acc) else sooner (timeIn y) (timeIn acc))
-      → timeIn r ≡ chosenBy late ticks a (c + 1) mem
-  unfolding chosenBy rowOutcomes
-  chosen-next c place n y acc r e f g h k = k ∙ rw (g, h, f, e, add-one c) (choice-more late _ _)
+pub chosen-none : (late : Bool) (ticks : ℕ → ℕ) (a : ℕ) (mem : List ℕ) (x : ℕ) → timeIn x ≡ choiceOf late [] → timeIn x ≡ chosenBy late ticks a 0 mem
+unfolding chosenBy rowOutcomes
+chosen-none late ticks a mem x h = h
 
 pub arrival-chosen : (late : Bool) (volume p a c : ℕ) (mem : List ℕ) → c ≡ nth mem 3 + 1
     → chosenBy late (λ q. volume * delay (jobIn mem) q p) a c mem ≡ arrivalIn late volume p a mem
 unfolding chosenBy arrivalIn
 arrival-chosen late volume p a c mem e = rw e
 
-pub place-most : (late : Bool) (place : ℕ) → place ≡ (if late then 3 else 2) → place ≤ 3
-place-most true place e = omega arith
-place-most false place e = omega arith
-
-pub row-small : (late : Bool) (a c place : ℕ) (mem : List ℕ) → RowHeld a mem → c < nth mem 3 + 1 → place ≡ (if late then 3 else 2)
-    → Small 4294967295 (nth mem (a + (place + 3 * c)))
-row-small true a c place mem r h e = rw e (r .late-of c h)
-row-small false a c place mem r h e = rw e (r .early-of c h)
-
 -- The ticks of a message.
 pub message-most : (volume n : ℕ) → volume ≤ 4095 → n ≤ 255 → volume * n ≤ 1044225
 message-most volume n h g = mul-le-mul {n₁ = volume} {m₁ = n} {n₂ = 4095} {m₂ = 255} h g
 
-module _ {mem : List ℕ} (h : JobHeld mem) where
+module _ {rooms : ℕ} {mem : List ℕ} (h : JobHeld rooms mem) where
   pub delay-cell : (p q : ℕ) → p < nth mem 1 → q < nth mem 1 → nth mem (4 + (nth mem 0 + p) * (nth mem 1 + 1) + (q + 1)) ≤ 255
   delay-cell p q a b =
       rw (delay-in mem p q a b) at (h .facts .delay-most p q (rw (← processors-in mem) at a) (rw (← processors-in mem) at b))
@@ -146,14 +122,6 @@ module _ {mem : List ℕ} (h : JobHeld mem) where
   pub run-cell : (t p : ℕ) → t < nth mem 0 → p < nth mem 1 → nth mem (4 + t * (nth mem 1 + 1) + (p + 1)) ≤ 1000000
   run-cell t p a b =
       rw (run-in mem t p a b) at (h .facts .run-most t p (rw (← tasks-in mem) at a) (rw (← processors-in mem) at b))
-
-  pub message-cell : (volume q p : ℕ) → volume ≤ 4095 → q < nth mem 1 → p < nth mem 1 → volume * nth mem (4 + (nth mem 0 + q) * (nth mem 1 + 1) + (p + 1)) ≤ 1044225
-  message-cell volume q p g a b = message-most volume (nth mem (4 + (nth mem 0 + q) * (nth mem 1 + 1) + (p + 1))) g (delay-cell q p a b)
-
-  -- A message's ticks.
-  pub message-in : (volume q p : ℕ) → q < nth mem 1 → p < nth mem 1
-      → volume * nth mem (4 + (nth mem 0 + q) * (nth mem 1 + 1) + (p + 1)) ≡ volume * delay (jobIn mem) q p
-  message-in volume q p a b = ap (volume *_) (sym (delay-in mem q p a b))
 
 -- All data of a task ------------------------------------------------------------------------------------------------
 
@@ -181,15 +149,15 @@ largest-reverse f (x ∷ xs) ys =
     ∙ ap (λ (z : Time). later z (largest (map f ys))) (later-comm (largest (map f xs)) (f x))
 
 -- What a line gives that the code asks for.
-pub record Feeds (e : Edge) (mem : List ℕ) : Type 0 where
+pub record Feeds (rooms : ℕ) (e : Edge) (mem : List ℕ) : Type 0 where
   pub from-below : e .from < nth mem 0
   pub volume-most : e .volume ≤ 4095
-  pub line-some : 0 < nth mem (lineAt + e .from)
-  pub line-most : nth mem (lineAt + e .from) ≤ 255
-  pub row : RowHeld (rowOf (e .from) mem) mem
+  pub line-some : 0 < nth mem (lineAt rooms + e .from)
+  pub line-most : nth mem (lineAt rooms + e .from) ≤ 8 * rooms
+  pub row : RowHeld (rowOf rooms (e .from) mem) mem
 
-pub feeds : (k t : ℕ) (e : Edge) (mem : List ℕ) → Standing k mem → FedIn t mem → In e (incoming (jobIn mem) t) → Feeds e mem
-feeds k t e mem s f i =
+pub feeds : {rooms : ℕ} (k t : ℕ) (e : Edge) (mem : List ℕ) → Standing rooms k mem → FedIn rooms t mem → In e (incoming (jobIn mem) t) → Feeds rooms e mem
+feeds {rooms} k t e mem s f i =
     let (m, _) = in-incoming (jobIn mem) t e i in
     let b : e .from < nth mem 0 = rw (tasks-in mem) at (s .job .facts .from-task e m) in
     let l = f e i in
@@ -197,8 +165,8 @@ feeds k t e mem s f i =
     let h = s .count in
     ⊎-elim
     (λ z. absurd (omega arith))
-    (λ (r : (i : ℕ) × (i < k) × (nth mem (lineAt + e .from) ≡ suc i) × (nth mem (rowAt i) ≡ e .from)).
-    let q : nth mem (lineAt + e .from) - 1 ≡ r .0 = omega (arith, r .2) in
+    (λ (r : (i : ℕ) × (i < k) × (nth mem (lineAt rooms + e .from) ≡ suc i) × (nth mem (rowAt rooms i) ≡ e .from)).
+    let q : nth mem (lineAt rooms + e .from) - 1 ≡ r .0 = omega (arith, r .2) in
     record {
       from-below = b;
       volume-most = s .job .facts .volume-most e m;
@@ -209,17 +177,17 @@ feeds k t e mem s f i =
     (s .placed (e .from) b)
 
 -- When the data of an edge is on p, from the line of its first task.
-abbrev pub arrives : Bool → ℕ → List ℕ → Edge → Time
-arrives late p mem e = arrivalIn late (e .volume) p (rowOf (e .from) mem) mem
+abbrev pub arrives : ℕ → Bool → ℕ → List ℕ → Edge → Time
+arrives rooms late p mem e = arrivalIn late (e .volume) p (rowOf rooms (e .from) mem) mem
 
 -- The edges from link k on are still to be seen; acc is the largest time of the others that enter t.
-pub record Gathering (f : Edge → Time) (t : ℕ) (mem : List ℕ) (acc : Time) (k : ℕ) : Type 0 where
+pub record Gathering (rooms : ℕ) (f : Edge → Time) (t : ℕ) (mem : List ℕ) (acc : Time) (k : ℕ) : Type 0 where
   pub most : k ≤ nth mem 2
-  pub rest : later (largest (map f (chain inNextAt (nth mem 2) mem k))) acc ≡ largest (map f (incoming (jobIn mem) t))
-  pub among : (e : Edge) → In e (chain inNextAt (nth mem 2) mem k) → In e (incoming (jobIn mem) t)
+  pub rest : later (largest (map f (chain (inNextAt rooms) (nth mem 2) mem k))) acc ≡ largest (map f (incoming (jobIn mem) t))
+  pub among : (e : Edge) → In e (chain (inNextAt rooms) (nth mem 2) mem k) → In e (incoming (jobIn mem) t)
 
-module _ (f : Edge → Time) (n t : ℕ) (mem : List ℕ) (s : Standing n mem) where
-  pub gather-first : t < nth mem 0 → Gathering f t mem (tick 0) (nth mem (inHeadAt + t))
+module _ {rooms : ℕ} (f : Edge → Time) (n t : ℕ) (mem : List ℕ) (s : Standing rooms n mem) where
+  pub gather-first : t < nth mem 0 → Gathering rooms f t mem (tick 0) (nth mem (inHeadAt rooms + t))
   unfolding largest
   gather-first h =
       let c = s .linked .chains t h in
@@ -230,27 +198,27 @@ module _ (f : Edge → Time) (n t : ℕ) (mem : List ℕ) (s : Standing n mem) w
         among = λ e i. ⊎-elim (λ i. i) (λ i. absurd i) (in-reverse e es [] (rw c at i));
       }
 
-  module _ {acc : Time} {k : ℕ} (g : Gathering f t mem acc k) where
+  module _ {acc : Time} {k : ℕ} (g : Gathering rooms f t mem acc k) where
     module _ (h : 0 < k) where
       abbrev here : Edge
       here = edgeIn (nth mem (edgeAt mem (k - 1)))
 
-      step : chain inNextAt (nth mem 2) mem k ≡ here ∷ chain inNextAt (nth mem 2) mem (nth mem (inNextAt + (k - 1)))
+      step : chain (inNextAt rooms) (nth mem 2) mem k ≡ here ∷ chain (inNextAt rooms) (nth mem 2) mem (nth mem (inNextAt rooms + (k - 1)))
       step = chain-step (s .linked) k h (g .most)
 
       pub gather-enters : In here (incoming (jobIn mem) t)
       gather-enters = g .among here (rw step (inl refl))
 
-      pub gather-edge : FedIn t mem → Feeds here mem
+      pub gather-edge : FedIn rooms t mem → Feeds rooms here mem
       gather-edge d = feeds n t here mem s d gather-enters
 
-      pub gather-falls : nth mem (inNextAt + (k - 1)) < k
+      pub gather-falls : nth mem (inNextAt rooms + (k - 1)) < k
       gather-falls = omega (arith, s .linked .falls (k - 1) (omega (arith, g .most)))
 
-      pub gather-next : (r : Time) → r ≡ later (f here) acc → Gathering f t mem r (nth mem (inNextAt + (k - 1)))
+      pub gather-next : (r : Time) → r ≡ later (f here) acc → Gathering rooms f t mem r (nth mem (inNextAt rooms + (k - 1)))
       unfolding largest
       gather-next r d =
-          let rest : List Edge = chain inNextAt (nth mem 2) mem (nth mem (inNextAt + (k - 1))) in
+          let rest : List Edge = chain (inNextAt rooms) (nth mem 2) mem (nth mem (inNextAt rooms + (k - 1))) in
           let old : later (later (f here) (largest (map f rest))) acc ≡ largest (map f (incoming (jobIn mem) t)) = rw step at (g .rest) in
           record {
             most = omega (arith, gather-falls, g .most);
@@ -260,4 +228,4 @@ module _ (f : Edge → Time) (n t : ℕ) (mem : List ℕ) (s : Standing n mem) w
 
     pub gather-done : k ≡ 0 → acc ≡ largest (map f (incoming (jobIn mem) t))
     unfolding largest
-    gather-done e = sym (later-zero acc) ∙ (rw (e, chain-end inNextAt mem (nth mem 2)) at (g .rest))
+    gather-done e = sym (later-zero acc) ∙ (rw (e, chain-end (inNextAt rooms) mem (nth mem 2)) at (g .rest))

@@ -8,13 +8,12 @@ use Rattle.definitions.specs.Job.{Job, readJob}
 use Rattle.definitions.specs.Plan.{Plan, readPlan}
 use Rattle.definitions.specs.Tools.{Verdict, rejected, verdictFor, verdictOn, verdict}
 use Rattle.text.specs.declared.Step.the-variants as Step
-use Rattle.mirguneth.specs.Schedule.{jobIn, LinkedOut}
+use Rattle.mirguneth.specs.Schedule.{jobIn}
 use Rattle.mirguneth.specs.Loading.{planIn, readBoth, BothLoaded}
-use Rattle.mirguneth.specs.Checking.{PlanHeld}
 use Rattle.mirguneth.specs.Answers.{Judged}
 use Rattle.mirguneth.specs.declared.Checked.{Checked}
 use Rattle.mirguneth.specs.declared.Checked.the-variants.{Refused}
-use Rattle.mirguneth.proofs.JobAndPlan.{both-no, both-next, both-facts}
+use Rattle.mirguneth.proofs.JobAndPlan.{both-next}
 
 -- The answer to both texts, read or refused.
 abbrev verdictBoth : Result (Job × Plan) → Verdict
@@ -34,13 +33,9 @@ module _ (job plan : List ℕ) where
       by (good j) = for j (readPlan document01 j plan)
       by (bad n) = refl
 
-  module _ (mem : List ℕ) (n : ℕ) where
-    pub text-refused : BothLoaded (readBoth job plan) mem (Step.Refused n) → Judged (verdict document01 job plan) (Refused n)
-    text-refused h = rw (verdict-both, both-no job plan mem n h) refl
+  pub text-refused : (n : ℕ) → readBoth job plan ≡ bad n → Judged (verdict document01 job plan) (Refused n)
+  text-refused n h = rw (verdict-both, h) refl
 
-    module _ (h : BothLoaded (readBoth job plan) mem (Step.Next n)) where
-      pub plan-held : PlanHeld mem × LinkedOut mem
-      plan-held = let (e, s, l) = both-next job plan mem n h in (record { standing = s; facts = both-facts job plan (jobIn mem) (planIn mem) e }, l)
-
-      pub plan-judged : (r : Checked) → Judged (verdictFor document01 (jobIn mem) (good (planIn mem))) r → Judged (verdict document01 job plan) r
-      plan-judged r a = let (e, s, l) = both-next job plan mem n h in rw (verdict-both, e) a
+  pub plan-judged : (mem : List ℕ) (n rooms : ℕ) → BothLoaded rooms (readBoth job plan) mem (Step.Next n) → (r : Checked)
+      → Judged (verdictFor document01 (jobIn mem) (good (planIn rooms mem))) r → Judged (verdict document01 job plan) r
+  plan-judged mem n rooms h r a = let (e, s, l) = both-next job plan mem n h in rw (verdict-both, e) a

@@ -14,22 +14,22 @@ use Rattle.mirguneth.specs.Loading.{planIn}
 use Rattle.mirguneth.specs.declared.clocks.Clocks.{Clocks}
 
 -- A plan that was read stands in a memory with its job, a line for each task.
-pub record PlanHeld (mem : List ℕ) : Type 0 where
-  pub standing : Standing (nth mem 0) mem
-  pub facts : PlanFacts document01 (jobIn mem) (planIn mem)
+pub record PlanHeld (rooms : ℕ) (mem : List ℕ) : Type 0 where
+  pub standing : Standing rooms (nth mem 0) mem
+  pub facts : PlanFacts document01 (jobIn mem) (planIn rooms mem)
 
 -- The ready ticks of all processors after the first k lines.
-abbrev pub ClocksAfter : ℕ → List ℕ → Clocks → Type 0
-ClocksAfter k mem clocks = ClocksHeld clocks (jobIn mem) (placedIn false (nth mem 3 + 1) k mem) (placedIn true (nth mem 3 + 1) k mem)
+abbrev pub ClocksAfter : ℕ → ℕ → List ℕ → Clocks → Type 0
+ClocksAfter rooms k mem clocks = ClocksHeld clocks (jobIn mem) (placedIn rooms false (nth mem 3 + 1) k mem) (placedIn rooms true (nth mem 3 + 1) k mem)
 
 -- The early or late finish of replica c of line k by the equations, after the first k lines as they are written.
-abbrev pub finishIn : Bool → ℕ → ℕ → List ℕ → Time
-finishIn late k c mem = finishOn late k mem (nth mem (rowAt k)) (nth mem (rowAt k + (1 + 3 * c)))
+abbrev pub finishIn : ℕ → Bool → ℕ → ℕ → List ℕ → Time
+finishIn rooms late k c mem = finishOn rooms late k mem (nth mem (rowAt rooms k)) (nth mem (rowAt rooms k + (1 + 3 * c)))
 
 -- The ticks of the first c replicas of line k are the equations'.
-abbrev pub AgreesTo : ℕ → ℕ → List ℕ → Type 0
-AgreesTo k c mem = (late : Bool) (i : ℕ) → i < c → finishIn late k i mem ≡ timeIn (nth mem (rowAt k + ((if late then 3 else 2) + 3 * i)))
+abbrev pub AgreesTo : ℕ → ℕ → ℕ → List ℕ → Type 0
+AgreesTo rooms k c mem = (late : Bool) (i : ℕ) → i < c → finishIn rooms late k i mem ≡ timeIn (nth mem (rowAt rooms k + ((if late then 3 else 2) + 3 * i)))
 
 -- All of line k are.
-abbrev pub LineAgrees : ℕ → List ℕ → Type 0
-LineAgrees k mem = AgreesTo k (nth mem 3 + 1) mem
+abbrev pub LineAgrees : ℕ → ℕ → List ℕ → Type 0
+LineAgrees rooms k mem = AgreesTo rooms k (nth mem 3 + 1) mem

@@ -1,62 +1,76 @@
--- Where things stand in the working memory, in cells. The job is at the front.
-use Prim.Native.Nat.{ℕ, _+_, _*_}
+-- Where things stand in a working memory, in cells. Its size is counted in rooms: a table begins at a constant times the number of
+-- rooms, and is as many times as long as in a memory of one room. The job is at the front.
+use Prim.Native.Nat.{ℕ, _+_, _*_, _≤_}
+use Rattle.definitions.specs.Job.{JobHead}
 
 -- All cells.
-abbrev pub memorySize : ℕ
-memorySize = 15_872
+abbrev pub memorySize : ℕ → ℕ
+memorySize rooms = 513 * rooms
 
 -- The cells that a job may take, with those used on the way.
-abbrev pub jobSize : ℕ
-jobSize = 5_640
+abbrev pub jobSize : ℕ → ℕ
+jobSize rooms = 177 * rooms
 
--- For each task the link to the newest edge that enters it; for each edge the link to the next one that enters the same task.
-abbrev pub inHeadAt : ℕ
-inHeadAt = 5_640
+-- The cells of a job with this head, and two more that are used while edges are read.
+abbrev pub cellsFor : JobHead → ℕ
+cellsFor h = 4 + (h .tasks + h .processors) * (h .processors + 1) + h .edges + 2
 
-abbrev pub inNextAt : ℕ
-inNextAt = 5_896
+-- A job with this head fits a memory of so many rooms.
+abbrev pub FitsIn : ℕ → JobHead → Type 0
+FitsIn rooms h = (h .tasks ≤ 8 * rooms) × (h .edges ≤ 32 * rooms) × (cellsFor h ≤ jobSize rooms)
 
--- The same for the edges that leave a task.
-abbrev pub outHeadAt : ℕ
-outHeadAt = 6_920
+-- For each task the link to the newest edge that enters it.
+abbrev pub inHeadAt : ℕ → ℕ
+inHeadAt rooms = 177 * rooms
 
-abbrev pub outNextAt : ℕ
-outNextAt = 7_176
+-- For each edge the link to the next one that enters the same task.
+abbrev pub inNextAt : ℕ → ℕ
+inNextAt rooms = 185 * rooms
 
--- Bottom levels by task; those of the next round.
-abbrev pub levelAt : ℕ
-levelAt = 8_200
+-- For each task the link to the newest edge that leaves it.
+abbrev pub outHeadAt : ℕ → ℕ
+outHeadAt rooms = 217 * rooms
 
-abbrev pub raisedAt : ℕ
-raisedAt = 8_456
+-- For each edge the link to the next one that leaves the same task.
+abbrev pub outNextAt : ℕ → ℕ
+outNextAt rooms = 225 * rooms
+
+-- Bottom levels by task.
+abbrev pub levelAt : ℕ → ℕ
+levelAt rooms = 257 * rooms
+
+-- Bottom levels of the next round.
+abbrev pub raisedAt : ℕ → ℕ
+raisedAt rooms = 265 * rooms
 
 -- For each task its line in the plan, counted from 1; 0 if it is not placed.
-abbrev pub lineAt : ℕ
-lineAt = 8_712
+abbrev pub lineAt : ℕ → ℕ
+lineAt rooms = 273 * rooms
 
 -- For each task the number of its edges from tasks that are not placed.
-abbrev pub blockedAt : ℕ
-blockedAt = 8_968
+abbrev pub blockedAt : ℕ → ℕ
+blockedAt rooms = 281 * rooms
 
 -- For each free task its priority.
-abbrev pub priorityAt : ℕ
-priorityAt = 9_224
+abbrev pub priorityAt : ℕ → ℕ
+priorityAt rooms = 289 * rooms
 
 -- For each task its scaled run time while bottom levels are settled, where the priorities will stand.
-abbrev pub runAt : ℕ
-runAt = 9_224
+abbrev pub runAt : ℕ → ℕ
+runAt rooms = 289 * rooms
 
 -- The plan's lines, 25 cells each: the task, then processor, early and late for each replica.
-abbrev pub rowAt : ℕ → ℕ
-rowAt i = 9_480 + i * 25
+abbrev pub rowAt : ℕ → ℕ → ℕ
+rowAt rooms i = 297 * rooms + i * 25
 
 -- For each processor its largest delay to any processor, after the last line.
-abbrev pub farAt : ℕ
-farAt = 15_856
+abbrev pub farAt : ℕ → ℕ
+farAt rooms = 497 * rooms
 
--- M* and M of a plan that is complete, where the counts of blocking edges stood.
-abbrev pub bestAt : ℕ
-bestAt = 8_968
+-- M* of a plan that is complete, where the counts of blocking edges stood.
+abbrev pub bestAt : ℕ → ℕ
+bestAt rooms = 281 * rooms
 
-abbrev pub worstAt : ℕ
-worstAt = 8_969
+-- M, after it.
+abbrev pub worstAt : ℕ → ℕ
+worstAt rooms = 282 * rooms

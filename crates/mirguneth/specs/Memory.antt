@@ -1,5 +1,5 @@
 -- The job in memory: the numbers of its lines, in the text's order, one cell each; an edge takes one cell.
-use Prim.Native.Nat.{ℕ, zero, suc, _+_, _*_, _/_, _%_, _^_, _<_}
+use Prim.Native.Nat.{ℕ, zero, suc, _+_, _*_, _/_, _%_, _^_, _<_, _≤_}
 use mathlib.Core.List.{List, [], _∷_, _++_, map}
 use mathlib.Core.Path.{_≡_}
 use mathlib.Core.Bool.{Bool, _&&_}
@@ -51,14 +51,14 @@ abbrev pub ruleOf : Kind → List (List ℕ) → List ℕ → ℕ
 ruleOf Runs = runRule document01
 ruleOf Delays = delayRule document01
 
--- The bit of a pair in a table of 256 × 256 bits, 8 in each byte.
+-- The bit of a pair in a table of 256 bits for each task, 8 in each byte.
 abbrev pub pairBit : List ℕ → ℕ → ℕ → ℕ
 pairBit table a b = nth table (a * 32 + b / 8) / 2 ^ (b % 8) % 2
 
--- The table of the pairs of some edges: the bit of a and b is 1 if one of them goes from a to b, else 0.
-pub record Pairs (es : List Edge) (table : List ℕ) : Type 0 where
-  pub size : length table ≡ 8192
-  pub holds : (a b : ℕ) → a < 256 → b < 256 → pairBit table a b ≡ (if any (λ d. eqb (d .from) a && eqb (d .to) b) es then 1 else 0)
+-- The table of the pairs of some edges between v tasks: the bit of a and b is 1 if one of them goes from a to b, else 0.
+pub record Pairs (v : ℕ) (es : List Edge) (table : List ℕ) : Type 0 where
+  pub size : v * 32 ≤ length table
+  pub holds : (a b : ℕ) → a < v → b < 256 → pairBit table a b ≡ (if any (λ d. eqb (d .from) a && eqb (d .to) b) es then 1 else 0)
 
 -- Marks: place t is 1 if f is true of task t, else 0.
 pub record Marks (f : ℕ → Bool) (marks : List ℕ) : Type 0 where

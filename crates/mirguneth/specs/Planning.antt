@@ -19,12 +19,12 @@ use Rattle.mirguneth.specs.declared.clocks.Clocks.{Clocks}
 -- The choice of a task ------------------------------------------------------------------------------------------
 
 -- Task t is not placed, and no edge is counted that blocks it.
-abbrev pub isFree : List ℕ → ℕ → Bool
-isFree mem t = eqb (nth mem (lineAt + t)) 0 && eqb (nth mem (blockedAt + t)) 0
+abbrev pub isFree : ℕ → List ℕ → ℕ → Bool
+isFree rooms mem t = eqb (nth mem (lineAt rooms + t)) 0 && eqb (nth mem (blockedAt rooms + t)) 0
 
 -- The free tasks with their priorities, ascending.
-unfoldable pub freeIn : List ℕ → List (ℕ × ℕ)
-freeIn mem = map (λ t. (t, nth mem (priorityAt + t))) (keep (isFree mem) (below (nth mem 0)))
+unfoldable pub freeIn : ℕ → List ℕ → List (ℕ × ℕ)
+freeIn rooms mem = map (λ t. (t, nth mem (priorityAt rooms + t))) (keep (isFree rooms mem) (below (nth mem 0)))
 
 -- The task of greatest priority among these, which ascend, so that ties go to the lowest; d if there is none.
 abbrev pub bestOf : ℕ → List (ℕ × ℕ) → ℕ
@@ -32,17 +32,17 @@ bestOf d [] = d
 bestOf d (x ∷ xs) = greatestOf x xs
 
 -- The first n cells list the free tasks, ascending; and a task that is blocked has no line.
-pub record FreeList (cells : List ℕ) (n : ℕ) (mem : List ℕ) : Type 0 where
+pub record FreeList (rooms : ℕ) (cells : List ℕ) (n : ℕ) (mem : List ℕ) : Type 0 where
   pub size : length cells ≡ 256
   pub few : n ≤ 255
-  pub listed : take n cells ≡ keep (isFree mem) (below (nth mem 0))
-  pub waits : (u : ℕ) → u < nth mem 0 → 0 < nth mem (blockedAt + u) → nth mem (lineAt + u) ≡ 0
+  pub listed : take n cells ≡ keep (isFree rooms mem) (below (nth mem 0))
+  pub waits : (u : ℕ) → u < nth mem 0 → 0 < nth mem (blockedAt rooms + u) → nth mem (lineAt rooms + u) ≡ 0
 
 -- Task t got a line, and no other; what blocks the tasks is the same.
-pub record Taken (t : ℕ) (d e : List ℕ) : Type 0 where
-  pub line-new : 0 < nth e (lineAt + t)
-  pub line-kept : (u : ℕ) → u < nth d 0 → (u ≡ t → ⊥) → nth e (lineAt + u) ≡ nth d (lineAt + u)
-  pub blocked-kept : (u : ℕ) → u < nth d 0 → nth e (blockedAt + u) ≡ nth d (blockedAt + u)
+pub record Taken (rooms t : ℕ) (d e : List ℕ) : Type 0 where
+  pub line-new : 0 < nth e (lineAt rooms + t)
+  pub line-kept : (u : ℕ) → u < nth d 0 → (u ≡ t → ⊥) → nth e (lineAt rooms + u) ≡ nth d (lineAt rooms + u)
+  pub blocked-kept : (u : ℕ) → u < nth d 0 → nth e (blockedAt rooms + u) ≡ nth d (blockedAt rooms + u)
 
 -- u put into a list, behind the last member that is less.
 unfoldable pub inserted : ℕ → List ℕ → List ℕ
@@ -50,45 +50,45 @@ inserted u [] = u ∷ []
 inserted u (x ∷ xs) = if any (λ y. ltb y u) (x ∷ xs) then x ∷ inserted u xs else u ∷ x ∷ xs
 
 -- The tasks that wait, with their bottom levels.
-unfoldable pub waitingIn : List ℕ → List Waiting
-waitingIn mem =
-    keep (λ w. eqb (nth mem (lineAt + w .task)) 0) (waitingFrom 0 (map (λ t. nth mem (levelAt + t)) (below (nth mem 0))))
+unfoldable pub waitingIn : ℕ → List ℕ → List Waiting
+waitingIn rooms mem =
+    keep (λ w. eqb (nth mem (lineAt rooms + w .task)) 0) (waitingFrom 0 (map (λ t. nth mem (levelAt rooms + t)) (below (nth mem 0))))
 
 -- The line at a is one that top levels ask, for an edge of this volume.
-pub record Sends (a volume : ℕ) (mem : List ℕ) : Type 0 where
+pub record Sends (rooms a volume : ℕ) (mem : List ℕ) : Type 0 where
   pub row : RowHeld a mem
   pub within : a + 25 ≤ length mem
   pub narrow : nth mem 3 ≤ document01 .losses
   pub ticks : (c : ℕ) → c < nth mem 3 + 1 → nth mem (a + (2 + 3 * c)) ≤ document01 .tick
   pub little : volume ≤ document01 .volume
-  pub far : FarFilled mem
+  pub far : FarFilled rooms mem
 
 -- When the data of one of the first c replicas of the line at a is everywhere, for an edge of this volume.
-unfoldable pub spreadIn : ℕ → ℕ → ℕ → List ℕ → Time
-spreadIn volume a c mem = least (map (λ d. after (volume * nth mem (farAt + d .processor)) (d .time)) (rowOutcomes false a c mem))
+unfoldable pub spreadIn : ℕ → ℕ → ℕ → ℕ → List ℕ → Time
+spreadIn rooms volume a c mem = least (map (λ d. after (volume * nth mem (farAt rooms + d .processor)) (d .time)) (rowOutcomes false a c mem))
 
 -- What is placed ------------------------------------------------------------------------------------------------
 
 -- The replicas of the first k lines with their early times, and with their late ones.
-abbrev pub earliesIn : ℕ → List ℕ → List Outcome
-earliesIn k mem = placedIn false (nth mem 3 + 1) k mem
+abbrev pub earliesIn : ℕ → ℕ → List ℕ → List Outcome
+earliesIn rooms k mem = placedIn rooms false (nth mem 3 + 1) k mem
 
-abbrev pub latesIn : ℕ → List ℕ → List Outcome
-latesIn k mem = placedIn true (nth mem 3 + 1) k mem
+abbrev pub latesIn : ℕ → ℕ → List ℕ → List Outcome
+latesIn rooms k mem = placedIn rooms true (nth mem 3 + 1) k mem
 
 -- The early or the late finish of task t on p, after the first k lines.
-unfoldable pub finishOn : Bool → ℕ → List ℕ → ℕ → ℕ → Time
-finishOn late k mem t p = finish (jobIn mem) (choiceOf late) [] (placedIn late (nth mem 3 + 1) k mem) (copyOf (jobIn mem) t p)
+unfoldable pub finishOn : ℕ → Bool → ℕ → List ℕ → ℕ → ℕ → Time
+finishOn rooms late k mem t p = finish (jobIn mem) (choiceOf late) [] (placedIn rooms late (nth mem 3 + 1) k mem) (copyOf (jobIn mem) t p)
 
 -- The replica of t on p, after the first k lines; and its outcomes.
-abbrev pub replicaOn : ℕ → List ℕ → ℕ → ℕ → Replica
-replicaOn k mem t p = record { processor = p; early = tickOf (finishOn false k mem t p); late = tickOf (finishOn true k mem t p) }
+abbrev pub replicaOn : ℕ → ℕ → List ℕ → ℕ → ℕ → Replica
+replicaOn rooms k mem t p = record { processor = p; early = tickOf (finishOn rooms false k mem t p); late = tickOf (finishOn rooms true k mem t p) }
 
-abbrev pub earlyOutcome : ℕ → List ℕ → ℕ → ℕ → Outcome
-earlyOutcome k mem t p = record { task = t; processor = p; time = finishOn false k mem t p }
+abbrev pub earlyOutcome : ℕ → ℕ → List ℕ → ℕ → ℕ → Outcome
+earlyOutcome rooms k mem t p = record { task = t; processor = p; time = finishOn rooms false k mem t p }
 
-abbrev pub lateOutcome : ℕ → List ℕ → ℕ → ℕ → Outcome
-lateOutcome k mem t p = record { task = t; processor = p; time = finishOn true k mem t p }
+abbrev pub lateOutcome : ℕ → ℕ → List ℕ → ℕ → ℕ → Outcome
+lateOutcome rooms k mem t p = record { task = t; processor = p; time = finishOn rooms true k mem t p }
 
 -- The clocks have the ready ticks of all processors after what is placed, with its early and its late times.
 pub record ClocksHeld (clocks : Clocks) (j : Job) (es ls : List Outcome) : Type 0 where
@@ -98,37 +98,37 @@ pub record ClocksHeld (clocks : Clocks) (j : Job) (es ls : List Outcome) : Type 
   pub late-ready : (p : ℕ) → p < j .processors → tick (nth (clocks .late) p) ≡ ready j p ls
 
 -- k lines of the plan are drawn up, and what is left to place gives the rest of it.
-pub record Drawn (k : ℕ) (mem : List ℕ) : Type 0 where
-  pub standing : Standing k mem
-  pub linked : LinkedOut mem
-  pub far : FarFilled mem
-  pub levels : LevelsFilled mem
-  pub ticks : ShortTo k mem
-  pub rest : linesIn (nth mem 3 + 1) k mem
-      ++ place (jobIn mem) (nth mem 3) (nth mem 0 - k) (waitingIn mem) (earliesIn k mem) (latesIn k mem)
+pub record Drawn (rooms k : ℕ) (mem : List ℕ) : Type 0 where
+  pub standing : Standing rooms k mem
+  pub linked : LinkedOut rooms mem
+  pub far : FarFilled rooms mem
+  pub levels : LevelsFilled rooms mem
+  pub ticks : ShortTo rooms k mem
+  pub rest : linesIn rooms (nth mem 3 + 1) k mem
+      ++ place (jobIn mem) (nth mem 3) (nth mem 0 - k) (waitingIn rooms mem) (earliesIn rooms k mem) (latesIn rooms k mem)
       ≡ planFor (jobIn mem) (nth mem 3) .lines
 
 -- Each task counts its edges from tasks that are not placed, and the edges es to it; a free task has its priority.
-pub record Ranked (es : List Edge) (mem : List ℕ) : Type 0 where
+pub record Ranked (rooms : ℕ) (es : List Edge) (mem : List ℕ) : Type 0 where
   pub blocked : (u : ℕ) → u < nth mem 0
-      → nth mem (blockedAt + u)
-      ≡ length (keep (λ e. eqb (nth mem (lineAt + e .from)) 0) (incoming (jobIn mem) u)) + length (keep (λ e. eqb (e .to) u) es)
-  pub priorities : (u : ℕ) → u < nth mem 0 → isFree mem u ≡ true
-      → nth mem (priorityAt + u) ≡ tickOf (topIn u mem) * scale (jobIn mem) + nth mem (levelAt + u)
+      → nth mem (blockedAt rooms + u)
+      ≡ length (keep (λ e. eqb (nth mem (lineAt rooms + e .from)) 0) (incoming (jobIn mem) u)) + length (keep (λ e. eqb (e .to) u) es)
+  pub priorities : (u : ℕ) → u < nth mem 0 → isFree rooms mem u ≡ true
+      → nth mem (priorityAt rooms + u) ≡ tickOf (topIn rooms u mem) * scale (jobIn mem) + nth mem (levelAt rooms + u)
 
 -- Line k is to be of task t, which would finish at these ticks, early and late.
-pub record Tried (k t : ℕ) (early late : List ℕ) (clocks : Clocks) (mem : List ℕ) : Type 0 where
-  pub drawn : Drawn k mem
+pub record Tried (rooms k t : ℕ) (early late : List ℕ) (clocks : Clocks) (mem : List ℕ) : Type 0 where
+  pub drawn : Drawn rooms k mem
   pub more : k < nth mem 0
-  pub clocks-now : ClocksHeld clocks (jobIn mem) (earliesIn k mem) (latesIn k mem)
+  pub clocks-now : ClocksHeld clocks (jobIn mem) (earliesIn rooms k mem) (latesIn rooms k mem)
   pub early-size : length early ≡ 16
   pub late-size : length late ≡ 16
-  pub early-finishes : (p : ℕ) → p < nth mem 1 → tick (nth early p) ≡ finishOn false k mem t p
-  pub late-finishes : (p : ℕ) → p < nth mem 1 → tick (nth late p) ≡ finishOn true k mem t p
+  pub early-finishes : (p : ℕ) → p < nth mem 1 → tick (nth early p) ≡ finishOn rooms false k mem t p
+  pub late-finishes : (p : ℕ) → p < nth mem 1 → tick (nth late p) ≡ finishOn rooms true k mem t p
 
 -- The processors of line k, if it is of task t.
-abbrev pub boxesFor : ℕ → ℕ → List ℕ → List ℕ
-boxesFor k t mem = chosen (jobIn mem) (nth mem 3 + 1) (trial (jobIn mem) (earliesIn k mem) t)
+abbrev pub boxesFor : ℕ → ℕ → ℕ → List ℕ → List ℕ
+boxesFor rooms k t mem = chosen (jobIn mem) (nth mem 3 + 1) (trial (jobIn mem) (earliesIn rooms k mem) t)
 
 -- Replica c of the line at a was written, on p with these finishes, and nothing else.
 pub record Wrote (a c p early late : ℕ) (d mem : List ℕ) : Type 0 where
@@ -138,13 +138,13 @@ pub record Wrote (a c p early late : ℕ) (d mem : List ℕ) : Type 0 where
   pub late-finish : nth mem (a + (3 + 3 * c)) ≡ late
 
 -- Line k of a memory d has its replicas, of task t on the processors ps, and the clocks are those after it.
-pub record Begun (k t : ℕ) (ps : List ℕ) (clocks : Clocks) (d mem : List ℕ) : Type 0 where
-  pub kept : KeptOutside (rowAt k) farAt d mem
-  pub replicas : rowReplicas (rowAt k) (length ps) mem ≡ map (replicaOn k d t) ps
-  pub clocks-after : ClocksHeld clocks (jobIn d) (reverseAux (map (earlyOutcome k d t) ps) (earliesIn k d)) (reverseAux (map (lateOutcome k d t) ps) (latesIn k d))
+pub record Begun (rooms k t : ℕ) (ps : List ℕ) (clocks : Clocks) (d mem : List ℕ) : Type 0 where
+  pub kept : KeptOutside (rowAt rooms k) (farAt rooms) d mem
+  pub replicas : rowReplicas (rowAt rooms k) (length ps) mem ≡ map (replicaOn rooms k d t) ps
+  pub clocks-after : ClocksHeld clocks (jobIn d) (reverseAux (map (earlyOutcome rooms k d t) ps) (earliesIn rooms k d)) (reverseAux (map (lateOutcome rooms k d t) ps) (latesIn rooms k d))
 
 -- The first n tasks have no line and no edge that is counted, and their bottom levels for priorities.
-pub record Cleared (n : ℕ) (mem : List ℕ) : Type 0 where
-  pub line : (t : ℕ) → t < n → nth mem (lineAt + t) ≡ 0
-  pub blocked : (t : ℕ) → t < n → nth mem (blockedAt + t) ≡ 0
-  pub priority : (t : ℕ) → t < n → nth mem (priorityAt + t) ≡ nth mem (levelAt + t)
+pub record Cleared (rooms n : ℕ) (mem : List ℕ) : Type 0 where
+  pub line : (t : ℕ) → t < n → nth mem (lineAt rooms + t) ≡ 0
+  pub blocked : (t : ℕ) → t < n → nth mem (blockedAt rooms + t) ≡ 0
+  pub priority : (t : ℕ) → t < n → nth mem (priorityAt rooms + t) ≡ nth mem (levelAt rooms + t)

@@ -9,8 +9,8 @@ use Rattle.mirguneth.specs.Layout.{levelAt, raisedAt, runAt}
 use Rattle.mirguneth.specs.Schedule.{jobIn}
 
 -- The levels of all tasks.
-unfoldable pub levelsIn : List ℕ → List ℕ
-levelsIn mem = map (λ t. nth mem (levelAt + t)) (below (nth mem 0))
+unfoldable pub levelsIn : ℕ → List ℕ → List ℕ
+levelsIn rooms mem = map (λ t. nth mem (levelAt rooms + t)) (below (nth mem 0))
 
 -- What a round adds to a level at most: 15 × 16 run times of 1,000,000, and a message of 4,095 × 16 × 16 × 255. 255 rounds.
 abbrev pub roundMost : ℕ
@@ -24,17 +24,17 @@ abbrev pub TableMost : ℕ → ℕ → List ℕ → Type 0
 TableMost at b mem = (t : ℕ) → t < nth mem 0 → nth mem (at + t) ≤ b
 
 -- An edge's scaled message and its successor's level.
-abbrev pub sent : List ℕ → Edge → ℕ
-sent mem e = e .volume * totalDelay (jobIn mem) + nth mem (levelAt + e .to)
+abbrev pub sent : ℕ → List ℕ → Edge → ℕ
+sent rooms mem e = e .volume * totalDelay (jobIn mem) + nth mem (levelAt rooms + e .to)
 
 -- The table of the next round in e has, for each task, the largest of these in d.
-abbrev pub SuccessorsFilled : List ℕ → List ℕ → Type 0
-SuccessorsFilled d e = (t : ℕ) → t < nth d 0 → nth e (raisedAt + t) ≡ greatest (map (sent d) (outgoing (jobIn d) t))
+abbrev pub SuccessorsFilled : ℕ → List ℕ → List ℕ → Type 0
+SuccessorsFilled rooms d e = (t : ℕ) → t < nth d 0 → nth e (raisedAt rooms + t) ≡ greatest (map (sent rooms d) (outgoing (jobIn d) t))
 
 -- Scaled run times are filled.
-abbrev pub RunsFilled : List ℕ → Type 0
-RunsFilled mem = (t : ℕ) → t < nth mem 0 → nth mem (runAt + t) ≡ scaledRun (jobIn mem) t
+abbrev pub RunsFilled : ℕ → List ℕ → Type 0
+RunsFilled rooms mem = (t : ℕ) → t < nth mem 0 → nth mem (runAt rooms + t) ≡ scaledRun (jobIn mem) t
 
 -- The levels in e are the scaled run times and what the table of the next round has in d.
-abbrev pub RunsAdded : List ℕ → List ℕ → Type 0
-RunsAdded d e = (t : ℕ) → t < nth d 0 → nth e (levelAt + t) ≡ scaledRun (jobIn d) t + nth d (raisedAt + t)
+abbrev pub RunsAdded : ℕ → List ℕ → List ℕ → Type 0
+RunsAdded rooms d e = (t : ℕ) → t < nth d 0 → nth e (levelAt rooms + t) ≡ scaledRun (jobIn d) t + nth d (raisedAt rooms + t)

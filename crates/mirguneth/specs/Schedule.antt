@@ -8,13 +8,13 @@ use lib.Dec.{eqb}
 use lib.ListN.{length}
 use Rattle.definitions.specs.Lists.{if_then_else_, nth, below, In}
 use Rattle.definitions.specs.Limits.{document01}
-use Rattle.definitions.specs.Job.{Edge, Job, delay, incoming, outgoing}
+use Rattle.definitions.specs.Job.{Edge, Job, jobHeadOf, delay, incoming, outgoing}
 use Rattle.definitions.specs.Plan.{Replica, Line}
 use Rattle.definitions.specs.Times.{Time, tick, never, after, least, largest, Outcome}
 use Rattle.definitions.specs.Planner.{largestDelay, bottomLevels}
 use Rattle.definitions.proofs.Facts.{JobFacts}
 use Rattle.mirguneth.specs.Memory.{edgeIn}
-use Rattle.mirguneth.specs.Layout.{memorySize, inHeadAt, inNextAt, outHeadAt, outNextAt, levelAt, lineAt, farAt, rowAt}
+use Rattle.mirguneth.specs.Layout.{memorySize, FitsIn, inHeadAt, inNextAt, outHeadAt, outNextAt, levelAt, lineAt, farAt, rowAt}
 
 -- The job at the front of a memory ---------------------------------------------------------------------------
 
@@ -22,6 +22,7 @@ use Rattle.mirguneth.specs.Layout.{memorySize, inHeadAt, inNextAt, outHe
 abbrev pub edgeAt : List ℕ → ℕ → ℕ
 edgeAt mem i = 4 + (nth mem 0 + nth mem 1) * (nth mem 1 + 1) + i
 
+-- The job that the cells hold.
 unfoldable pub jobIn : List ℕ → Job
 jobIn mem =
     record {
@@ -35,10 +36,11 @@ jobIn mem =
 
 -- Times -------------------------------------------------------------------------------------------------------
 
--- A time in a cell: the greatest 64-bit number is never.
+-- Never in a cell: the greatest 64-bit number.
 abbrev pub neverCell : ℕ
 neverCell = 18_446_744_073_709_551_615
 
+-- The time that a cell holds.
 abbrev pub timeIn : ℕ → Time
 timeIn x = if eqb x neverCell then never else tick x
 
@@ -61,9 +63,9 @@ rowOutcomes late a (suc c) mem =
     ∷ rowOutcomes late a c mem
 
 -- The replicas of the first k lines, w in each, newest first.
-unfoldable pub placedIn : Bool → ℕ → ℕ → List ℕ → List Outcome
-placedIn late w zero mem = []
-placedIn late w (suc k) mem = rowOutcomes late (rowAt k) w mem ++ placedIn late w k mem
+unfoldable pub placedIn : ℕ → Bool → ℕ → ℕ → List ℕ → List Outcome
+placedIn rooms late w zero mem = []
+placedIn rooms late w (suc k) mem = rowOutcomes late (rowAt rooms k) w mem ++ placedIn rooms late w k mem
 
 -- The first c replicas of the line at a, as a plan's line has them.
 unfoldable pub rowReplicas : ℕ → ℕ → List ℕ → List Replica
@@ -73,9 +75,9 @@ rowReplicas a (suc c) mem =
     ++ record { processor = nth mem (a + (1 + 3 * c)); early = nth mem (a + (2 + 3 * c)); late = nth mem (a + (3 + 3 * c)) } ∷ []
 
 -- The first k lines of a plan, w replicas in each.
-unfoldable pub linesIn : ℕ → ℕ → List ℕ → List Line
-linesIn w zero mem = []
-linesIn w (suc k) mem = linesIn w k mem ++ record { task = nth mem (rowAt k); replicas = rowReplicas (rowAt k) w mem } ∷ []
+unfoldable pub linesIn : ℕ → ℕ → ℕ → List ℕ → List Line
+linesIn rooms w zero mem = []
+linesIn rooms w (suc k) mem = linesIn rooms w k mem ++ record { task = nth mem (rowAt rooms k); replicas = rowReplicas (rowAt rooms k) w mem } ∷ []
 
 -- When the data of a predecessor whose line is at a is on p.
 unfoldable pub arrivalIn : Bool → ℕ → ℕ → ℕ → List ℕ → Time
@@ -84,12 +86,12 @@ arrivalIn late volume p a mem =
     (map (λ d. after (volume * delay (jobIn mem) (d .processor) p) (d .time)) (rowOutcomes late a (nth mem 3 + 1) mem))
 
 -- The line of a task that is placed.
-abbrev pub rowOf : ℕ → List ℕ → ℕ
-rowOf t mem = rowAt (nth mem (lineAt + t) - 1)
+abbrev pub rowOf : ℕ → ℕ → List ℕ → ℕ
+rowOf rooms t mem = rowAt rooms (nth mem (lineAt rooms + t) - 1)
 
 -- When all data of t is on p.
-unfoldable pub dataIn : Bool → ℕ → ℕ → List ℕ → Time
-dataIn late t p mem = largest (map (λ e. arrivalIn late (e .volume) p (rowOf (e .from) mem) mem) (incoming (jobIn mem) t))
+unfoldable pub dataIn : ℕ → Bool → ℕ → ℕ → List ℕ → Time
+dataIn rooms late t p mem = largest (map (λ e. arrivalIn late (e .volume) p (rowOf rooms (e .from) mem) mem) (incoming (jobIn mem) t))
 
 -- Links -------------------------------------------------------------------------------------------------------
 
@@ -106,11 +108,13 @@ pub record Chained (edgesOf : ℕ → List Edge) (headAt nextAt : ℕ) (mem : Li
   pub head-most : (t : ℕ) → t < nth mem 0 → nth mem (headAt + t) ≤ nth mem 2
   pub falls : (i : ℕ) → i < nth mem 2 → nth mem (nextAt + i) ≤ i
 
-abbrev pub LinkedIn : List ℕ → Type 0
-LinkedIn mem = Chained (incoming (jobIn mem)) inHeadAt inNextAt mem
+-- The links to the edges that enter each task.
+abbrev pub LinkedIn : ℕ → List ℕ → Type 0
+LinkedIn rooms mem = Chained (incoming (jobIn mem)) (inHeadAt rooms) (inNextAt rooms) mem
 
-abbrev pub LinkedOut : List ℕ → Type 0
-LinkedOut mem = Chained (outgoing (jobIn mem)) outHeadAt outNextAt mem
+-- The links to the edges that leave each task.
+abbrev pub LinkedOut : ℕ → List ℕ → Type 0
+LinkedOut rooms mem = Chained (outgoing (jobIn mem)) (outHeadAt rooms) (outNextAt rooms) mem
 
 -- What stands in a memory ---------------------------------------------------------------------------------------
 
@@ -130,42 +134,47 @@ pub record RowHeld (a : ℕ) (mem : List ℕ) : Type 0 where
   pub early-of : (c : ℕ) → c < nth mem 3 + 1 → Small (document01 .tick) (nth mem (a + (2 + 3 * c)))
   pub late-of : (c : ℕ) → c < nth mem 3 + 1 → Small (document01 .tick) (nth mem (a + (3 + 3 * c)))
 
--- A job stands in a memory of full size.
-pub record JobHeld (mem : List ℕ) : Type 0 where
-  pub size : length mem ≡ memorySize
+-- A job stands in a memory of so many rooms, and fits it.
+pub record JobHeld (rooms : ℕ) (mem : List ℕ) : Type 0 where
+  pub size : length mem ≡ memorySize rooms
+  pub fits : FitsIn rooms (jobHeadOf mem)
   pub facts : JobFacts document01 (jobIn mem)
 
+-- A job stands in a memory of some size.
+abbrev pub JobStands : List ℕ → Type 0
+JobStands mem = (rooms : ℕ) × JobHeld rooms mem
+
 -- A job with its links, and k lines of a plan, each task in one line at the most.
-pub record Standing (k : ℕ) (mem : List ℕ) : Type 0 where
-  pub job : JobHeld mem
-  pub linked : LinkedIn mem
+pub record Standing (rooms k : ℕ) (mem : List ℕ) : Type 0 where
+  pub job : JobHeld rooms mem
+  pub linked : LinkedIn rooms mem
   pub count : k ≤ nth mem 0
-  pub task-of : (i : ℕ) → i < k → nth mem (rowAt i) < nth mem 0
-  pub line-of : (i : ℕ) → i < k → nth mem (lineAt + nth mem (rowAt i)) ≡ suc i
-  pub placed : (t : ℕ) → t < nth mem 0 → (nth mem (lineAt + t) ≡ 0) ⊎ ((i : ℕ) × (i < k) × (nth mem (lineAt + t) ≡ suc i) × (nth mem (rowAt i) ≡ t))
-  pub row : (i : ℕ) → i < k → RowHeld (rowAt i) mem
+  pub task-of : (i : ℕ) → i < k → nth mem (rowAt rooms i) < nth mem 0
+  pub line-of : (i : ℕ) → i < k → nth mem (lineAt rooms + nth mem (rowAt rooms i)) ≡ suc i
+  pub placed : (t : ℕ) → t < nth mem 0 → (nth mem (lineAt rooms + t) ≡ 0) ⊎ ((i : ℕ) × (i < k) × (nth mem (lineAt rooms + t) ≡ suc i) × (nth mem (rowAt rooms i) ≡ t))
+  pub row : (i : ℕ) → i < k → RowHeld (rowAt rooms i) mem
 
 -- The ticks of the first k lines do not pass what k lines add up to.
-abbrev pub ShortTo : ℕ → List ℕ → Type 0
-ShortTo k mem =
+abbrev pub ShortTo : ℕ → ℕ → List ℕ → Type 0
+ShortTo rooms k mem =
     (i c : ℕ) → i < k → c < nth mem 3 + 1
-    → (nth mem (rowAt i + (2 + 3 * c)) ≤ k * lineTicks) × (nth mem (rowAt i + (3 + 3 * c)) ≤ k * lineTicks)
+    → (nth mem (rowAt rooms i + (2 + 3 * c)) ≤ k * lineTicks) × (nth mem (rowAt rooms i + (3 + 3 * c)) ≤ k * lineTicks)
 
 -- Every predecessor of t has a line.
-abbrev pub FedIn : ℕ → List ℕ → Type 0
-FedIn t mem = (e : Edge) → In e (incoming (jobIn mem) t) → 0 < nth mem (lineAt + e .from)
+abbrev pub FedIn : ℕ → ℕ → List ℕ → Type 0
+FedIn rooms t mem = (e : Edge) → In e (incoming (jobIn mem) t) → 0 < nth mem (lineAt rooms + e .from)
 
 -- The top level of t, unscaled: from the lines of its predecessors and the table of largest delays.
-unfoldable pub topIn : ℕ → List ℕ → Time
-topIn t mem =
+unfoldable pub topIn : ℕ → ℕ → List ℕ → Time
+topIn rooms t mem =
     largest
-    (map (λ e. least (map (λ d. after (e .volume * nth mem (farAt + d .processor)) (d .time)) (rowOutcomes false (rowOf (e .from) mem) (nth mem 3 + 1) mem)))
+    (map (λ e. least (map (λ d. after (e .volume * nth mem (farAt rooms + d .processor)) (d .time)) (rowOutcomes false (rowOf rooms (e .from) mem) (nth mem 3 + 1) mem)))
     (incoming (jobIn mem) t))
 
 -- The table of largest delays is filled.
-abbrev pub FarFilled : List ℕ → Type 0
-FarFilled mem = (p : ℕ) → p < nth mem 1 → nth mem (farAt + p) ≡ largestDelay (jobIn mem) p
+abbrev pub FarFilled : ℕ → List ℕ → Type 0
+FarFilled rooms mem = (p : ℕ) → p < nth mem 1 → nth mem (farAt rooms + p) ≡ largestDelay (jobIn mem) p
 
 -- Bottom levels are filled.
-abbrev pub LevelsFilled : List ℕ → Type 0
-LevelsFilled mem = (t : ℕ) → t < nth mem 0 → nth mem (levelAt + t) ≡ nth (bottomLevels (jobIn mem)) t
+abbrev pub LevelsFilled : ℕ → List ℕ → Type 0
+LevelsFilled rooms mem = (t : ℕ) → t < nth mem 0 → nth mem (levelAt rooms + t) ≡ nth (bottomLevels (jobIn mem)) t

@@ -5,8 +5,10 @@ use mathlib.Core.List.{List, [], _∷_, _++_, map}
 use lib.ListN.{length, take, drop}
 use Rattle.definitions.specs.Lists.{bytes, nth}
 use Rattle.definitions.specs.Limits.{document01}
-use Rattle.definitions.specs.Text.{Reading, Reader, _>>=_, _>>_, return, firstOf, due, line, lines, Result, andThen, unless, ended}
-use Rattle.definitions.specs.Job.{Edge, Job, JobHead, jobHeadOf, jobHeadRule, runRule, delayRule, edgeLine, edgeRule, circular}
+use Rattle.definitions.specs.Text.{Reading, Reader, _>>=_, _>>_, return, firstOf, due, line, lines, Result, bad, andThen, unless, ended}
+use Rattle.definitions.specs.Job.{Edge, Job, JobHead, jobHeadOf, jobHeadRule, runRule, delayRule, edgeLine, edgeRule, circular, readJob}
+use Rattle.text.specs.declared.Step.{Step}
+use Rattle.text.specs.declared.Step.the-variants.{Next, Refused}
 use Rattle.mirguneth.specs.Memory.{numbered}
 
 -- The job of a head, run times, delays and edges.
@@ -62,7 +64,7 @@ pub record Headed (mem : List ℕ) : Type 0 where
   pub tasks-most : nth mem 0 ≤ 255
   pub processors-most : nth mem 1 ≤ 16
   pub edges-most : nth mem 2 ≤ 1024
-  pub room : 5640 ≤ length mem
+  pub room : edgesAt (jobHeadOf mem) + nth mem 2 + 2 ≤ length mem
 
 -- The C lines' cells stand after the head; the C and D lines' cells do.
 abbrev pub RunsIn : List ℕ → List (List ℕ) → Type 0
@@ -70,3 +72,8 @@ RunsIn mem runs = take (delaysAt (jobHeadOf mem)) mem ≡ take 4 mem ++ numbered
 
 abbrev pub DelaysIn : List ℕ → List (List ℕ) → List (List ℕ) → Type 0
 DelaysIn mem runs delays = take (edgesAt (jobHeadOf mem)) mem ≡ take 4 mem ++ numbered 0 runs ++ numbered 0 delays
+
+-- A job's head was read, and the text from p on gives the rest of the job; or the refusal.
+abbrev pub HeadRead : List ℕ → List ℕ → Step → Type 0
+HeadRead s head (Next p) = (jobHeadRule document01 (jobHeadOf head) ≡ 0) × (readJob document01 s ≡ closed (fromRuns (jobHeadOf head) (drop p s)))
+HeadRead s head (Refused n) = readJob document01 s ≡ bad n

@@ -1,4 +1,4 @@
-// The checker's tests after a plan's last line: 12, 13, 14.
+// The checker: both texts are read, then 12, 13 and 14 are tried.
 ghost use mathlib.Core.Path.{_≡_};
 ghost use mathlib.Core.Logic.{_⊎_};
 ghost use mathlib.Core.List.{[]};
@@ -10,10 +10,10 @@ ghost use Rattle.definitions.specs.Limits.{document01};
 ghost use Rattle.definitions.specs.Text.{good};
 ghost use Rattle.definitions.specs.Plan.{processorsOf, descends};
 ghost use Rattle.definitions.specs.Refusals.{doubledTasks, ticksAgree, endsAgree};
-ghost use Rattle.definitions.specs.Tools.{verdictFor};
-ghost use Rattle.mirguneth.specs.Layout.{rowAt};
-ghost use Rattle.mirguneth.specs.Schedule.{jobIn, JobHeld, LinkedOut, ShortTo};
-ghost use Rattle.mirguneth.specs.Loading.{lineIn, planIn};
+ghost use Rattle.definitions.specs.Tools.{verdictFor, verdict};
+ghost use Rattle.mirguneth.specs.Layout.{memorySize, rowAt};
+ghost use Rattle.mirguneth.specs.Schedule.{jobIn, JobStands, LinkedOut, ShortTo};
+ghost use Rattle.mirguneth.specs.Loading.{lineIn, planIn, Opened};
 ghost use Rattle.mirguneth.specs.Answers.{Judged};
 ghost use Rattle.mirguneth.specs.Arrivals.{DelayTable};
 ghost use Rattle.mirguneth.specs.Checking.{PlanHeld, ClocksAfter, LineAgrees};
@@ -23,11 +23,13 @@ use crate::ends;
 use crate::layout::BEST;
 use crate::layout::ROWS;
 use crate::layout::WORST;
+use crate::loading;
 use crate::times;
+use text::Step;
 
 // In the line at `a` two replicas are on one processor. Processors do not descend.
 fn doubles(mem: &[u64], a: usize) -> bool
-    requires { ⌜ JobHeld (now mem) × (a + 25 ≤ length (now mem)) × (descends (processorsOf (lineIn a (now mem))) ≡ false) ⌝ }
+    requires { ⌜ JobStands (now mem) × (a + 25 ≤ length (now mem)) × (descends (processorsOf (lineIn a (now mem))) ≡ false) ⌝ }
     ensures { λ r. ⌜ r ≡ not (distinct (processorsOf (lineIn a (now (mem .entry))))) ⌝ }
 {
     let w = mem[3] as usize + 1;
@@ -42,14 +44,15 @@ fn doubles(mem: &[u64], a: usize) -> bool
 }
 
 // The first line with two replicas on one processor; the number of lines if there is none.
-fn doubled_line(mem: &[u64]) -> usize
-    requires { ⌜ PlanHeld (now mem) ⌝ }
-    ensures { λ r. ⌜ ((r ≡ nth (now (mem .entry)) 0) × (doubledTasks (planIn (now (mem .entry)) .lines) ≡ [])) ⊎ ((r < nth (now (mem .entry)) 0) × In (nth (now (mem .entry)) (rowAt r)) (doubledTasks (planIn (now (mem .entry)) .lines))) ⌝ }
+fn doubled_line(mem: &[u64], rooms: usize) -> usize
+    requires { ⌜ PlanHeld rooms (now mem) ⌝ }
+    ensures { λ r. ⌜ ((r ≡ nth (now (mem .entry)) 0) × (doubledTasks (planIn rooms (now (mem .entry)) .lines) ≡ [])) ⊎ ((r < nth (now (mem .entry)) 0) × In (nth (now (mem .entry)) (rowAt rooms r)) (doubledTasks (planIn rooms (now (mem .entry)) .lines))) ⌝ }
 {
+    let rows = ROWS * rooms;
     let v = mem[0] as usize;
     let mut k = 0;
     while k < v {
-        if doubles(mem, ROWS + k * 25) {
+        if doubles(mem, rows + k * 25) {
             return k;
         }
         k += 1;
@@ -58,14 +61,15 @@ fn doubled_line(mem: &[u64]) -> usize
 }
 
 // The ticks of line k are the equations'.
-fn line_agrees(mem: &[u64], delays: &[u16], k: usize, clocks: Clocks) -> bool
-    requires { ⌜ PlanHeld (now mem) × DelayTable (now delays) (now mem) × (k < nth (now mem) 0) × ShortTo k (now mem) × ClocksAfter k (now mem) clocks ⌝ }
-    ensures { λ r. ⌜ (r ≡ true → LineAgrees k (now (mem .entry)) × ShortTo (k + 1) (now (mem .entry))) × (LineAgrees k (now (mem .entry)) → r ≡ true) ⌝ }
+fn line_agrees(mem: &[u64], rooms: usize, delays: &[u16], k: usize, clocks: Clocks) -> bool
+    requires { ⌜ PlanHeld rooms (now mem) × DelayTable (now delays) (now mem) × (k < nth (now mem) 0) × ShortTo rooms k (now mem) × ClocksAfter rooms k (now mem) clocks ⌝ }
+    ensures { λ r. ⌜ (r ≡ true → LineAgrees rooms k (now (mem .entry)) × ShortTo rooms (k + 1) (now (mem .entry))) × (LineAgrees rooms k (now (mem .entry)) → r ≡ true) ⌝ }
 {
+    let rows = ROWS * rooms;
     let w = mem[3] as usize + 1;
-    let a = ROWS + k * 25;
+    let a = rows + k * 25;
     let t = mem[a] as usize;
-    let f = times::finishes(mem, delays, t, clocks);
+    let f = times::finishes(mem, rooms, delays, t, clocks);
     let mut c = 0;
     while c < w {
         let p = mem[a + (1 + 3 * c)] as usize;
@@ -81,12 +85,13 @@ fn line_agrees(mem: &[u64], delays: &[u16], k: usize, clocks: Clocks) -> bool
 }
 
 // The clocks after line k.
-fn clocks_after(mem: &[u64], k: usize, clocks: Clocks) -> Clocks
-    requires { ⌜ PlanHeld (now mem) × (k < nth (now mem) 0) × ShortTo (k + 1) (now mem) × ClocksAfter k (now mem) clocks ⌝ }
-    ensures { λ r. ⌜ ClocksAfter (k + 1) (now (mem .entry)) r ⌝ }
+fn clocks_after(mem: &[u64], rooms: usize, k: usize, clocks: Clocks) -> Clocks
+    requires { ⌜ PlanHeld rooms (now mem) × (k < nth (now mem) 0) × ShortTo rooms (k + 1) (now mem) × ClocksAfter rooms k (now mem) clocks ⌝ }
+    ensures { λ r. ⌜ ClocksAfter rooms (k + 1) (now (mem .entry)) r ⌝ }
 {
+    let rows = ROWS * rooms;
     let w = mem[3] as usize + 1;
-    let a = ROWS + k * 25;
+    let a = rows + k * 25;
     let mut after = clocks;
     let mut c = 0;
     while c < w {
@@ -101,17 +106,17 @@ fn clocks_after(mem: &[u64], k: usize, clocks: Clocks) -> Clocks
 }
 
 // All ticks are the equations'.
-fn ticks_agree(mem: &[u64]) -> bool
-    requires { ⌜ PlanHeld (now mem) × (doubledTasks (planIn (now mem) .lines) ≡ []) ⌝ }
-    ensures { λ r. ⌜ r ≡ ticksAgree (jobIn (now (mem .entry))) (planIn (now (mem .entry)) .lines) ⌝ }
+fn ticks_agree(mem: &[u64], rooms: usize) -> bool
+    requires { ⌜ PlanHeld rooms (now mem) × (doubledTasks (planIn rooms (now mem) .lines) ≡ []) ⌝ }
+    ensures { λ r. ⌜ r ≡ ticksAgree (jobIn (now (mem .entry))) (planIn rooms (now (mem .entry)) .lines) ⌝ }
 {
     let v = mem[0] as usize;
     let delays = times::delay_table(mem);
     let mut clocks = Clocks::new();
     let mut k = 0;
     while k < v {
-        if line_agrees(mem, &delays, k, clocks) {
-            let next = clocks_after(mem, k, clocks);
+        if line_agrees(mem, rooms, &delays, k, clocks) {
+            let next = clocks_after(mem, rooms, k, clocks);
             clocks = next;
         } else {
             return false;
@@ -122,33 +127,54 @@ fn ticks_agree(mem: &[u64]) -> bool
 }
 
 // M* and M are the equations', if all ticks are.
-fn ends_agree(mem: &[u64]) -> bool
-    requires { ⌜ PlanHeld (now mem) × LinkedOut (now mem) × (doubledTasks (planIn (now mem) .lines) ≡ []) × (ticksAgree (jobIn (now mem)) (planIn (now mem) .lines) ≡ true) ⌝ }
-    ensures { λ r. ⌜ r ≡ endsAgree (jobIn (now (mem .entry))) (planIn (now (mem .entry))) ⌝ }
+fn ends_agree(mem: &[u64], rooms: usize) -> bool
+    requires { ⌜ PlanHeld rooms (now mem) × LinkedOut rooms (now mem) × (doubledTasks (planIn rooms (now mem) .lines) ≡ []) × (ticksAgree (jobIn (now mem)) (planIn rooms (now mem) .lines) ≡ true) ⌝ }
+    ensures { λ r. ⌜ r ≡ endsAgree (jobIn (now (mem .entry))) (planIn rooms (now (mem .entry))) ⌝ }
 {
-    let best = ends::end_of(mem, false);
-    if best != mem[BEST] {
+    let best_at = BEST * rooms;
+    let worst_at = WORST * rooms;
+    let best = ends::end_of(mem, rooms, false);
+    if best != mem[best_at] {
         return false;
     }
-    let worst = ends::end_of(mem, true);
-    worst == mem[WORST]
+    let worst = ends::end_of(mem, rooms, true);
+    worst == mem[worst_at]
 }
 
 // The checker's answer to the plan in memory.
-pub fn judge(mem: &[u64]) -> Checked
-    requires { ⌜ PlanHeld (now mem) × LinkedOut (now mem) ⌝ }
-    ensures { λ r. ⌜ Judged (verdictFor document01 (jobIn (now (mem .entry))) (good (planIn (now (mem .entry))))) r ⌝ }
+pub fn judge(mem: &[u64], rooms: usize) -> Checked
+    requires { ⌜ PlanHeld rooms (now mem) × LinkedOut rooms (now mem) ⌝ }
+    ensures { λ r. ⌜ Judged (verdictFor document01 (jobIn (now (mem .entry))) (good (planIn rooms (now (mem .entry))))) r ⌝ }
 {
-    let k = doubled_line(mem);
+    let rows = ROWS * rooms;
+    let k = doubled_line(mem, rooms);
     if k < mem[0] as usize {
-        let t = mem[ROWS + k * 25] as u8;
+        let t = mem[rows + k * 25] as u8;
         return Checked::Doubled(t);
     }
-    if ticks_agree(mem) {
-        if ends_agree(mem) {
+    if ticks_agree(mem, rooms) {
+        if ends_agree(mem, rooms) {
             return Checked::Accepted;
         }
         return Checked::Refused(14);
     }
     Checked::Refused(13)
+}
+
+// The checker's answer to two texts, the head of the job's being read up to `at`. `mem` is the working memory.
+pub fn check_in(
+    job: &[u8],
+    at: usize,
+    head: &[u64],
+    plan: &[u8],
+    mem: &mut [u64],
+    rooms: usize,
+) -> Checked
+    requires { ⌜ Opened rooms (now job) at (now head) × (length (now mem) ≡ memorySize rooms) ⌝ }
+    ensures { λ r. ⌜ Judged (verdict document01 (now (job .entry)) (now (plan .entry))) r ⌝ }
+{
+    match loading::load_both(job, at, head, plan, mem, rooms) {
+        Step::Next(_) => judge(&mem[..], rooms),
+        Step::Refused(x) => Checked::Refused(x),
+    }
 }

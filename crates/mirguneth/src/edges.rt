@@ -22,7 +22,7 @@ fn pair_at(from: u64, to: u64) -> usize
 
 // The table has a pair.
 fn has_pair(pairs: &[u8], from: u64, to: u64) -> bool
-    requires { ⌜ (length (now pairs) ≡ 8192) × (from < 256) × (to < 256) ⌝ }
+    requires { ⌜ (from * 32 + 32 ≤ length (now pairs)) × (from < 256) × (to < 256) ⌝ }
     ensures { λ r. ⌜ r ≡ eqb (pairBit (now (pairs .entry)) from to) 1 ⌝ }
 {
     let k = pair_at(from, to);
@@ -31,8 +31,8 @@ fn has_pair(pairs: &[u8], from: u64, to: u64) -> bool
 
 // Puts a pair into the table, which does not have it.
 fn add_pair(pairs: &mut [u8], from: u64, to: u64)
-    requires { ⌜ (from < 256) × (to < 256) × ((es : List Edge) × Pairs es (now pairs)) × (pairBit (now pairs) from to ≡ 0) ⌝ }
-    ensures { λ _. ⌜ ((es : List Edge) (volume : ℕ) → Pairs es (now (pairs .entry)) → Pairs (es ++ record { from = from; to = to; volume = volume } ∷ []) (now (pairs .exit))) ⌝ }
+    requires { ⌜ (from < 256) × (to < 256) × (from * 32 + 32 ≤ length (now pairs)) × (pairBit (now pairs) from to ≡ 0) ⌝ }
+    ensures { λ _. ⌜ ((v : ℕ) (es : List Edge) (volume : ℕ) → Pairs v es (now (pairs .entry)) → Pairs v (es ++ record { from = from; to = to; volume = volume } ∷ []) (now (pairs .exit))) ⌝ }
 {
     let k = pair_at(from, to);
     pairs[k] += 1 << (to % 8);
@@ -48,8 +48,8 @@ fn cell_of(from: u64, to: u64, volume: u64) -> u64
 
 // The number of the refusal of an edge after those whose pairs are in the table, or 0.
 fn check_edge(v: u64, from: u64, to: u64, volume: u64, pairs: &[u8]) -> u64
-    requires { ⌜ (v ≤ 255) × (length (now pairs) ≡ 8192) ⌝ }
-    ensures { λ r. ⌜ ((seen : List Edge) → Pairs seen (now (pairs .entry)) → r ≡ edgeRule document01 v seen (record { from = from; to = to; volume = volume })) × (r ≡ 0 → (from < v) × (to < v) × (volume ≤ 4095) × (pairBit (now (pairs .entry)) from to ≡ 0)) ⌝ }
+    requires { ⌜ (v ≤ 255) × (v * 32 ≤ length (now pairs)) ⌝ }
+    ensures { λ r. ⌜ ((seen : List Edge) → Pairs v seen (now (pairs .entry)) → r ≡ edgeRule document01 v seen (record { from = from; to = to; volume = volume })) × (r ≡ 0 → (from < v) × (to < v) × (volume ≤ 4095) × (pairBit (now (pairs .entry)) from to ≡ 0)) ⌝ }
 {
     if from >= v {
         return 3;
@@ -71,7 +71,7 @@ fn check_edge(v: u64, from: u64, to: u64, volume: u64, pairs: &[u8]) -> u64
 
 // n edge lines, kept from the front of `mem` on, one cell each; two cells more are used on the way.
 pub fn read_edges(s: &[u8], at: usize, v: u64, n: usize, mem: &mut [u64], pairs: &mut [u8]) -> Step
-    requires { ⌜ (v ≤ 255) × (n + 2 ≤ length (now mem)) × Pairs [] (now pairs) ⌝ }
+    requires { ⌜ (v ≤ 255) × (n + 2 ≤ length (now mem)) × Pairs v [] (now pairs) ⌝ }
     ensures { λ r. ⌜ told (now (s .entry)) (map edgeIn (take n (now (mem .exit)))) r ≡ lines (edgeLine document01) (edgeRule document01 v) n [] (drop at (now (s .entry))) ⌝ }
 {
     let mut i = 0;

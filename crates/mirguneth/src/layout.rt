@@ -1,46 +1,50 @@
-// Where each table stands in the working memory: specs/Layout.antt, in the code.
+// Where each table stands in a working memory of one room: specs/Layout.antt, in the code. In one of more rooms it stands as many
+// times as far from the front.
+
+// How many cells the job may take.
+pub const JOB: usize = 177;
 
 // The newest edge that enters each task, counted from 1; 0 for none.
-pub const IN_HEAD: usize = 5640;
+pub const IN_HEAD: usize = 177;
 
 // For each edge the next one that enters the same task.
-pub const IN_NEXT: usize = 5896;
+pub const IN_NEXT: usize = 185;
 
 // The newest edge that leaves each task.
-pub const OUT_HEAD: usize = 6920;
+pub const OUT_HEAD: usize = 217;
 
 // For each edge the next one that leaves the same task.
-pub const OUT_NEXT: usize = 7176;
+pub const OUT_NEXT: usize = 225;
 
 // Bottom levels.
-pub const LEVEL: usize = 8200;
+pub const LEVEL: usize = 257;
 
 // Bottom levels of the next round.
-pub const RAISED: usize = 8456;
+pub const RAISED: usize = 265;
 
 // For each task its line in the plan, counted from 1; 0 for none.
-pub const LINE: usize = 8712;
+pub const LINE: usize = 273;
 
 // While a plan is drawn up: how many edges still block each task.
-pub const BLOCKED: usize = 8968;
+pub const BLOCKED: usize = 281;
 
 // M*, while no plan is drawn up.
-pub const BEST: usize = 8968;
+pub const BEST: usize = 281;
 
 // M, while no plan is drawn up.
-pub const WORST: usize = 8969;
+pub const WORST: usize = 282;
 
 // While a plan is drawn up: the priority of each free task.
-pub const PRIORITY: usize = 9224;
+pub const PRIORITY: usize = 289;
 
 // While bottom levels are settled: the scaled run time of each task.
-pub const RUN: usize = 9224;
+pub const RUN: usize = 289;
 
 // The lines of the plan, 25 cells each: the task, then a processor and two ticks for each replica.
-pub const ROWS: usize = 9480;
+pub const ROWS: usize = 297;
 
 // For each processor its largest delay.
-pub const FAR: usize = 15856;
+pub const FAR: usize = 497;
 
 // The time never.
 pub const NEVER: u64 = 18446744073709551615;

@@ -1,13 +1,13 @@
 // Scaled bottom levels.
 ghost use mathlib.Core.Path.{_≡_};
 ghost use mathlib.Core.List.{map};
-ghost use Prim.Native.Nat.{ℕ, _+_, _<_, _≤_, max};
+ghost use Prim.Native.Nat.{ℕ, _+_, _*_, _<_, _≤_, max};
 ghost use lib.ListN.{length};
 ghost use Rattle.definitions.specs.Lists.{nth, below, sum, sameNumbers};
 ghost use Rattle.definitions.specs.Limits.{document01};
 ghost use Rattle.definitions.specs.Planner.{scaledRun, totalDelay};
 ghost use Rattle.mirguneth.specs.Layout.{levelAt, raisedAt, lineAt, runAt, rowAt};
-ghost use Rattle.mirguneth.specs.Schedule.{jobIn, JobHeld, LevelsFilled, KeptOutside};
+ghost use Rattle.mirguneth.specs.Schedule.{jobIn, JobHeld, JobStands, LevelsFilled, KeptOutside};
 ghost use Rattle.mirguneth.specs.Rounds.{levelsIn, roundMost, levelMost, TableMost, SuccessorsFilled, RunsFilled, RunsAdded};
 use crate::layout::LEVEL;
 use crate::layout::RAISED;
@@ -35,7 +35,7 @@ fn row_sum(mem: &[u64], a: usize, m: usize) -> u64
 
 // The scaled average run time of t.
 fn scaled_run(mem: &[u64], t: usize) -> u64
-    requires { ⌜ JobHeld (now mem) × (t < nth (now mem) 0) ⌝ }
+    requires { ⌜ JobStands (now mem) × (t < nth (now mem) 0) ⌝ }
     ensures { λ r. ⌜ r ≡ scaledRun (jobIn (now (mem .entry))) t ⌝ }
 {
     let m = mem[1];
@@ -49,7 +49,7 @@ fn scaled_run(mem: &[u64], t: usize) -> u64
 
 // The sum of all delays between different processors.
 fn total_delay(mem: &[u64]) -> u64
-    requires { ⌜ JobHeld (now mem) ⌝ }
+    requires { ⌜ JobStands (now mem) ⌝ }
     ensures { λ r. ⌜ r ≡ totalDelay (jobIn (now (mem .entry))) ⌝ }
 {
     let v = mem[0] as usize;
@@ -64,36 +64,41 @@ fn total_delay(mem: &[u64]) -> u64
 }
 
 // Fills the table of scaled run times.
-fn fill_runs(mem: &mut [u64])
-    requires { ⌜ JobHeld (now mem) ⌝ }
-    ensures { λ _. ⌜ KeptOutside runAt (rowAt 0) (now (mem .entry)) (now (mem .exit)) × RunsFilled (now (mem .exit)) ⌝ }
+fn fill_runs(mem: &mut [u64], rooms: usize)
+    requires { ⌜ JobHeld rooms (now mem) ⌝ }
+    ensures { λ _. ⌜ KeptOutside (runAt rooms) (rowAt rooms 0) (now (mem .entry)) (now (mem .exit)) × RunsFilled rooms (now (mem .exit)) ⌝ }
 {
+    let run = RUN * rooms;
     let v = mem[0] as usize;
     let mut t = 0;
     while t < v {
         let x = scaled_run(&mem[..], t);
-        mem[RUN + t] = x;
+        mem[run + t] = x;
         t += 1;
     }
 }
 
 // Clears the tables of levels.
-fn clear_levels(mem: &mut [u64])
-    requires { ⌜ JobHeld (now mem) ⌝ }
-    ensures { λ _. ⌜ KeptOutside levelAt lineAt (now (mem .entry)) (now (mem .exit)) × ((i : ℕ) → i < 512 → nth (now (mem .exit)) (levelAt + i) ≡ 0) ⌝ }
+fn clear_levels(mem: &mut [u64], rooms: usize)
+    requires { ⌜ JobHeld rooms (now mem) ⌝ }
+    ensures { λ _. ⌜ KeptOutside (levelAt rooms) (lineAt rooms) (now (mem .entry)) (now (mem .exit)) × ((i : ℕ) → i < 16 * rooms → nth (now (mem .exit)) (levelAt rooms + i) ≡ 0) ⌝ }
 {
+    let level = LEVEL * rooms;
+    let n = 16 * rooms;
     let mut i = 0;
-    while i < 512 {
-        mem[LEVEL + i] = 0;
+    while i < n {
+        mem[level + i] = 0;
         i += 1;
     }
 }
 
 // Fills the next round's table, which is clear, with the largest of message and level over each task's successors.
-fn fill_successors(mem: &mut [u64], total: u64)
-    requires { ⌜ JobHeld (now mem) × (total ≡ totalDelay (jobIn (now mem))) × TableMost levelAt levelMost (now mem) × TableMost raisedAt 0 (now mem) ⌝ }
-    ensures { λ _. ⌜ KeptOutside raisedAt lineAt (now (mem .entry)) (now (mem .exit)) × SuccessorsFilled (now (mem .entry)) (now (mem .exit)) ⌝ }
+fn fill_successors(mem: &mut [u64], rooms: usize, total: u64)
+    requires { ⌜ JobHeld rooms (now mem) × (total ≡ totalDelay (jobIn (now mem))) × TableMost (levelAt rooms) levelMost (now mem) × TableMost (raisedAt rooms) 0 (now mem) ⌝ }
+    ensures { λ _. ⌜ KeptOutside (raisedAt rooms) (lineAt rooms) (now (mem .entry)) (now (mem .exit)) × SuccessorsFilled rooms (now (mem .entry)) (now (mem .exit)) ⌝ }
 {
+    let level = LEVEL * rooms;
+    let raised = RAISED * rooms;
     let v = mem[0];
     let m = mem[1];
     let n = mem[2] as usize;
@@ -103,44 +108,47 @@ fn fill_successors(mem: &mut [u64], total: u64)
         let c = mem[g + i];
         let from = (c % 256) as usize;
         let to = (c / 256 % 256) as usize;
-        let x = c / 65536 * total + mem[LEVEL + to];
-        mem[RAISED + from] = greater(mem[RAISED + from], x);
+        let x = c / 65536 * total + mem[level + to];
+        mem[raised + from] = greater(mem[raised + from], x);
         i += 1;
     }
 }
 
 // Adds the run times to the next round's table: these are the new levels. Clears that table, and says whether no level changed.
-fn add_runs(mem: &mut [u64]) -> bool
-    requires { ⌜ JobHeld (now mem) × RunsFilled (now mem) × TableMost raisedAt (roundMost + levelMost) (now mem) ⌝ }
-    ensures { λ r. ⌜ KeptOutside levelAt lineAt (now (mem .entry)) (now (mem .exit)) × RunsAdded (now (mem .entry)) (now (mem .exit)) × TableMost raisedAt 0 (now (mem .exit)) × (r ≡ sameNumbers (levelsIn (now (mem .exit))) (levelsIn (now (mem .entry)))) ⌝ }
+fn add_runs(mem: &mut [u64], rooms: usize) -> bool
+    requires { ⌜ JobHeld rooms (now mem) × RunsFilled rooms (now mem) × TableMost (raisedAt rooms) (roundMost + levelMost) (now mem) ⌝ }
+    ensures { λ r. ⌜ KeptOutside (levelAt rooms) (lineAt rooms) (now (mem .entry)) (now (mem .exit)) × RunsAdded rooms (now (mem .entry)) (now (mem .exit)) × TableMost (raisedAt rooms) 0 (now (mem .exit)) × (r ≡ sameNumbers (levelsIn rooms (now (mem .exit))) (levelsIn rooms (now (mem .entry)))) ⌝ }
 {
+    let run = RUN * rooms;
+    let raised = RAISED * rooms;
+    let level = LEVEL * rooms;
     let v = mem[0] as usize;
     let mut same = true;
     let mut t = 0;
     while t < v {
-        let x = mem[RUN + t] + mem[RAISED + t];
-        if mem[LEVEL + t] != x {
+        let x = mem[run + t] + mem[raised + t];
+        if mem[level + t] != x {
             same = false;
         }
-        mem[LEVEL + t] = x;
-        mem[RAISED + t] = 0;
+        mem[level + t] = x;
+        mem[raised + t] = 0;
         t += 1;
     }
     same
 }
 
 // Rounds until no level changes.
-fn settle_rounds(mem: &mut [u64])
-    requires { ⌜ JobHeld (now mem) × RunsFilled (now mem) ⌝ }
-    ensures { λ _. ⌜ KeptOutside levelAt lineAt (now (mem .entry)) (now (mem .exit)) × LevelsFilled (now (mem .exit)) ⌝ }
+fn settle_rounds(mem: &mut [u64], rooms: usize)
+    requires { ⌜ JobHeld rooms (now mem) × RunsFilled rooms (now mem) ⌝ }
+    ensures { λ _. ⌜ KeptOutside (levelAt rooms) (lineAt rooms) (now (mem .entry)) (now (mem .exit)) × LevelsFilled rooms (now (mem .exit)) ⌝ }
 {
-    clear_levels(mem);
+    clear_levels(mem, rooms);
     let total = total_delay(&mem[..]);
     let v = mem[0];
     let mut n = 0;
     while n < v {
-        fill_successors(mem, total);
-        if add_runs(mem) {
+        fill_successors(mem, rooms, total);
+        if add_runs(mem, rooms) {
             return;
         }
         n += 1;
@@ -148,10 +156,10 @@ fn settle_rounds(mem: &mut [u64])
 }
 
 // Fills the table of bottom levels.
-pub fn settle_levels(mem: &mut [u64])
-    requires { ⌜ JobHeld (now mem) ⌝ }
-    ensures { λ _. ⌜ KeptOutside levelAt (rowAt 0) (now (mem .entry)) (now (mem .exit)) × LevelsFilled (now (mem .exit)) ⌝ }
+pub fn settle_levels(mem: &mut [u64], rooms: usize)
+    requires { ⌜ JobHeld rooms (now mem) ⌝ }
+    ensures { λ _. ⌜ KeptOutside (levelAt rooms) (rowAt rooms 0) (now (mem .entry)) (now (mem .exit)) × LevelsFilled rooms (now (mem .exit)) ⌝ }
 {
-    fill_runs(mem);
-    settle_rounds(mem);
+    fill_runs(mem, rooms);
+    settle_rounds(mem, rooms);
 }

@@ -48,9 +48,8 @@ pub enum Checked {
 pub fn read_job(text: &[u8], cells: &mut [u64]) -> Answer
     ensures { λ r. do ⌜ Answered (jobAnswer (now (text .entry)) (← ⟦cells.len()⟧ .entry)) (now (cells .entry)) (now (cells .exit)) r ⌝ }
 {
-    let mut mem = [0u64; 5640];
-    let mut pairs = [0u8; 8192];
-    match job::load_job(text, &mut mem, &mut pairs) {
+    let mut mem = [0u64; 5664];
+    match job::load_job(text, &mut mem) {
         Step::Next(n) => {
             if cells.len() < n {
                 return Answer::Refusal(8);
@@ -62,14 +61,30 @@ pub fn read_job(text: &[u8], cells: &mut [u64]) -> Answer
     }
 }
 
+// The three tools take the smallest working memory that the job fits: 1, 2, 8 or 32 rooms of 513 cells.
+
 // Draws up a plan for a job's text, and writes it into `out`.
 pub fn plan(job: &[u8], out: &mut [u8]) -> Answer
     ensures { λ r. do ⌜ Answered (planAnswer document01 (now (job .entry)) (← ⟦out.len()⟧ .entry)) (now (out .entry)) (now (out .exit)) r ⌝ }
 {
-    let mut mem = [0u64; 15872];
-    let mut pairs = [0u8; 8192];
-    match job::load_job(job, &mut mem, &mut pairs) {
-        Step::Next(_) => plan_text::put_plan(&mut mem, out),
+    let mut head = [0u64; 4];
+    match job::read_head(job, &mut head) {
+        Step::Next(at) => {
+            if job::fits(&head, 1) {
+                let mut mem = [0u64; 513];
+                return plan_text::plan_in(job, at, &head, &mut mem, 1, out);
+            }
+            if job::fits(&head, 2) {
+                let mut mem = [0u64; 1026];
+                return plan_text::plan_in(job, at, &head, &mut mem, 2, out);
+            }
+            if job::fits(&head, 8) {
+                let mut mem = [0u64; 4104];
+                return plan_text::plan_in(job, at, &head, &mut mem, 8, out);
+            }
+            let mut mem = [0u64; 16416];
+            plan_text::plan_in(job, at, &head, &mut mem, 32, out)
+        }
         Step::Refused(x) => Answer::Refusal(x),
     }
 }
@@ -80,9 +95,24 @@ pub fn check(job: &[u8], plan: &[u8]) -> Checked
     ensures { λ r. ⌜ Judged (verdict document01 (now (job .entry)) (now (plan .entry))) r ⌝ }
     ensures { λ r. ⌜ Breaks (now (job .entry)) (now (plan .entry)) ⌝ }
 {
-    let mut mem = [0u64; 15872];
-    match loading::load_both(job, plan, &mut mem) {
-        Step::Next(_) => checker::judge(&mem),
+    let mut head = [0u64; 4];
+    match job::read_head(job, &mut head) {
+        Step::Next(at) => {
+            if job::fits(&head, 1) {
+                let mut mem = [0u64; 513];
+                return checker::check_in(job, at, &head, plan, &mut mem, 1);
+            }
+            if job::fits(&head, 2) {
+                let mut mem = [0u64; 1026];
+                return checker::check_in(job, at, &head, plan, &mut mem, 2);
+            }
+            if job::fits(&head, 8) {
+                let mut mem = [0u64; 4104];
+                return checker::check_in(job, at, &head, plan, &mut mem, 8);
+            }
+            let mut mem = [0u64; 16416];
+            checker::check_in(job, at, &head, plan, &mut mem, 32)
+        }
         Step::Refused(x) => Checked::Refused(x),
     }
 }
@@ -93,9 +123,24 @@ pub fn replay(job: &[u8], plan: &[u8], stops: &[u8], out: &mut [u8]) -> Answer
     ensures { λ r. do ⌜ Answered (replayAnswer document01 (now (job .entry)) (now (plan .entry)) (now (stops .entry)) (← ⟦out.len()⟧ .entry)) (now (out .entry)) (now (out .exit)) r ⌝ }
     ensures { λ r. ⌜ Bears (now (job .entry)) (now (plan .entry)) (now (stops .entry)) ⌝ }
 {
-    let mut mem = [0u64; 15872];
-    match loading::load_both(job, plan, &mut mem) {
-        Step::Next(_) => results::put_replay(stops, &mut mem, out),
+    let mut head = [0u64; 4];
+    match job::read_head(job, &mut head) {
+        Step::Next(at) => {
+            if job::fits(&head, 1) {
+                let mut mem = [0u64; 513];
+                return results::replay_in(job, at, &head, plan, stops, &mut mem, 1, out);
+            }
+            if job::fits(&head, 2) {
+                let mut mem = [0u64; 1026];
+                return results::replay_in(job, at, &head, plan, stops, &mut mem, 2, out);
+            }
+            if job::fits(&head, 8) {
+                let mut mem = [0u64; 4104];
+                return results::replay_in(job, at, &head, plan, stops, &mut mem, 8, out);
+            }
+            let mut mem = [0u64; 16416];
+            results::replay_in(job, at, &head, plan, stops, &mut mem, 32, out)
+        }
         Step::Refused(x) => Answer::Refusal(x),
     }
 }

@@ -2,22 +2,28 @@
 ghost use mathlib.Core.Path.{_≡_};
 ghost use lib.ListN.{length};
 ghost use Rattle.mirguneth.specs.Layout.{memorySize};
-ghost use Rattle.mirguneth.specs.Loading.{readBoth, BothLoaded};
+ghost use Rattle.mirguneth.specs.Loading.{readBoth, BothLoaded, Opened};
 use crate::job;
 use crate::links;
 use crate::plans;
 use text::Step;
 
-// The texts of a job and of a plan; what is found stands in `mem`.
-pub fn load_both(job: &[u8], plan: &[u8], mem: &mut [u64]) -> Step
-    requires { ⌜ length (now mem) ≡ memorySize ⌝ }
-    ensures { λ r. ⌜ BothLoaded (readBoth (now (job .entry)) (now (plan .entry))) (now (mem .exit)) r ⌝ }
+// The texts of a job, whose head was read up to `at`, and of a plan; what is found stands in `mem`.
+pub fn load_both(
+    job: &[u8],
+    at: usize,
+    head: &[u64],
+    plan: &[u8],
+    mem: &mut [u64],
+    rooms: usize,
+) -> Step
+    requires { ⌜ Opened rooms (now job) at (now head) × (length (now mem) ≡ memorySize rooms) ⌝ }
+    ensures { λ r. ⌜ BothLoaded rooms (readBoth (now (job .entry)) (now (plan .entry))) (now (mem .exit)) r ⌝ }
 {
-    let mut pairs = [0u8; 8192];
-    match job::load_job(job, mem, &mut pairs) {
+    match job::load_rest(job, at, head, mem) {
         Step::Next(_) => {
-            links::link_edges(mem);
-            plans::load_plan(plan, mem)
+            links::link_edges(mem, rooms);
+            plans::load_plan(plan, mem, rooms)
         }
         Step::Refused(x) => Step::Refused(x),
     }

@@ -14,7 +14,7 @@ ghost use Rattle.definitions.specs.Plan as Plan;
 ghost use Rattle.text.specs.Told.{told};
 ghost use Rattle.text.specs.declared.Step.the-variants.{Next};
 ghost use Rattle.mirguneth.specs.Layout.{memorySize, lineAt, blockedAt, farAt};
-ghost use Rattle.mirguneth.specs.Schedule.{jobIn, linesIn, JobHeld, RowHeld, LinkedIn, KeptOutside, Standing};
+ghost use Rattle.mirguneth.specs.Schedule.{jobIn, linesIn, JobHeld, JobStands, RowHeld, LinkedIn, KeptOutside, Standing};
 ghost use Rattle.mirguneth.specs.Loading.{lineIn, PlanLoaded};
 use crate::layout::BEST;
 use crate::layout::IN_HEAD;
@@ -77,7 +77,7 @@ fn check_head(mem: &[u64], head: &[u64]) -> u64
 
 // The task, a processor or a tick of the line at `a` is outside its range.
 fn strays(mem: &[u64], a: usize) -> bool
-    requires { ⌜ JobHeld (now mem) × (a + 25 ≤ length (now mem)) ⌝ }
+    requires { ⌜ JobStands (now mem) × (a + 25 ≤ length (now mem)) ⌝ }
     ensures { λ r. ⌜ r ≡ Plan.strays document01 (jobIn (now (mem .entry))) (lineIn a (now (mem .entry))) ⌝ }
 {
     if mem[a] >= mem[0] {
@@ -102,7 +102,7 @@ fn strays(mem: &[u64], a: usize) -> bool
 
 // In the line at `a` a processor is less than the one before.
 fn descends(mem: &[u64], a: usize) -> bool
-    requires { ⌜ JobHeld (now mem) × (a + 25 ≤ length (now mem)) ⌝ }
+    requires { ⌜ JobStands (now mem) × (a + 25 ≤ length (now mem)) ⌝ }
     ensures { λ r. ⌜ r ≡ Plan.descends (processorsOf (lineIn a (now (mem .entry)))) ⌝ }
 {
     let mut c = mem[3] as usize;
@@ -116,29 +116,33 @@ fn descends(mem: &[u64], a: usize) -> bool
 }
 
 // Every predecessor of t has a line.
-fn fed(mem: &[u64], t: usize) -> bool
-    requires { ⌜ JobHeld (now mem) × LinkedIn (now mem) × (t < nth (now mem) 0) ⌝ }
-    ensures { λ r. ⌜ r ≡ all (λ e. not (eqb (nth (now (mem .entry)) (lineAt + e .from)) 0)) (incoming (jobIn (now (mem .entry))) t) ⌝ }
+fn fed(mem: &[u64], rooms: usize, t: usize) -> bool
+    requires { ⌜ JobHeld rooms (now mem) × LinkedIn rooms (now mem) × (t < nth (now mem) 0) ⌝ }
+    ensures { λ r. ⌜ r ≡ all (λ e. not (eqb (nth (now (mem .entry)) (lineAt rooms + e .from)) 0)) (incoming (jobIn (now (mem .entry))) t) ⌝ }
 {
+    let in_head = IN_HEAD * rooms;
+    let line = LINE * rooms;
+    let in_next = IN_NEXT * rooms;
     let v = mem[0];
     let m = mem[1];
     let g = (4 + (v + m) * (m + 1)) as usize;
-    let mut k = mem[IN_HEAD + t] as usize;
+    let mut k = mem[in_head + t] as usize;
     while k > 0 {
         let from = (mem[g + (k - 1)] % 256) as usize;
-        if mem[LINE + from] == 0 {
+        if mem[line + from] == 0 {
             return false;
         }
-        k = mem[IN_NEXT + (k - 1)] as usize;
+        k = mem[in_next + (k - 1)] as usize;
     }
     true
 }
 
 // The number of the refusal of the line at `a`, after the lines that have a place in the table, or 0.
-fn check_line(mem: &[u64], a: usize) -> u64
-    requires { ⌜ JobHeld (now mem) × LinkedIn (now mem) × (a + 25 ≤ length (now mem)) ⌝ }
-    ensures { λ r. ⌜ ((k : ℕ) → Standing k (now (mem .entry)) → r ≡ planLineRule document01 (jobIn (now (mem .entry))) (linesIn (nth (now (mem .entry)) 3 + 1) k (now (mem .entry))) (lineIn a (now (mem .entry)))) × (r ≡ 0 → (nth (now (mem .entry)) a < nth (now (mem .entry)) 0) × (nth (now (mem .entry)) (lineAt + nth (now (mem .entry)) a) ≡ 0) × RowHeld a (now (mem .entry))) ⌝ }
+fn check_line(mem: &[u64], rooms: usize, a: usize) -> u64
+    requires { ⌜ JobHeld rooms (now mem) × LinkedIn rooms (now mem) × (a + 25 ≤ length (now mem)) ⌝ }
+    ensures { λ r. ⌜ ((k : ℕ) → Standing rooms k (now (mem .entry)) → r ≡ planLineRule document01 (jobIn (now (mem .entry))) (linesIn rooms (nth (now (mem .entry)) 3 + 1) k (now (mem .entry))) (lineIn a (now (mem .entry)))) × (r ≡ 0 → (nth (now (mem .entry)) a < nth (now (mem .entry)) 0) × (nth (now (mem .entry)) (lineAt rooms + nth (now (mem .entry)) a) ≡ 0) × RowHeld a (now (mem .entry))) ⌝ }
 {
+    let line = LINE * rooms;
     if strays(mem, a) {
         return 3;
     }
@@ -146,59 +150,65 @@ fn check_line(mem: &[u64], a: usize) -> u64
         return 11;
     }
     let t = mem[a] as usize;
-    if mem[LINE + t] != 0 {
+    if mem[line + t] != 0 {
         return 10;
     }
-    if fed(mem, t) {
+    if fed(mem, rooms, t) {
         return 0;
     }
     10
 }
 
 // No task has a line.
-fn clear_lines(mem: &mut [u64])
-    requires { ⌜ length (now mem) ≡ memorySize ⌝ }
-    ensures { λ _. ⌜ KeptOutside lineAt blockedAt (now (mem .entry)) (now (mem .exit)) × ((t : ℕ) → t < 256 → nth (now (mem .exit)) (lineAt + t) ≡ 0) ⌝ }
+fn clear_lines(mem: &mut [u64], rooms: usize)
+    requires { ⌜ length (now mem) ≡ memorySize rooms ⌝ }
+    ensures { λ _. ⌜ KeptOutside (lineAt rooms) (blockedAt rooms) (now (mem .entry)) (now (mem .exit)) × ((t : ℕ) → t < 8 * rooms → nth (now (mem .exit)) (lineAt rooms + t) ≡ 0) ⌝ }
 {
+    let line = LINE * rooms;
+    let n = 8 * rooms;
     let mut t = 0;
-    while t < 256 {
-        mem[LINE + t] = 0;
+    while t < n {
+        mem[line + t] = 0;
         t += 1;
     }
 }
 
 // The T lines, kept as rows.
-fn read_plan_lines(s: &[u8], at: usize, mem: &mut [u64]) -> Step
-    requires { ⌜ Standing 0 (now mem) ⌝ }
-    ensures { λ r. ⌜ KeptOutside lineAt farAt (now (mem .entry)) (now (mem .exit)) × (told (now (s .entry)) (linesIn (nth (now (mem .exit)) 3 + 1) (nth (now (mem .exit)) 0) (now (mem .exit))) r ≡ lines (planLine document01 (jobIn (now (mem .entry)))) (planLineRule document01 (jobIn (now (mem .entry)))) (nth (now (mem .entry)) 0) [] (drop at (now (s .entry)))) × ((n : ℕ) → r ≡ Next n → Standing (nth (now (mem .exit)) 0) (now (mem .exit))) ⌝ }
+fn read_plan_lines(s: &[u8], at: usize, mem: &mut [u64], rooms: usize) -> Step
+    requires { ⌜ Standing rooms 0 (now mem) ⌝ }
+    ensures { λ r. ⌜ KeptOutside (lineAt rooms) (farAt rooms) (now (mem .entry)) (now (mem .exit)) × (told (now (s .entry)) (linesIn rooms (nth (now (mem .exit)) 3 + 1) (nth (now (mem .exit)) 0) (now (mem .exit))) r ≡ lines (planLine document01 (jobIn (now (mem .entry)))) (planLineRule document01 (jobIn (now (mem .entry)))) (nth (now (mem .entry)) 0) [] (drop at (now (s .entry)))) × ((n : ℕ) → r ≡ Next n → Standing rooms (nth (now (mem .exit)) 0) (now (mem .exit))) ⌝ }
 {
+    let rows = ROWS * rooms;
+    let line = LINE * rooms;
     let v = mem[0] as usize;
     let n = 4 + 3 * mem[3] as usize;
     let mut p = at;
     let mut k = 0;
     while k < v {
-        let a = ROWS + k * 25;
+        let a = rows + k * 25;
         let b = a + n;
         match reader::read_line(s, p, b"T,", n, &mut mem[a..b]) {
             Step::Next(next) => p = next,
             Step::Refused(x) => return Step::Refused(x),
         }
-        let x = check_line(&mem[..], a);
+        let x = check_line(&mem[..], rooms, a);
         if x > 0 {
             return Step::Refused(x);
         }
         let t = mem[a] as usize;
-        mem[LINE + t] = (k + 1) as u64;
+        mem[line + t] = (k + 1) as u64;
         k += 1;
     }
     Step::Next(p)
 }
 
 // A plan's text for the job in memory, whose edges are linked.
-pub fn load_plan(s: &[u8], mem: &mut [u64]) -> Step
-    requires { ⌜ JobHeld (now mem) × LinkedIn (now mem) ⌝ }
-    ensures { λ r. ⌜ KeptOutside lineAt farAt (now (mem .entry)) (now (mem .exit)) × PlanLoaded (readPlan document01 (jobIn (now (mem .entry))) (now (s .entry))) (now (mem .exit)) r ⌝ }
+pub fn load_plan(s: &[u8], mem: &mut [u64], rooms: usize) -> Step
+    requires { ⌜ JobHeld rooms (now mem) × LinkedIn rooms (now mem) ⌝ }
+    ensures { λ r. ⌜ KeptOutside (lineAt rooms) (farAt rooms) (now (mem .entry)) (now (mem .exit)) × PlanLoaded rooms (readPlan document01 (jobIn (now (mem .entry))) (now (s .entry))) (now (mem .exit)) r ⌝ }
 {
+    let best_at = BEST * rooms;
+    let worst_at = WORST * rooms;
     if s.len() > 65536 {
         return Step::Refused(1);
     }
@@ -210,15 +220,15 @@ pub fn load_plan(s: &[u8], mem: &mut [u64]) -> Step
             if x > 0 {
                 return Step::Refused(x);
             }
-            clear_lines(mem);
-            match read_plan_lines(s, p, mem) {
+            clear_lines(mem, rooms);
+            match read_plan_lines(s, p, mem, rooms) {
                 Step::Refused(y) => Step::Refused(y),
                 Step::Next(q) => {
                     if q < s.len() {
                         return Step::Refused(2);
                     }
-                    mem[BEST] = head[3];
-                    mem[WORST] = head[4];
+                    mem[best_at] = head[3];
+                    mem[worst_at] = head[4];
                     Step::Next(q)
                 }
             }

@@ -34,39 +34,41 @@ fn largest_delay(mem: &[u64], a: usize, m: usize) -> u64
 }
 
 // Fills the table of largest delays.
-pub fn fill_far(mem: &mut [u64])
-    requires { ⌜ JobHeld (now mem) ⌝ }
-    ensures { λ _. ⌜ KeptOutside farAt memorySize (now (mem .entry)) (now (mem .exit)) × FarFilled (now (mem .exit)) ⌝ }
+pub fn fill_far(mem: &mut [u64], rooms: usize)
+    requires { ⌜ JobHeld rooms (now mem) ⌝ }
+    ensures { λ _. ⌜ KeptOutside (farAt rooms) (memorySize rooms) (now (mem .entry)) (now (mem .exit)) × FarFilled rooms (now (mem .exit)) ⌝ }
 {
+    let far = FAR * rooms;
     let v = mem[0] as usize;
     let m = mem[1] as usize;
     let mut p = 0;
     while p < m {
         let x = largest_delay(&mem[..], 4 + (v + p) * (m + 1) + 1, m);
-        mem[FAR + p] = x;
+        mem[far + p] = x;
         p += 1;
     }
 }
 
 // The first tick at which the data of replica c of the line at `a` is everywhere.
-fn sent(mem: &[u64], a: usize, c: usize, volume: u64) -> u64
-    requires { ⌜ JobHeld (now mem) × Sends a volume (now mem) × (c < nth (now mem) 3 + 1) ⌝ }
-    ensures { λ r. ⌜ (r ≡ nth (now (mem .entry)) (a + (2 + 3 * c)) + volume * nth (now (mem .entry)) (farAt + nth (now (mem .entry)) (a + (1 + 3 * c)))) × (r ≤ 4296011520) ⌝ }
+fn sent(mem: &[u64], rooms: usize, a: usize, c: usize, volume: u64) -> u64
+    requires { ⌜ JobHeld rooms (now mem) × Sends rooms a volume (now mem) × (c < nth (now mem) 3 + 1) ⌝ }
+    ensures { λ r. ⌜ (r ≡ nth (now (mem .entry)) (a + (2 + 3 * c)) + volume * nth (now (mem .entry)) (farAt rooms + nth (now (mem .entry)) (a + (1 + 3 * c)))) × (r ≤ 4296011520) ⌝ }
 {
+    let far = FAR * rooms;
     let p = mem[a + (1 + 3 * c)] as usize;
-    mem[a + (2 + 3 * c)] + volume * mem[FAR + p]
+    mem[a + (2 + 3 * c)] + volume * mem[far + p]
 }
 
 // The first tick at which the data of a predecessor whose line is at `a` is everywhere.
-fn spread(mem: &[u64], a: usize, volume: u64) -> u64
-    requires { ⌜ JobHeld (now mem) × Sends a volume (now mem) ⌝ }
-    ensures { λ r. ⌜ (tick r ≡ spreadIn volume a (nth (now (mem .entry)) 3 + 1) (now (mem .entry))) × (r ≤ 4296011520) ⌝ }
+fn spread(mem: &[u64], rooms: usize, a: usize, volume: u64) -> u64
+    requires { ⌜ JobHeld rooms (now mem) × Sends rooms a volume (now mem) ⌝ }
+    ensures { λ r. ⌜ (tick r ≡ spreadIn rooms volume a (nth (now (mem .entry)) 3 + 1) (now (mem .entry))) × (r ≤ 4296011520) ⌝ }
 {
     let w = mem[3] as usize + 1;
-    let mut x = sent(mem, a, 0, volume);
+    let mut x = sent(mem, rooms, a, 0, volume);
     let mut c = 1;
     while c < w {
-        let y = sent(mem, a, c, volume);
+        let y = sent(mem, rooms, a, c, volume);
         if y < x {
             x = y;
         }
@@ -76,24 +78,28 @@ fn spread(mem: &[u64], a: usize, volume: u64) -> u64
 }
 
 // The scaled top level of t, whose predecessors all have a line.
-pub fn top_level(mem: &[u64], t: usize) -> u64
-    requires { ⌜ ((k : ℕ) × Standing k (now mem) × ((i c : ℕ) → i < k → c < nth (now mem) 3 + 1 → nth (now mem) (rowAt i + (2 + 3 * c)) ≤ document01 .tick)) × (t < nth (now mem) 0) × FedIn t (now mem) × FarFilled (now mem) ⌝ }
-    ensures { λ r. ⌜ (r ≡ tickOf (topIn t (now (mem .entry))) * scale (jobIn (now (mem .entry)))) × (r ≤ 1100000000000) ⌝ }
+pub fn top_level(mem: &[u64], rooms: usize, t: usize) -> u64
+    requires { ⌜ ((k : ℕ) × Standing rooms k (now mem) × ((i c : ℕ) → i < k → c < nth (now mem) 3 + 1 → nth (now mem) (rowAt rooms i + (2 + 3 * c)) ≤ document01 .tick)) × (t < nth (now mem) 0) × FedIn rooms t (now mem) × FarFilled rooms (now mem) ⌝ }
+    ensures { λ r. ⌜ (r ≡ tickOf (topIn rooms t (now (mem .entry))) * scale (jobIn (now (mem .entry)))) × (r ≤ 1100000000000) ⌝ }
 {
+    let in_head = IN_HEAD * rooms;
+    let rows = ROWS * rooms;
+    let line = LINE * rooms;
+    let in_next = IN_NEXT * rooms;
     let v = mem[0];
     let m = mem[1];
     let g = (4 + (v + m) * (m + 1)) as usize;
     let mut x = 0;
-    let mut k = mem[IN_HEAD + t] as usize;
+    let mut k = mem[in_head + t] as usize;
     while k > 0 {
         let c = mem[g + (k - 1)];
         let from = (c % 256) as usize;
-        let a = ROWS + (mem[LINE + from] as usize - 1) * 25;
-        let y = spread(mem, a, c / 65536);
+        let a = rows + (mem[line + from] as usize - 1) * 25;
+        let y = spread(mem, rooms, a, c / 65536);
         if y > x {
             x = y;
         }
-        k = mem[IN_NEXT + (k - 1)] as usize;
+        k = mem[in_next + (k - 1)] as usize;
     }
     if m == 1 {
         return x;

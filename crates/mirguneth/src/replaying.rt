@@ -31,15 +31,23 @@ fn unless_stopped(stop: u64, x: u64) -> u64
 }
 
 // Line k, replica by replica. The answer is the ready times after it.
-fn run_line(mem: &mut [u64], delays: &[u16], k: usize, stops: &[u64], ready: Ready) -> Ready
-    requires { ⌜ DelayTable (now delays) (now mem) × Running k 0 (ready .at) (now mem) × (k < nth (now mem) 0) × FedBefore k (now mem) × (length (now stops) ≡ 16) ⌝ }
-    ensures { λ r. ⌜ Running (suc k) 0 (r .at) (now (mem .exit)) × LineRun k (now (stops .entry)) (now (mem .entry)) (now (mem .exit)) ⌝ }
+fn run_line(
+    mem: &mut [u64],
+    rooms: usize,
+    delays: &[u16],
+    k: usize,
+    stops: &[u64],
+    ready: Ready,
+) -> Ready
+    requires { ⌜ DelayTable (now delays) (now mem) × Running rooms k 0 (ready .at) (now mem) × (k < nth (now mem) 0) × FedBefore rooms k (now mem) × (length (now stops) ≡ 16) ⌝ }
+    ensures { λ r. ⌜ Running rooms (suc k) 0 (r .at) (now (mem .exit)) × LineRun rooms k (now (stops .entry)) (now (mem .entry)) (now (mem .exit)) ⌝ }
 {
+    let rows = ROWS * rooms;
     let w = mem[3] as usize + 1;
-    let a = ROWS + k * 25;
+    let a = rows + k * 25;
     let t = mem[a] as usize;
     let b = 4 + t * (mem[1] as usize + 1) + 1;
-    let data = times::first_data(&mem[..], delays, t);
+    let data = times::first_data(&mem[..], rooms, delays, t);
     let mut after = ready;
     let mut c = 0;
     while c < w {
@@ -54,16 +62,16 @@ fn run_line(mem: &mut [u64], delays: &[u16], k: usize, stops: &[u64], ready: Rea
 }
 
 // All lines of the plan in memory.
-pub fn run_round(mem: &mut [u64], stops: &[u64])
-    requires { ⌜ Standing (nth (now mem) 0) (now mem) × Ordered (jobIn (now mem)) [] (planIn (now mem) .lines) × (length (now stops) ≡ 16) ⌝ }
-    ensures { λ _. ⌜ RoundRun (now (stops .entry)) (now (mem .entry)) (now (mem .exit)) ⌝ }
+pub fn run_round(mem: &mut [u64], rooms: usize, stops: &[u64])
+    requires { ⌜ Standing rooms (nth (now mem) 0) (now mem) × Ordered (jobIn (now mem)) [] (planIn rooms (now mem) .lines) × (length (now stops) ≡ 16) ⌝ }
+    ensures { λ _. ⌜ RoundRun rooms (now (stops .entry)) (now (mem .entry)) (now (mem .exit)) ⌝ }
 {
     let v = mem[0] as usize;
     let delays = times::delay_table(&mem[..]);
     let mut ready = Ready { at: [0; 16] };
     let mut k = 0;
     while k < v {
-        let after = run_line(mem, &delays, k, stops, ready);
+        let after = run_line(mem, rooms, &delays, k, stops, ready);
         ready = after;
         k += 1;
     }
@@ -76,12 +84,14 @@ pub struct First {
 }
 
 // The first finish of t, on the lowest processor that has it.
-pub fn first_finish(mem: &[u64], t: usize) -> First
-    requires { ⌜ Standing (nth (now mem) 0) (now mem) × RisingIn (now mem) × (t < nth (now mem) 0) ⌝ }
-    ensures { λ r. ⌜ FirstIn t (r .time) (r .processor) (now (mem .entry)) ⌝ }
+pub fn first_finish(mem: &[u64], rooms: usize, t: usize) -> First
+    requires { ⌜ Standing rooms (nth (now mem) 0) (now mem) × RisingIn rooms (now mem) × (t < nth (now mem) 0) ⌝ }
+    ensures { λ r. ⌜ FirstIn rooms t (r .time) (r .processor) (now (mem .entry)) ⌝ }
 {
+    let rows = ROWS * rooms;
+    let line = LINE * rooms;
     let w = mem[3] as usize + 1;
-    let a = ROWS + (mem[LINE + t] as usize - 1) * 25;
+    let a = rows + (mem[line + t] as usize - 1) * 25;
     let mut time = NEVER;
     let mut processor = 0;
     let mut c = 0;

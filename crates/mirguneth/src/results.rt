@@ -5,14 +5,18 @@ ghost use lib.ListN.{length};
 ghost use Rattle.definitions.specs.Lists.{nth};
 ghost use Rattle.definitions.specs.Limits.{document01};
 ghost use Rattle.definitions.specs.Replay.{resultLine, endLine, replayText};
+ghost use Rattle.definitions.specs.Tools.{replayAnswer};
 ghost use Rattle.slices.specs.Over.{over};
+ghost use Rattle.mirguneth.specs.Layout.{memorySize};
 ghost use Rattle.mirguneth.specs.Schedule.{jobIn, timeIn, LinkedOut, Standing};
+ghost use Rattle.mirguneth.specs.Loading.{Opened};
 ghost use Rattle.mirguneth.specs.Replaying.{outcomesIn, RisingIn, replayIn};
 ghost use Rattle.mirguneth.specs.Answers.{Answered};
 ghost use Rattle.mirguneth.specs.Checking.{PlanHeld};
 use crate::Answer;
 use crate::ends;
 use crate::layout::NEVER;
+use crate::loading;
 use crate::replaying;
 use crate::replaying::First;
 use crate::stops;
@@ -68,53 +72,74 @@ fn write_end(out: &mut [u8], x: u64) -> usize
 }
 
 // The bytes that the answer takes.
-pub fn replay_length(mem: &[u64]) -> usize
-    requires { ⌜ Standing (nth (now mem) 0) (now mem) × RisingIn (now mem) × LinkedOut (now mem) ⌝ }
-    ensures { λ r. ⌜ r ≡ length (replayText document01 (jobIn (now (mem .entry))) (outcomesIn (now (mem .entry)))) ⌝ }
+pub fn replay_length(mem: &[u64], rooms: usize) -> usize
+    requires { ⌜ Standing rooms (nth (now mem) 0) (now mem) × RisingIn rooms (now mem) × LinkedOut rooms (now mem) ⌝ }
+    ensures { λ r. ⌜ r ≡ length (replayText document01 (jobIn (now (mem .entry))) (outcomesIn rooms (now (mem .entry)))) ⌝ }
 {
     let v = mem[0] as usize;
     let mut n = 0;
     let mut t = 0;
     while t < v {
-        let first = replaying::first_finish(mem, t);
+        let first = replaying::first_finish(mem, rooms, t);
         n += result_length(t as u64, first);
         t += 1;
     }
-    n + end_length(ends::end_of(mem, false))
+    n + end_length(ends::end_of(mem, rooms, false))
 }
 
 // The answer, written at the front of `out`. What comes back is its length.
-pub fn write_replay(out: &mut [u8], mem: &[u64]) -> usize
-    requires { ⌜ Standing (nth (now mem) 0) (now mem) × RisingIn (now mem) × LinkedOut (now mem) × (length (replayText document01 (jobIn (now mem)) (outcomesIn (now mem))) ≤ length (now out)) ⌝ }
-    ensures { λ r. ⌜ (r ≡ length (replayText document01 (jobIn (now (mem .entry))) (outcomesIn (now (mem .entry))))) × (now (out .exit) ≡ over (now (out .entry)) 0 (replayText document01 (jobIn (now (mem .entry))) (outcomesIn (now (mem .entry))))) ⌝ }
+pub fn write_replay(out: &mut [u8], mem: &[u64], rooms: usize) -> usize
+    requires { ⌜ Standing rooms (nth (now mem) 0) (now mem) × RisingIn rooms (now mem) × LinkedOut rooms (now mem) × (length (replayText document01 (jobIn (now mem)) (outcomesIn rooms (now mem))) ≤ length (now out)) ⌝ }
+    ensures { λ r. ⌜ (r ≡ length (replayText document01 (jobIn (now (mem .entry))) (outcomesIn rooms (now (mem .entry))))) × (now (out .exit) ≡ over (now (out .entry)) 0 (replayText document01 (jobIn (now (mem .entry))) (outcomesIn rooms (now (mem .entry))))) ⌝ }
 {
     let v = mem[0] as usize;
     let mut at = 0;
     let mut t = 0;
     while t < v {
-        let first = replaying::first_finish(mem, t);
+        let first = replaying::first_finish(mem, rooms, t);
         at += write_result(&mut out[at..], t as u64, first);
         t += 1;
     }
-    let end = ends::end_of(mem, false);
+    let end = ends::end_of(mem, rooms, false);
     at + write_end(&mut out[at..], end)
 }
 
 // Replays the plan in memory under the stops of a text, and writes the lines into `out`, if they fit.
-pub fn put_replay(stops: &[u8], mem: &mut [u64], out: &mut [u8]) -> Answer
-    requires { ⌜ PlanHeld (now mem) × LinkedOut (now mem) ⌝ }
-    ensures { λ r. do ⌜ Answered (replayIn (now (mem .entry)) (now (stops .entry)) (← ⟦out.len()⟧ .entry)) (now (out .entry)) (now (out .exit)) r ⌝ }
+pub fn put_replay(stops: &[u8], mem: &mut [u64], rooms: usize, out: &mut [u8]) -> Answer
+    requires { ⌜ PlanHeld rooms (now mem) × LinkedOut rooms (now mem) ⌝ }
+    ensures { λ r. do ⌜ Answered (replayIn rooms (now (mem .entry)) (now (stops .entry)) (← ⟦out.len()⟧ .entry)) (now (out .entry)) (now (out .exit)) r ⌝ }
 {
     let mut cells = [0u64; 16];
     let m = mem[1];
     match stops::load_stops(stops, m, &mut cells) {
         Step::Next(_) => {
-            replaying::run_round(mem, &cells);
-            if out.len() < replay_length(&mem[..]) {
+            replaying::run_round(mem, rooms, &cells);
+            if out.len() < replay_length(&mem[..], rooms) {
                 return Answer::Refusal(8);
             }
-            Answer::Done(write_replay(out, &mem[..]))
+            Answer::Done(write_replay(out, &mem[..], rooms))
         }
+        Step::Refused(x) => Answer::Refusal(x),
+    }
+}
+
+// The replay of three texts, the head of the job's being read up to `at`, written into `out`, if it fits. `mem` is the working
+// memory.
+pub fn replay_in(
+    job: &[u8],
+    at: usize,
+    head: &[u64],
+    plan: &[u8],
+    stops: &[u8],
+    mem: &mut [u64],
+    rooms: usize,
+    out: &mut [u8],
+) -> Answer
+    requires { ⌜ Opened rooms (now job) at (now head) × (length (now mem) ≡ memorySize rooms) ⌝ }
+    ensures { λ r. do ⌜ Answered (replayAnswer document01 (now (job .entry)) (now (plan .entry)) (now (stops .entry)) (← ⟦out.len()⟧ .entry)) (now (out .entry)) (now (out .exit)) r ⌝ }
+{
+    match loading::load_both(job, at, head, plan, mem, rooms) {
+        Step::Next(_) => put_replay(stops, mem, rooms, out),
         Step::Refused(x) => Answer::Refusal(x),
     }
 }

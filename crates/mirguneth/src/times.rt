@@ -1,15 +1,13 @@
 // The equations: when data arrives, and when a replica finishes. A cell of all ones is never.
 ghost use mathlib.Core.Path.{_≡_};
 ghost use mathlib.Core.Logic.{_⊎_};
-ghost use mathlib.Core.List.{[]};
 ghost use mathlib.Core.Bool.{true, false};
 ghost use Prim.Native.Nat.{ℕ, _+_, _*_, _≤_, _<_, min, max};
 ghost use lib.ListN.{length};
 ghost use Rattle.definitions.specs.Lists.{if_then_else_, nth};
 ghost use Rattle.definitions.specs.Limits.{document01};
-ghost use Rattle.definitions.specs.Job.{delay};
 ghost use Rattle.definitions.specs.Times.{later, sooner, after};
-ghost use Rattle.mirguneth.specs.Schedule.{jobIn, timeIn, choiceOf, arrivalIn, dataIn, Small, RowHeld, JobHeld, Standing};
+ghost use Rattle.mirguneth.specs.Schedule.{timeIn, arrivalIn, dataIn, Small, RowHeld, JobStands, Standing};
 ghost use Rattle.mirguneth.specs.Arrivals.{shortIn, lastShort, DelayTable, FirstShort, BothShort, FirstFed, BothFed, BothRaised, BothReady, ShortClocks, BothFinish};
 use crate::clocks::Clocks;
 use crate::layout::IN_HEAD;
@@ -36,29 +34,9 @@ pub fn chosen_of(late: bool, x: u64, y: u64) -> u64
     y
 }
 
-// The choice among no times.
-fn chosen_of_none(late: bool) -> u64
-    ensures { λ r. ⌜ (timeIn r ≡ choiceOf late []) × Small 0 r ⌝ }
-{
-    if late {
-        return 0;
-    }
-    NEVER
-}
-
-// Where a replica's late or early time stands after its line's task.
-fn time_place(late: bool) -> usize
-    ensures { λ r. ⌜ r ≡ (if late then 3 else 2) ⌝ }
-{
-    if late {
-        return 3;
-    }
-    2
-}
-
 // n ticks after a time.
 fn put_off(x: u64, n: u64) -> u64
-    requires { ⌜ Small 5000000000 x × (n ≤ 1044225) ⌝ }
+    requires { ⌜ Small 5000000000 x × (n ≤ document01 .runTime) ⌝ }
     ensures { λ r. ⌜ (timeIn r ≡ after n (timeIn x)) × ((b : ℕ) → Small b x → Small (b + n) r) ⌝ }
 {
     if x == NEVER {
@@ -67,51 +45,20 @@ fn put_off(x: u64, n: u64) -> u64
     x + n
 }
 
-// The ticks of a message from q to p.
-fn message(mem: &[u64], volume: u64, q: usize, p: usize) -> u64
-    requires { ⌜ JobHeld (now mem) × (volume ≤ 4095) × (q < nth (now mem) 1) × (p < nth (now mem) 1) ⌝ }
-    ensures { λ r. ⌜ (r ≡ volume * delay (jobIn (now (mem .entry))) q p) × (r ≤ 1044225) ⌝ }
-{
-    let v = mem[0] as usize;
-    let m = mem[1] as usize;
-    volume * mem[4 + (v + q) * (m + 1) + (p + 1)]
-}
-
-// When the data of a predecessor whose line is at `a` is on p: the least over its replicas, or the largest (late).
-pub fn arrival(mem: &[u64], late: bool, a: usize, volume: u64, p: usize) -> u64
-    requires { ⌜ JobHeld (now mem) × RowHeld a (now mem) × (a + 25 ≤ length (now mem)) × (volume ≤ 4095) × (p < nth (now mem) 1) ⌝ }
-    ensures { λ r. ⌜ (timeIn r ≡ arrivalIn late volume p a (now (mem .entry))) × Small 5000000000 r ⌝ }
-{
-    let w = mem[3] as usize + 1;
-    let place = time_place(late);
-    let mut acc = chosen_of_none(late);
-    let mut c = 0;
-    while c < w {
-        let q = mem[a + (1 + 3 * c)] as usize;
-        let n = message(mem, volume, q, p);
-        let x = put_off(mem[a + (place + 3 * c)], n);
-        acc = chosen_of(late, x, acc);
-        c += 1;
-    }
-    acc
-}
-
 // The delays of the job in memory, as a table.
 pub fn delay_table(mem: &[u64]) -> [u16; 256]
-    requires { ⌜ JobHeld (now mem) ⌝ }
+    requires { ⌜ JobStands (now mem) ⌝ }
     ensures { λ r. ⌜ DelayTable r (now (mem .entry)) ⌝ }
 {
     let v = mem[0] as usize;
     let m = mem[1] as usize;
+    let n = 16 * m;
     let mut delays = [0u16; 256];
     let mut i = 0;
-    while i < 256 {
-        let q = i / 16;
+    while i < n {
         let p = i % 16;
-        if q < m {
-            if p < m {
-                delays[i] = mem[4 + (v + q) * (m + 1) + (p + 1)] as u16;
-            }
+        if p < m {
+            delays[i] = mem[4 + (v + i / 16) * (m + 1) + (p + 1)] as u16;
         }
         i += 1;
     }
@@ -149,7 +96,7 @@ fn raise(high: &mut [u32], low: &[u32])
 
 // When the first data of a predecessor whose line is at `a` is on each processor.
 fn first_arrivals(mem: &[u64], delays: &[u16], a: usize, volume: u16) -> [u32; 16]
-    requires { ⌜ JobHeld (now mem) × DelayTable (now delays) (now mem) × RowHeld a (now mem) × (a + 25 ≤ length (now mem)) × (volume ≤ document01 .volume) × FirstShort a (now mem) ⌝ }
+    requires { ⌜ JobStands (now mem) × DelayTable (now delays) (now mem) × RowHeld a (now mem) × (a + 25 ≤ length (now mem)) × (volume ≤ document01 .volume) × FirstShort a (now mem) ⌝ }
     ensures { λ r. ⌜ (length r ≡ 16) × ((p : ℕ) → p < nth (now (mem .entry)) 1 → shortIn (nth r p) ≡ arrivalIn false volume p a (now (mem .entry))) ⌝ }
 {
     let w = mem[3] as usize + 1;
@@ -184,22 +131,26 @@ fn widened(short: &[u32]) -> [u64; 16]
 }
 
 // When all data of t is on each processor, by the first replicas.
-pub fn first_data(mem: &[u64], delays: &[u16], t: usize) -> [u64; 16]
-    requires { ⌜ ((k : ℕ) × Standing k (now mem)) × DelayTable (now delays) (now mem) × (t < nth (now mem) 0) × FirstFed t (now mem) ⌝ }
-    ensures { λ r. ⌜ (length r ≡ 16) × ((p : ℕ) → p < nth (now (mem .entry)) 1 → (timeIn (nth r p) ≡ dataIn false t p (now (mem .entry))) × Small 5000000000 (nth r p)) ⌝ }
+pub fn first_data(mem: &[u64], rooms: usize, delays: &[u16], t: usize) -> [u64; 16]
+    requires { ⌜ ((k : ℕ) × Standing rooms k (now mem)) × DelayTable (now delays) (now mem) × (t < nth (now mem) 0) × FirstFed rooms t (now mem) ⌝ }
+    ensures { λ r. ⌜ (length r ≡ 16) × ((p : ℕ) → p < nth (now (mem .entry)) 1 → (timeIn (nth r p) ≡ dataIn rooms false t p (now (mem .entry))) × Small 5000000000 (nth r p)) ⌝ }
 {
+    let in_head = IN_HEAD * rooms;
+    let rows = ROWS * rooms;
+    let line = LINE * rooms;
+    let in_next = IN_NEXT * rooms;
     let v = mem[0];
     let m = mem[1];
     let g = (4 + (v + m) * (m + 1)) as usize;
     let mut high = [0u32; 16];
-    let mut k = mem[IN_HEAD + t] as usize;
+    let mut k = mem[in_head + t] as usize;
     while k > 0 {
         let c = mem[g + (k - 1)];
         let from = (c % 256) as usize;
-        let a = ROWS + (mem[LINE + from] as usize - 1) * 25;
+        let a = rows + (mem[line + from] as usize - 1) * 25;
         let low = first_arrivals(mem, delays, a, (c / 65536) as u16);
         raise(&mut high, &low);
-        k = mem[IN_NEXT + (k - 1)] as usize;
+        k = mem[in_next + (k - 1)] as usize;
     }
     widened(&high)
 }
@@ -251,7 +202,7 @@ fn both_arrivals(
     early: &mut [u32],
     late: &mut [u32],
 )
-    requires { ⌜ JobHeld (now mem) × DelayTable (now delays) (now mem) × RowHeld a (now mem) × (a + 25 ≤ length (now mem)) × (volume ≤ document01 .volume) × BothShort a (now mem) × (length (now early) ≡ 16) × (length (now late) ≡ 16) ⌝ }
+    requires { ⌜ JobStands (now mem) × DelayTable (now delays) (now mem) × RowHeld a (now mem) × (a + 25 ≤ length (now mem)) × (volume ≤ document01 .volume) × BothShort a (now mem) × (length (now early) ≡ 16) × (length (now late) ≡ 16) ⌝ }
     ensures { λ _. ⌜ BothRaised volume a (now (mem .entry)) (now (early .entry)) (now (early .exit)) (now (late .entry)) (now (late .exit)) ⌝ }
 {
     let w = mem[3] as usize + 1;
@@ -274,33 +225,37 @@ pub struct Both {
 }
 
 // When all data of t is on each processor, by the first replicas and by the last.
-fn both_data(mem: &[u64], delays: &[u16], t: usize) -> Both
-    requires { ⌜ ((k : ℕ) × Standing k (now mem)) × DelayTable (now delays) (now mem) × (t < nth (now mem) 0) × BothFed t (now mem) ⌝ }
-    ensures { λ r. ⌜ BothReady t (now (mem .entry)) (r .early) (r .late) ⌝ }
+fn both_data(mem: &[u64], rooms: usize, delays: &[u16], t: usize) -> Both
+    requires { ⌜ ((k : ℕ) × Standing rooms k (now mem)) × DelayTable (now delays) (now mem) × (t < nth (now mem) 0) × BothFed rooms t (now mem) ⌝ }
+    ensures { λ r. ⌜ BothReady rooms t (now (mem .entry)) (r .early) (r .late) ⌝ }
 {
+    let in_head = IN_HEAD * rooms;
+    let rows = ROWS * rooms;
+    let line = LINE * rooms;
+    let in_next = IN_NEXT * rooms;
     let v = mem[0];
     let m = mem[1];
     let g = (4 + (v + m) * (m + 1)) as usize;
     let mut early = [0u32; 16];
     let mut late = [0u32; 16];
-    let mut k = mem[IN_HEAD + t] as usize;
+    let mut k = mem[in_head + t] as usize;
     while k > 0 {
         let c = mem[g + (k - 1)];
         let from = (c % 256) as usize;
-        let a = ROWS + (mem[LINE + from] as usize - 1) * 25;
+        let a = rows + (mem[line + from] as usize - 1) * 25;
         both_arrivals(mem, delays, a, (c / 65536) as u16, &mut early, &mut late);
-        k = mem[IN_NEXT + (k - 1)] as usize;
+        k = mem[in_next + (k - 1)] as usize;
     }
     Both { early, late }
 }
 
 // The early and the late finish of t on each processor, if it is ready at the clocks' ticks.
-pub fn finishes(mem: &[u64], delays: &[u16], t: usize, clocks: Clocks) -> Both
-    requires { ⌜ ((k : ℕ) × Standing k (now mem)) × DelayTable (now delays) (now mem) × (t < nth (now mem) 0) × BothFed t (now mem) × ShortClocks clocks (now mem) ⌝ }
-    ensures { λ r. ⌜ BothFinish t clocks (now (mem .entry)) (r .early) (r .late) ⌝ }
+pub fn finishes(mem: &[u64], rooms: usize, delays: &[u16], t: usize, clocks: Clocks) -> Both
+    requires { ⌜ ((k : ℕ) × Standing rooms k (now mem)) × DelayTable (now delays) (now mem) × (t < nth (now mem) 0) × BothFed rooms t (now mem) × ShortClocks clocks (now mem) ⌝ }
+    ensures { λ r. ⌜ BothFinish rooms t clocks (now (mem .entry)) (r .early) (r .late) ⌝ }
 {
     let m = mem[1] as usize;
-    let data = both_data(mem, delays, t);
+    let data = both_data(mem, rooms, delays, t);
     let mut f = Both {
         early: [0; 16],
         late: [0; 16],

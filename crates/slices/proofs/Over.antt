@@ -5,8 +5,8 @@ use Prim.Native.Nat.{ℕ, suc, _+_, _-_, _<_, _≤_}
 use native.Mathlib.Omega.{arith}
 use native.Mathlib.Nat.{add-zero, zero-add, add-assoc}
 use native.Mathlib.Numerals.{add-one}
-use lib.ListN.{length, getD, set, length-set, take, drop, take-append-drop, length-append, length-drop, drop-of-length-le}
-use lib.Seq.{take-set-le, drop-cons, getD-set-same, take-suc-set, drop-set-lt, take-take, getD-take, take-all, drop-drop, length-take-le, take-append-le, drop-append-le, take-at, drop-at}
+use lib.ListN.{length, set, length-set, take, drop, take-append-drop, length-append, length-drop, drop-of-length-le}
+use lib.Seq.{take-set-le, drop-cons, getD-set-same, take-suc-set, drop-set-lt, take-all, drop-drop, length-take-le, take-at, drop-at}
 use borrow.Rule.Slice.PartMut.{midOf, postOf, putMid}
 use Rattle.slices.specs.Over.{over}
 
@@ -54,17 +54,6 @@ over-set d k v t h =
     let f : drop (k + 1 + length t) (set d k v) ≡ drop (k + suc (length t)) d = drop-set-lt (k + 1 + length t) d k v (omega arith) ∙ ap (λ (j : ℕ). drop j d) n in
     rw (e, f) (simp append-assoc)
 
--- before and after what was written nothing changed
-pub take-over : (d : List ℕ) (at : ℕ) (s : List ℕ) (n : ℕ) → n ≤ at → at ≤ length d → take n (over d at s) ≡ take n d
-unfolding over
-take-over d at s n h g =
-    let l : length (take at d) ≡ at = length-take-le at d g in
-    take-append-le n (take at d) (s ++ drop (at + length s) d) (omega arith) ∙ take-take n at d h
-
-pub getD-over-before : (d : List ℕ) (at : ℕ) (s : List ℕ) (i : ℕ) → i < at → at ≤ length d → getD (over d at s) i 0 ≡ getD d i 0
-getD-over-before d at s i h g =
-    sym (getD-take at (over d at s) i 0 h) ∙ ap (λ (l : List ℕ). getD l i 0) (take-over d at s at (omega arith) g) ∙ getD-take at d i 0 h
-
 -- the same with the next place said in another way
 pub over-put : (d : List ℕ) (k v : ℕ) (t : List ℕ) (m : ℕ) → m ≡ k + 1 → k < length d → over (set d k v) m t ≡ over d k (v ∷ t)
 over-put d k v t m e h = rw e (over-set d k v t h)
@@ -86,15 +75,3 @@ over-set-after d at s k v e h =
 -- what was written after s, at the place after s
 pub over-then : (d x y : List ℕ) (at : ℕ) (s t : List ℕ) (m : ℕ) → x ≡ over d at s → y ≡ over x m t → m ≡ at + length s → at + length s ≤ length d → y ≡ over d at (s ++ t)
 over-then d x y at s t m e f em h = f ∙ ap (λ (l : List ℕ). over l m t) e ∙ over-over d at s t m em h
-
--- a part was lent, `&mut d[a..e]`, and the callee wrote s at its front
-pub lent-part : (d : List ℕ) (a e : ℕ) (s ys : List ℕ) → a ≤ e → e ≤ length d → length s ≤ e - a → ys ≡ over (midOf a (e - a) d) 0 s
-    → putMid a (e - a) d ys ≡ over d a s
-unfolding over
-lent-part d a e s ys h g l f =
-    let m : length s ≤ length (drop a d) = simp length-drop (omega arith) in
-    let k : length s + (e - a - length s) ≡ e - a = omega arith in
-    let p : drop (0 + length s) (midOf a (e - a) d) ++ postOf a (e - a) d ≡ drop (a + length s) d =
-    rw zero-add (sym (drop-append-le (length s) (midOf a (e - a) d) (postOf a (e - a) d) (rw (length-take-le (e - a) (drop a d) (simp length-drop (omega arith))) l))
-    ∙ ap (drop (length s)) (take-append-drop (e - a) (drop a d)) ∙ drop-drop (length s) a d) in
-    rw f (simp append-assoc (ap (λ (z : List ℕ). take a d ++ (s ++ z)) p))

@@ -3,7 +3,7 @@
  * some boxes, check a plan, and replay one while boxes stop.
  *
  * Link with libexports.a. The functions keep nothing between calls, allocate
- * nothing and do no input or output. A call takes some 140 KB of stack.
+ * nothing and do no input or output. A call takes some 190 KB of stack.
  *
  * A text is a pointer to its first byte and its length in bytes; it needs no
  * closing zero. No pointer may be null, even with a length of 0. `out`,

@@ -3,7 +3,7 @@
 //!
 //! The work is done by a proved static library; this crate is a safe layer
 //! over its three functions. Nothing is allocated but by [`plan_to_vec`] and
-//! [`replay_to_vec`]; a call takes some 140 KB of stack.
+//! [`replay_to_vec`]; a call takes some 190 KB of stack.
 
 pub mod raw;
 

@@ -1,56 +1,136 @@
--- What load_job left in the memory is a job, if it was not refused.
+-- The head is read, and the memory that its job fits is taken.
 use native.Mathlib.Omega.{arith}
 use borrow.Author.Needs.{needs}
-use Rattle.mirguneth.proofs.EdgeLaws.{pairs-none}
-use Rattle.mirguneth.proofs.PlanAnswer.{plan-no, plan-asked, plan-put}
+use Rattle.mirguneth.proofs.PlanAnswer.{plan-no}
+use Rattle.mirguneth.proofs.Loads.{fits-most}
 use Rattle.mirguneth.proofs.plan.Statement.{statement}
 use Rattle.mirguneth.proofs.plan.Tie as tie
 
-slice-aggregate-load-job : tie.Need-slice-aggregate-load-job
-slice-aggregate-load-job c = search needs
+slice-aggregate-read-head : tie.Need-slice-aggregate-read-head
+slice-aggregate-read-head c = search needs
 
-slice-aggregate-load-job-2 : tie.Need-slice-aggregate-load-job-2
-slice-aggregate-load-job-2 c = search needs
+read-head-requires : tie.Need-read-head-requires
+read-head-requires c κs = search needs
 
-load-job-requires : tie.Need-load-job-requires
-load-job-requires c κs = (omega arith, pairs-none)
+enum-known-at : tie.Need-enum-known-at
+enum-known-at c = search needs
 
-enum-told : tie.Need-enum-told
-enum-told c = search needs
+slice-aggregate-fits : tie.Need-slice-aggregate-fits
+slice-aggregate-fits c = search needs
 
-slice-aggregate-put-plan : tie.Need-slice-aggregate-put-plan
-slice-aggregate-put-plan c = search needs
+fits-requires : tie.Need-fits-requires
+fits-requires c κs = let h = rw (c .before .before .at .given .1) at (c .before .before .before .before .before .read-head .ensures) in (search needs, h .0, omega arith)
 
-put-plan-requires : tie.Need-put-plan-requires
-put-plan-requires c κs =
-    let w = c .before .before .before .before .before .before .load-job in
-    plan-asked (c .before .before .before .before .before .before .before .before .before .before .before .args .job .now) (w .last .1 .0) (c .before .before .before .before .before .before .before .before .before .before .before .args .out .now) _ (w .kept .1 .0) (rw (c .before .before .enum-told .given .1) at (w .ensures))
+slice-aggregate-plan-in : tie.Need-slice-aggregate-plan-in
+slice-aggregate-plan-in c = search needs
 
-enum-known-x : tie.Need-enum-known-x
-enum-known-x c = search needs
+slice-aggregate-plan-in-2 : tie.Need-slice-aggregate-plan-in-2
+slice-aggregate-plan-in-2 c = search needs
+
+plan-in-requires : tie.Need-plan-in-requires
+plan-in-requires c κs = let h = rw (c .before .before .before .before .before .before .before .at .given .1) at (c .before .before .before .before .before .before .before .before .before .before .read-head .ensures) in ((search needs, h, c .before .before .before .before .fits2 .ensures .0 (c .before .before .before .if1 .taken)), search needs)
 
 same-length : tie.Need-same-length
 same-length c = search needs
 
 returns : tie.Need-returns
-returns c =
-    let w = c .before .before .before .before .before .before .before .before .before .before .load-job in let p = c .before .before .before .put-plan in
-    plan-put (c .before .before .before .before .before .before .before .before .before .before .before .before .before .before .before .args .job .now) (w .last .1 .0) (c .before .before .before .before .before .before .before .before .before .before .before .before .before .before .before .args .out .now) _ (w .kept .1 .0) (rw (c .before .before .before .before .before .before .enum-told .given .1) at (w .ensures)) (p .last .1 .0) (p .result) (p .ensures)
+returns c = search needs
+
+slice-aggregate-fits-2 : tie.Need-slice-aggregate-fits-2
+slice-aggregate-fits-2 c = search needs
+
+fits-requires-2 : tie.Need-fits-requires-2
+fits-requires-2 c κs = let h = rw (c .before .before .before .before .before .at .given .1) at (c .before .before .before .before .before .before .before .before .read-head .ensures) in (search needs, h .0, omega arith)
+
+slice-aggregate-plan-in-3 : tie.Need-slice-aggregate-plan-in-3
+slice-aggregate-plan-in-3 c = search needs
+
+slice-aggregate-plan-in-4 : tie.Need-slice-aggregate-plan-in-4
+slice-aggregate-plan-in-4 c = search needs
+
+plan-in-requires-2 : tie.Need-plan-in-requires-2
+plan-in-requires-2 c κs = let h = rw (c .before .before .before .before .before .before .before .before .before .before .at .given .1) at (c .before .before .before .before .before .before .before .before .before .before .before .before .before .read-head .ensures) in ((search needs, h, c .before .before .before .before .fits3 .ensures .0 (c .before .before .before .if2 .taken)), search needs)
+
+same-length-2 : tie.Need-same-length-2
+same-length-2 c = search needs
 
 returns-2 : tie.Need-returns-2
-returns-2 c = let w = c .before .before .before .before .before .load-job in plan-no (c .before .before .before .before .before .before .before .before .before .before .args .job .now) (w .last .1 .0) (c .before .before .before .before .before .before .before .before .before .before .args .out .now) _ (rw (c .before .x .given .1) at (w .ensures))
+returns-2 c = search needs
+
+slice-aggregate-fits-3 : tie.Need-slice-aggregate-fits-3
+slice-aggregate-fits-3 c = search needs
+
+fits-requires-3 : tie.Need-fits-requires-3
+fits-requires-3 c κs = let h = rw (c .before .before .before .before .before .before .before .before .at .given .1) at (c .before .before .before .before .before .before .before .before .before .before .before .read-head .ensures) in (search needs, h .0, omega arith)
+
+slice-aggregate-plan-in-5 : tie.Need-slice-aggregate-plan-in-5
+slice-aggregate-plan-in-5 c = search needs
+
+slice-aggregate-plan-in-6 : tie.Need-slice-aggregate-plan-in-6
+slice-aggregate-plan-in-6 c = search needs
+
+plan-in-requires-3 : tie.Need-plan-in-requires-3
+plan-in-requires-3 c κs = let h = rw (c .before .before .before .before .before .before .before .before .before .before .before .before .before .at .given .1) at (c .before .before .before .before .before .before .before .before .before .before .before .before .before .before .before .before .read-head .ensures) in ((search needs, h, c .before .before .before .before .fits4 .ensures .0 (c .before .before .before .if3 .taken)), search needs)
+
+same-length-3 : tie.Need-same-length-3
+same-length-3 c = search needs
+
+returns-3 : tie.Need-returns-3
+returns-3 c = search needs
+
+slice-aggregate-plan-in-7 : tie.Need-slice-aggregate-plan-in-7
+slice-aggregate-plan-in-7 c = search needs
+
+slice-aggregate-plan-in-8 : tie.Need-slice-aggregate-plan-in-8
+slice-aggregate-plan-in-8 c = search needs
+
+plan-in-requires-4 : tie.Need-plan-in-requires-4
+plan-in-requires-4 c κs = let h = rw (c .before .before .before .before .before .before .before .before .before .before .before .before .before .at .given .1) at (c .before .before .before .before .before .before .before .before .before .before .before .before .before .before .before .before .read-head .ensures) in ((search needs, h, fits-most (c .before .before .before .before .before .before .before .before .before .before .before .before .before .before .before .before .read-head .last .1 .0) (h .0)), search needs)
+
+enum-known-x : tie.Need-enum-known-x
+enum-known-x c = search needs
+
+same-length-4 : tie.Need-same-length-4
+same-length-4 c = search needs
+
+returns-4 : tie.Need-returns-4
+returns-4 c = search needs
+
+returns-5 : tie.Need-returns-5
+returns-5 c = let a = c .before .before .before .before .before .before .before .before .args in plan-no (a .job .now) (a .out .now) _ (rw (c .before .x .given .1) at (c .before .before .before .before .read-head .ensures))
 
 pub plan-spec : {M : Type 1} → statement M
 plan-spec =
     tie.close
     (tie.spec
-    slice-aggregate-load-job
-    slice-aggregate-load-job-2
-    load-job-requires
-    enum-told
-    slice-aggregate-put-plan
-    put-plan-requires
-    enum-known-x
+    slice-aggregate-read-head
+    read-head-requires
+    enum-known-at
+    slice-aggregate-fits
+    fits-requires
+    slice-aggregate-plan-in
+    slice-aggregate-plan-in-2
+    plan-in-requires
     same-length
     returns
-    returns-2)
+    slice-aggregate-fits-2
+    fits-requires-2
+    slice-aggregate-plan-in-3
+    slice-aggregate-plan-in-4
+    plan-in-requires-2
+    same-length-2
+    returns-2
+    slice-aggregate-fits-3
+    fits-requires-3
+    slice-aggregate-plan-in-5
+    slice-aggregate-plan-in-6
+    plan-in-requires-3
+    same-length-3
+    returns-3
+    slice-aggregate-plan-in-7
+    slice-aggregate-plan-in-8
+    plan-in-requires-4
+    enum-known-x
+    same-length-4
+    returns-4
+    returns-5)

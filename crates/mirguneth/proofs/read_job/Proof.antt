@@ -2,32 +2,29 @@
 use borrow.Author.Needs.{needs}
 use Rattle.definitions.specs.Limits.{document01}
 use Rattle.definitions.specs.Job.{readJob}
-use Rattle.mirguneth.proofs.EdgeLaws.{pairs-none}
-use Rattle.mirguneth.proofs.AnswerLaws.{new-room, loaded-fits, answer-no, answer-short, answer-done}
+use Rattle.mirguneth.proofs.AnswerLaws.{loaded-fits, answer-no, answer-short, answer-done}
 use Rattle.mirguneth.proofs.read_job.Statement.{statement}
 use Rattle.mirguneth.proofs.read_job.Tie as tie
 
 slice-aggregate-load-job : tie.Need-slice-aggregate-load-job
 slice-aggregate-load-job c = search needs
 
-slice-aggregate-load-job-2 : tie.Need-slice-aggregate-load-job-2
-slice-aggregate-load-job-2 c = search needs
-
 load-job-requires : tie.Need-load-job-requires
-load-job-requires c κs = (new-room, pairs-none)
+load-job-requires c κs = search needs
 
 enum-known-n : tie.Need-enum-known-n
 enum-known-n c = search needs
 
 returns : tie.Need-returns
-returns c = answer-short (c .before .before .before .before .before .before .before .before .before .before .before .args .text .now) (c .before .before .before .before .before .before .before .before .before .before .before .args .cells .now) (c .before .before .before .before .before .before .load-job .last .1 .0) _ (rw (c .before .before .n .given .1) at (c .before .before .before .before .before .before .load-job .ensures)) (c .if1 .taken)
+returns c = let a = c .before .before .before .before .before .before .before .before .before .args in let w = c .before .before .before .before .before .load-job in answer-short (a .text .now) (a .cells .now) (w .last .1 .0) _ (rw (c .before .before .n .given .1) at (w .ensures)) (c .if1 .taken)
 
 slice-aggregate-copy-cells : tie.Need-slice-aggregate-copy-cells
 slice-aggregate-copy-cells c = search needs
 
 copy-cells-requires : tie.Need-copy-cells-requires
 copy-cells-requires c κs =
-    (c .before .before .if1 .left, loaded-fits (readJob document01 (c .before .before .before .before .before .before .before .before .before .before .before .before .before .args .text .now)) (c .before .before .before .before .before .before .before .before .load-job .last .1 .0) _ (rw (c .before .before .before .before .n .given .1) at (c .before .before .before .before .before .before .before .before .load-job .ensures)))
+    let w = c .before .before .before .before .before .before .before .load-job in
+    (c .before .before .if1 .left, loaded-fits (readJob document01 (c .before .before .before .before .before .before .before .before .before .before .before .args .text .now)) (w .last .1 .0) _ (rw (c .before .before .before .before .n .given .1) at (w .ensures)))
 
 enum-known-x : tie.Need-enum-known-x
 enum-known-x c = search needs
@@ -37,18 +34,18 @@ same-length c = search needs
 
 returns-2 : tie.Need-returns-2
 returns-2 c =
-    rw (c .before .before .copy-cells .ensures)
-    (answer-done (c .before .before .before .before .before .before .before .before .before .before .before .before .before .before .before .before .args .text .now) (c .before .before .before .before .before .before .before .before .before .before .before .before .before .before .before .before .args .cells .now) (c .before .before .before .before .before .before .before .before .before .before .before .load-job .last .1 .0) _ (rw (c .before .before .before .before .before .before .before .n .given .1) at (c .before .before .before .before .before .before .before .before .before .before .before .load-job .ensures)) (c .before .before .before .before .before .if1 .left))
+    let a = c .before .before .before .before .before .before .before .before .before .before .before .before .before .before .args in
+    let w = c .before .before .before .before .before .before .before .before .before .before .load-job in
+    rw (c .before .before .copy-cells .ensures) (answer-done (a .text .now) (a .cells .now) (w .last .1 .0) _ (rw (c .before .before .before .before .before .before .before .n .given .1) at (w .ensures)) (c .before .before .before .before .before .if1 .left))
 
 returns-3 : tie.Need-returns-3
-returns-3 c = answer-no (c .before .before .before .before .before .before .before .before .before .before .args .text .now) (c .before .before .before .before .before .before .before .before .before .before .args .cells .now) (c .before .before .before .before .before .load-job .last .1 .0) _ (rw (c .before .x .given .1) at (c .before .before .before .before .before .load-job .ensures))
+returns-3 c = let a = c .before .before .before .before .before .before .before .before .args in let w = c .before .before .before .before .load-job in answer-no (a .text .now) (a .cells .now) (w .last .1 .0) _ (rw (c .before .x .given .1) at (w .ensures))
 
 pub read-job-spec : {M : Type 1} → statement M
 read-job-spec =
     tie.close
     (tie.spec
     slice-aggregate-load-job
-    slice-aggregate-load-job-2
     load-job-requires
     enum-known-n
     returns

@@ -14,11 +14,14 @@ use Rattle.mirguneth.proofs.checker.clocks_after.Statement.{statement}
 use Rattle.mirguneth.proofs.checker.clocks_after.Tie as tie
 
 abbrev Inv-loop : tie.InvT-loop
-Inv-loop mem k w a after₀ c₀ after c =
-    (c ≤ w) × ClocksHeld after (jobIn mem) (rowOutcomes false (rowAt k) c mem ++ placedIn false (nth mem 3 + 1) k mem) (rowOutcomes true (rowAt k) c mem ++ placedIn true (nth mem 3 + 1) k mem)
+Inv-loop mem rooms k rows w a after₀ c₀ after c =
+    (c ≤ w) × ClocksHeld after (jobIn mem) (rowOutcomes false (rowAt rooms k) c mem ++ placedIn rooms false (nth mem 3 + 1) k mem) (rowOutcomes true (rowAt rooms k) c mem ++ placedIn rooms true (nth mem 3 + 1) k mem)
 
 abbrev μ-loop : tie.MeasureT-loop
-μ-loop mem k w a after₀ c₀ after c = w - c
+μ-loop mem rooms k rows w a after₀ c₀ after c = w - c
+
+mul-rows : tie.Need-mul-rows Inv-loop μ-loop
+mul-rows c = search needs
 
 shared-slice-read-w : tie.Need-shared-slice-read-w Inv-loop μ-loop
 shared-slice-read-w c = let s = sizes (c .before .before .pre .0 .standing .job) in omega arith
@@ -109,6 +112,7 @@ clocks-after-spec =
     (tie.spec
     Inv-loop
     μ-loop
+    mul-rows
     shared-slice-read-w
     add-w
     mul-a

@@ -11,6 +11,9 @@ use Rattle.mirguneth.proofs.JudgeLaws.{none-doubled, some-doubled, answ
 use Rattle.mirguneth.proofs.checker.judge.Statement.{statement}
 use Rattle.mirguneth.proofs.checker.judge.Tie as tie
 
+mul-rows : tie.Need-mul-rows
+mul-rows c = search needs
+
 doubled-line-requires : tie.Need-doubled-line-requires
 doubled-line-requires c κs = search needs
 
@@ -35,33 +38,34 @@ cast-t c = let s = sizes (c .before .before .before .before .before .pre .0 .sta
 returns : tie.Need-returns
 returns c =
     let m = c .before .before .before .before .before .args .mem .now in
-    answer-doubled (jobIn m) (planIn m) (nth m (9480 + c .before .before .before .doubled-line .result * 25)) (some-doubled m (c .before .before .before .doubled-line .result) (c .before .before .before .doubled-line .ensures) (c .before .if1 .taken))
+    answer-doubled (jobIn m) (planIn (c .before .before .before .before .before .args .rooms) m) (nth m (297 * c .before .before .before .before .before .args .rooms + c .before .before .before .doubled-line .result * 25)) (some-doubled (c .before .before .before .before .before .args .rooms) m (c .before .before .before .doubled-line .result) (c .before .before .before .doubled-line .ensures) (c .before .if1 .taken))
 
 ticks-agree-requires : tie.Need-ticks-agree-requires
-ticks-agree-requires c κs = (c .before .before .before .before .pre .0, none-doubled (c .before .before .before .before .args .mem .now) (c .before .before .doubled-line .result) (c .before .before .doubled-line .ensures) (c .if1 .left))
+ticks-agree-requires c κs = (c .before .before .before .before .pre .0, none-doubled (c .before .before .before .before .args .rooms) (c .before .before .before .before .args .mem .now) (c .before .before .doubled-line .result) (c .before .before .doubled-line .ensures) (c .if1 .left))
 
 ends-agree-requires : tie.Need-ends-agree-requires
-ends-agree-requires c κs = (c .before .before .before .before .before .before .pre .0, c .before .before .before .before .before .before .pre .1, none-doubled (c .before .before .before .before .before .before .args .mem .now) (c .before .before .before .before .doubled-line .result) (c .before .before .before .before .doubled-line .ensures) (c .before .before .if1 .left), sym (c .before .ticks-agree .ensures) ∙ c .if2 .taken)
+ends-agree-requires c κs = (c .before .before .before .before .before .before .pre .0, c .before .before .before .before .before .before .pre .1, none-doubled (c .before .before .before .before .before .before .args .rooms) (c .before .before .before .before .before .before .args .mem .now) (c .before .before .before .before .doubled-line .result) (c .before .before .before .before .doubled-line .ensures) (c .before .before .if1 .left), sym (c .before .ticks-agree .ensures) ∙ c .if2 .taken)
 
 returns-2 : tie.Need-returns-2
 returns-2 c =
     let m = c .before .before .before .before .before .before .before .before .args .mem .now in
-    answer-accepted (jobIn m) (planIn m) (none-doubled m (c .before .before .before .before .before .before .doubled-line .result) (c .before .before .before .before .before .before .doubled-line .ensures) (c .before .before .before .before .if1 .left)) (sym (c .before .before .before .ticks-agree .ensures) ∙ c .before .before .if2 .taken) (sym (c .before .ends-agree .ensures) ∙ c .if3 .taken)
+    answer-accepted (jobIn m) (planIn (c .before .before .before .before .before .before .before .before .args .rooms) m) (none-doubled (c .before .before .before .before .before .before .before .before .args .rooms) m (c .before .before .before .before .before .before .doubled-line .result) (c .before .before .before .before .before .before .doubled-line .ensures) (c .before .before .before .before .if1 .left)) (sym (c .before .before .before .ticks-agree .ensures) ∙ c .before .before .if2 .taken) (sym (c .before .ends-agree .ensures) ∙ c .if3 .taken)
 
 returns-3 : tie.Need-returns-3
 returns-3 c =
     let m = c .before .before .before .before .before .before .before .before .args .mem .now in
-    answer-ends (jobIn m) (planIn m) (none-doubled m (c .before .before .before .before .before .before .doubled-line .result) (c .before .before .before .before .before .before .doubled-line .ensures) (c .before .before .before .before .if1 .left)) (sym (c .before .before .before .ticks-agree .ensures) ∙ c .before .before .if2 .taken) (sym (c .before .ends-agree .ensures) ∙ c .if3 .left)
+    answer-ends (jobIn m) (planIn (c .before .before .before .before .before .before .before .before .args .rooms) m) (none-doubled (c .before .before .before .before .before .before .before .before .args .rooms) m (c .before .before .before .before .before .before .doubled-line .result) (c .before .before .before .before .before .before .doubled-line .ensures) (c .before .before .before .before .if1 .left)) (sym (c .before .before .before .ticks-agree .ensures) ∙ c .before .before .if2 .taken) (sym (c .before .ends-agree .ensures) ∙ c .if3 .left)
 
 returns-4 : tie.Need-returns-4
 returns-4 c =
     let m = c .before .before .before .before .before .before .args .mem .now in
-    answer-ticks (jobIn m) (planIn m) (none-doubled m (c .before .before .before .before .doubled-line .result) (c .before .before .before .before .doubled-line .ensures) (c .before .before .if1 .left)) (sym (c .before .ticks-agree .ensures) ∙ c .if2 .left)
+    answer-ticks (jobIn m) (planIn (c .before .before .before .before .before .before .args .rooms) m) (none-doubled (c .before .before .before .before .before .before .args .rooms) m (c .before .before .before .before .doubled-line .result) (c .before .before .before .before .doubled-line .ensures) (c .before .before .if1 .left)) (sym (c .before .ticks-agree .ensures) ∙ c .if2 .left)
 
 pub judge-spec : {M : Type 1} → statement M
 judge-spec =
     tie.close
     (tie.spec
+    mul-rows
     doubled-line-requires
     shared-slice-read-if1
     mul-t

@@ -2,6 +2,7 @@
 use mathlib.Core.Path.{_≡_, refl}
 use Prim.Native.Nat.{_≤_, _-_, _+_}
 use native.Mathlib.Omega.{arith}
+use borrow.Author.Needs.{needs}
 use borrow.Author.Needs.{needs, elem-fits-field}
 use mir.Syntax.{w32, w64}
 use lib.ListN.{getD}
@@ -13,10 +14,13 @@ use Rattle.mirguneth.proofs.checker.line_agrees.Statement.{statement}
 use Rattle.mirguneth.proofs.checker.line_agrees.Tie as tie
 
 abbrev Inv-loop : tie.InvT-loop
-Inv-loop mem delays k w a t f c₀ c = (c ≤ w) × AgreesTo k c mem
+Inv-loop mem rooms delays k rows w a t f c₀ c = (c ≤ w) × AgreesTo rooms k c mem
 
 abbrev μ-loop : tie.MeasureT-loop
-μ-loop mem delays k w a t f c₀ c = w - c
+μ-loop mem rooms delays k rows w a t f c₀ c = w - c
+
+mul-rows : tie.Need-mul-rows Inv-loop μ-loop
+mul-rows c = search needs
 
 shared-slice-read-w : tie.Need-shared-slice-read-w Inv-loop μ-loop
 shared-slice-read-w c = let s = sizes (c .before .before .before .pre .0 .standing .job) in omega arith
@@ -40,7 +44,7 @@ finishes-requires : tie.Need-finishes-requires Inv-loop μ-loop
 finishes-requires c κs = finishes-asked (c .before .before .before .before .pre .0) (c .before .before .before .before .args .k) (c .before .before .before .before .pre .2) (c .before .before .before .before .pre .3) (c .before .before .before .before .args .delays .now) (c .before .before .before .before .args .clocks) (c .before .before .before .before .pre .1) (c .before .before .before .before .pre .4)
 
 loop-holds : tie.Need-loop-holds Inv-loop μ-loop
-loop-holds c = (omega arith, agrees-none (c .before .before .before .before .before .args .k) (c .before .before .before .before .before .args .mem .now))
+loop-holds c = (omega arith, agrees-none (c .before .before .before .before .before .args .rooms) (c .before .before .before .before .before .args .k) (c .before .before .before .before .before .args .mem .now))
 
 mul-p : tie.Need-mul-p Inv-loop μ-loop
 mul-p c = let s = sizes (c .before .before .before .before .before .before .before .pre .0 .standing .job) in omega arith
@@ -124,7 +128,7 @@ returns-3 : tie.Need-returns-3 Inv-loop μ-loop
 returns-3 c =
     let l = c .before .loop in
     let e : l .c ≡ getD (c .before .before .before .before .before .before .before .args .mem .now) 3 0 + 1 = omega arith in
-    let a : LineAgrees (c .before .before .before .before .before .before .before .args .k) (c .before .before .before .before .before .before .before .args .mem .now) = rw e at (l .inv .1) in
+    let a : LineAgrees (c .before .before .before .before .before .before .before .args .rooms) (c .before .before .before .before .before .before .before .args .k) (c .before .before .before .before .before .before .before .args .mem .now) = rw e at (l .inv .1) in
     (λ z. (a, short-next (c .before .before .before .before .before .before .before .pre .0) (c .before .before .before .before .before .before .before .args .k) (c .before .before .before .before .before .before .before .pre .2) (c .before .before .before .before .before .before .before .pre .3) a), λ b. refl)
 
 pub line-agrees-spec : {M : Type 1} → statement M
@@ -133,6 +137,7 @@ line-agrees-spec =
     (tie.spec
     Inv-loop
     μ-loop
+    mul-rows
     shared-slice-read-w
     add-w
     mul-a

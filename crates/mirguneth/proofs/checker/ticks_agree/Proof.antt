@@ -12,17 +12,17 @@ use Rattle.mirguneth.proofs.checker.ticks_agree.Statement.{statement}
 use Rattle.mirguneth.proofs.checker.ticks_agree.Tie as tie
 
 abbrev Inv-loop : tie.InvT-loop
-Inv-loop mem v delays clocks₀ k₀ clocks k =
-    (k ≤ v) × ((i : ℕ) → i < k → LineAgrees i mem) × ShortTo k mem × ClocksAfter k mem clocks
+Inv-loop mem rooms v delays clocks₀ k₀ clocks k =
+    (k ≤ v) × ((i : ℕ) → i < k → LineAgrees rooms i mem) × ShortTo rooms k mem × ClocksAfter rooms k mem clocks
 
 abbrev μ-loop : tie.MeasureT-loop
-μ-loop mem v delays clocks₀ k₀ clocks k = v - k
+μ-loop mem rooms v delays clocks₀ k₀ clocks k = v - k
 
 shared-slice-read-v : tie.Need-shared-slice-read-v Inv-loop μ-loop
 shared-slice-read-v c = let s = sizes (c .before .before .pre .0 .standing .job) in omega arith
 
 delay-table-requires : tie.Need-delay-table-requires Inv-loop μ-loop
-delay-table-requires c κs = c .before .before .pre .0 .standing .job
+delay-table-requires c κs = (_, c .before .before .pre .0 .standing .job)
 
 new-requires : tie.Need-new-requires Inv-loop μ-loop
 new-requires c κs = search needs
@@ -49,7 +49,7 @@ loop-less : tie.Need-loop-less Inv-loop μ-loop
 loop-less c = search needs
 
 loop-again : tie.Need-loop-again Inv-loop μ-loop
-loop-again c = let (a, s) = c .before .before .line-agrees .ensures .0 (c .before .if1 .taken) in (omega arith, agreed-next (c .before .before .before .before .before .before .before .before .before .before .args .mem .now) (c .before .before .before .before .before .loop .k) a (c .before .before .before .before .before .loop .inv .1), s, c .clocks-after .ensures)
+loop-again c = let (a, s) = c .before .before .line-agrees .ensures .0 (c .before .if1 .taken) in (omega arith, agreed-next (c .before .before .before .before .before .before .before .before .before .before .args .rooms) (c .before .before .before .before .before .before .before .before .before .before .args .mem .now) (c .before .before .before .before .before .loop .k) a (c .before .before .before .before .before .loop .inv .1), s, c .clocks-after .ensures)
 
 returns-2 : tie.Need-returns-2 Inv-loop μ-loop
 returns-2 c = ticks-yes (c .before .before .before .before .before .before .pre .0) (c .before .before .before .before .before .before .pre .1) (c .before .loop .k) (omega arith) (c .before .loop .inv .1)

@@ -26,14 +26,15 @@ use Rattle.mirguneth.proofs.reader.read_line.Reads as read-line-reads
 
 abbrev Inv-loop : tie.InvT-loop
 Inv-loop s at v n mem₀ pairs₀ i₀ p₀ t16 mem pairs i p =
-    (i ≤ n) × (length mem ≡ length mem₀) × Pairs (map edgeIn (take i mem)) pairs
+    (i ≤ n) × (length mem ≡ length mem₀) × Pairs v (map edgeIn (take i mem)) pairs
     × (lines (edgeLine document01) (edgeRule document01 v) (n - i) (map edgeIn (take i mem)) (drop p s) ≡ lines (edgeLine document01) (edgeRule document01 v) n [] (drop at s))
+    × (length pairs ≡ length pairs₀)
 
 abbrev μ-loop : tie.MeasureT-loop
 μ-loop s at v n mem₀ pairs₀ i₀ p₀ t16 mem pairs i p = n - i
 
 loop-holds : tie.Need-loop-holds Inv-loop μ-loop
-loop-holds c = (search needs, refl, c .before .before .before .pre .2, rw sub-zero)
+loop-holds c = (search needs, refl, c .before .before .before .pre .2, rw sub-zero, refl)
 
 slice-aggregate-read-line : tie.Need-slice-aggregate-read-line Inv-loop μ-loop
 slice-aggregate-read-line c = search needs
@@ -121,7 +122,7 @@ slice-write-mem : tie.Need-slice-write-mem Inv-loop μ-loop
 slice-write-mem c = search needs
 
 add-pair-requires : tie.Need-add-pair-requires Inv-loop μ-loop
-add-pair-requires c κs = let h = c .before .before .before .check-edge .ensures .1 (omega arith) in (omega (arith, h .0), omega (arith, h .1), (_, c .before .before .before .before .before .before .before .before .before .before .before .before .before .before .before .before .before .loop .inv .2), h .3)
+add-pair-requires c κs = let h = c .before .before .before .check-edge .ensures .1 (omega arith) in (omega (arith, h .0), omega (arith, h .1), omega (arith, h .0, c .before .before .before .before .before .before .before .before .before .before .before .before .before .before .before .before .before .loop .inv .2 .size), h .3)
 
 add-i : tie.Need-add-i Inv-loop μ-loop
 add-i c = search needs
@@ -140,8 +141,9 @@ loop-again c =
     let q = edges-more (l .mem) ys (l .i) g _ (c .before .before .before .before .cell-of .ensures) (omega (arith, m)) (omega (arith, h .0)) (omega (arith, h .1)) in (
       search needs,
       simp length-set (m ∙ l .inv .1),
-      rw q (c .before .before .add-pair .ensures _ _ (l .inv .2)),
+      rw q (c .before .before .add-pair .ensures _ _ _ (l .inv .2)),
       rw q (lines-next _ _ (c .before .before .before .before .before .before .before .before .before .before .before .before .before .before .before .before .before .before .before .before .before .before .before .before .args .n) (l .i) _ _ (c .before .before .before .before .before .before .before .before .before .before .before .before .before .before .before .before .before .before .before .loop-test .taken) _ _ e _ (c .before .before .before .before .before .before .check-edge .ensures .0 _ (l .inv .2)) (c .before .before .before .before .before .if1 .left) ∙ l .inv .3),
+      c .before .before .add-pair .kept .0 ∙ l .inv .4,
     )
 
 same-length-5 : tie.Need-same-length-5 Inv-loop μ-loop

@@ -3,22 +3,21 @@ use Prim.Native.Nat.{_≤_, _-_}
 use native.Mathlib.Omega.{arith}
 use borrow.Author.Needs.{needs}
 use Rattle.mirguneth.proofs.Held.{sizes}
-use Rattle.mirguneth.proofs.TimeLaws.{small-one}
 use Rattle.mirguneth.proofs.EndLaws.{Ending, ending-first, ending-next, ending-done}
 use Rattle.mirguneth.proofs.ends.end_of.Statement.{statement}
 use Rattle.mirguneth.proofs.ends.end_of.Tie as tie
 
 abbrev Inv-loop : tie.InvT-loop
-Inv-loop mem late v acc₀ t₀ acc t = (t ≤ v) × Ending late mem acc t
+Inv-loop mem rooms late v acc₀ t₀ acc t = (t ≤ v) × Ending rooms late mem acc t
 
 abbrev μ-loop : tie.MeasureT-loop
-μ-loop mem late v acc₀ t₀ acc t = v - t
+μ-loop mem rooms late v acc₀ t₀ acc t = v - t
 
 shared-slice-read-v : tie.Need-shared-slice-read-v Inv-loop μ-loop
 shared-slice-read-v c = let w = sizes (c .before .before .pre .0 .job) in omega arith
 
 loop-holds : tie.Need-loop-holds Inv-loop μ-loop
-loop-holds c = (search needs, ending-first (c .before .before .args .late) (c .before .before .args .mem .now))
+loop-holds c = (search needs, ending-first (c .before .before .args .rooms) (c .before .before .args .late) (c .before .before .args .mem .now))
 
 exit-time-requires : tie.Need-exit-time-requires Inv-loop μ-loop
 exit-time-requires c κs = (c .before .before .before .before .pre .0, c .before .before .before .before .pre .1, c .loop-test .taken)
@@ -37,12 +36,11 @@ loop-again c =
     let a = c .before .before .before .before .before .before .args in
     let l = c .before .before .before .loop in (
       search needs,
-      ending-next (a .late) (a .mem .now) (l .acc) (l .t) (c .before .exit-time .result) (c .chosen-of .result) (c .before .before .loop-test .taken) (c .before .exit-time .ensures .0) (c .chosen-of .ensures .0)
-          (small-one 5000000000 (c .chosen-of .result) (c .before .exit-time .result) (l .acc) (c .chosen-of .ensures .1) (c .before .exit-time .ensures .1) (l .inv .1 .small)) (l .inv .1),
+      ending-next (a .rooms) (a .late) (a .mem .now) (l .acc) (l .t) (c .before .exit-time .result) (c .chosen-of .result) (c .before .before .loop-test .taken) (c .before .exit-time .ensures) (c .chosen-of .ensures .0) (l .inv .1),
     )
 
 returns : tie.Need-returns Inv-loop μ-loop
-returns c = let a = c .before .before .before .before .args in let l = c .before .loop in (ending-done (a .late) (a .mem .now) (l .acc) (l .t) (c .loop-test .left) (l .inv .1), l .inv .1 .small)
+returns c = let a = c .before .before .before .before .args in let l = c .before .loop in ending-done (a .rooms) (a .late) (a .mem .now) (l .acc) (l .t) (c .loop-test .left) (l .inv .1)
 
 pub end-of-spec : {M : Type 1} → statement M
 end-of-spec =

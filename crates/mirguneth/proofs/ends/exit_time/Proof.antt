@@ -1,14 +1,23 @@
 -- The head of a task's links is 0 exactly if no edge leaves it.
 use Prim.Native.Nat.{_-_}
 use native.Mathlib.Omega.{arith}
-use mathlib.Core.Logic.{inr}
+use borrow.Author.Needs.{needs}
 use Rattle.mirguneth.proofs.Held.{Sizes, sizes}
 use Rattle.mirguneth.proofs.EndLaws.{all-placed, row-of-task, exit-end, exit-other}
 use Rattle.mirguneth.proofs.ends.exit_time.Statement.{statement}
 use Rattle.mirguneth.proofs.ends.exit_time.Tie as tie
 
-held : (c : tie.Start) → Sizes (c .args .mem .now)
+held : (c : tie.Start) → Sizes (c .args .rooms) (c .args .mem .now)
 held c = sizes (c .pre .0 .job)
+
+mul-out-head : tie.Need-mul-out-head
+mul-out-head c = search needs
+
+mul-rows : tie.Need-mul-rows
+mul-rows c = search needs
+
+mul-line : tie.Need-mul-line
+mul-line c = search needs
 
 add-if1 : tie.Need-add-if1
 add-if1 c = omega (arith, held (c .before))
@@ -20,7 +29,7 @@ shared-slice-read-if1 : tie.Need-shared-slice-read-if1
 shared-slice-read-if1 c = omega (arith, held (c .before .before))
 
 returns : tie.Need-returns
-returns c = let a = c .before .before .before .args in let h = c .before .before .before .pre in (exit-other (a .late) (h .0) (h .1) (a .t) (h .2) (omega (arith, c .if1 .taken)), inr (omega arith))
+returns c = let a = c .before .before .before .args in let h = c .before .before .before .pre in exit-other (a .late) (h .0) (h .1) (a .t) (h .2) (omega (arith, c .if1 .taken))
 
 add-a : tie.Need-add-a
 add-a c = omega (arith, held (c .before .before .before))
@@ -40,23 +49,26 @@ mul-a-2 c = omega (arith, held (c .before .before .before .before), row-of-task 
 add-a-2 : tie.Need-add-a-2
 add-a-2 c = omega (arith, held (c .before .before .before .before), row-of-task (c .before .before .before .before .pre .0) (c .before .before .before .before .args .t) (c .before .before .before .before .pre .2) .1)
 
-arrival-requires : tie.Need-arrival-requires
-arrival-requires c κs =
+chosen-in-requires : tie.Need-chosen-in-requires
+chosen-in-requires c κs =
     let h = c .before .before .before .before .pre in
+    let t = c .before .before .before .before .args .t in
     let w = held (c .before .before .before .before) in
-    let (r, l) = row-of-task (h .0) (c .before .before .before .before .args .t) (h .2) in
-    (h .0 .job, r, omega (arith, all-placed (h .0) (c .before .before .before .before .args .t) (h .2)), omega arith, omega arith)
+    ((_, h .0 .job), omega (arith, all-placed (h .0) t (h .2), row-of-task (h .0) t (h .2) .1))
 
 returns-2 : tie.Need-returns-2
 returns-2 c =
     let a = c .before .before .before .before .before .args in
     let h = c .before .before .before .before .before .pre in
-    (exit-end (a .late) (h .0) (h .1) (a .t) (h .2) (c .arrival .result) (omega (arith, c .before .before .if1 .left)) (c .arrival .ensures .0), c .arrival .ensures .1)
+    exit-end (a .late) (h .0) (h .1) (a .t) (h .2) (c .chosen-in .result) (omega (arith, c .before .before .if1 .left)) (c .chosen-in .ensures)
 
 pub exit-time-spec : {M : Type 1} → statement M
 exit-time-spec =
     tie.close
     (tie.spec
+    mul-out-head
+    mul-rows
+    mul-line
     add-if1
     mul-if1
     shared-slice-read-if1
@@ -67,5 +79,5 @@ exit-time-spec =
     sub-a
     mul-a-2
     add-a-2
-    arrival-requires
+    chosen-in-requires
     returns-2)

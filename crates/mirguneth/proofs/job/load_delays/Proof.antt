@@ -11,7 +11,7 @@ use Rattle.definitions.specs.Job.{jobHeadOf}
 use Rattle.text.specs.Told.{told}
 use Rattle.mirguneth.specs.Memory.{rows}
 use Rattle.mirguneth.specs.Stages.{delaysAt}
-use Rattle.mirguneth.proofs.CellLaws.{runs-most, delays-most, lent-head, lent-headed, delays-in}
+use Rattle.mirguneth.proofs.CellLaws.{lent-nth, runs-most, delays-most, lent-head, lent-headed, delays-in}
 use Rattle.mirguneth.proofs.StageLaws.{delays-no, delays-then}
 use Rattle.mirguneth.proofs.job.load_delays.Statement.{statement}
 use Rattle.mirguneth.proofs.job.load_delays.Tie as tie
@@ -61,7 +61,7 @@ load-edges-requires c κs =
     let a = delaysAt (jobHeadOf d) in
     let ys = c .before .before .before .before .before .before .before .read-rows .last .1 .1 .1 .1 .1 .1 .0 in
     let r = runs-most d (c .before .before .before .before .before .before .before .before .before .before .before .before .before .before .before .pre .0) in
-    (lent-headed d (putMid a (length d - a) d ys) ys a refl (c .before .before .before .before .before .before .before .read-rows .kept .1 .1 .1 .1 .1 .1 .0) (omega arith) (omega arith) (c .before .before .before .before .before .before .before .before .before .before .before .before .before .before .before .pre .0), c .before .before .before .before .before .before .before .before .before .before .before .before .before .before .before .pre .1)
+    (lent-headed d (putMid a (length d - a) d ys) ys a refl (c .before .before .before .before .before .before .before .read-rows .kept .1 .1 .1 .1 .1 .1 .0) (omega arith) (omega arith) (c .before .before .before .before .before .before .before .before .before .before .before .before .before .before .before .pre .0), rw (lent-nth d (putMid a (length d - a) d ys) ys a refl (omega arith) 0 (omega arith)) (c .before .before .before .before .before .before .before .before .before .before .before .before .before .before .before .pre .1))
 
 enum-known-n : tie.Need-enum-known-n
 enum-known-n c = search needs

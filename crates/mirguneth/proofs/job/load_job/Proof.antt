@@ -1,98 +1,50 @@
--- The head's four numbers stand in front, and the rest is as load_runs leaves it.
-use mathlib.Core.Path.{sym, ap, _∙_}
+-- The head is read, then the rest.
+use mathlib.Core.Path.{refl}
 use native.Mathlib.Omega.{arith}
 use borrow.Author.Needs.{needs}
-use lib.ListN.{take}
-use Rattle.text.specs.Told.{told}
-use Rattle.mirguneth.proofs.StageLaws.{headed, job-long, job-no, job-refused, job-next}
+use Rattle.mirguneth.proofs.Loads.{fits-most}
 use Rattle.mirguneth.proofs.job.load_job.Statement.{statement}
 use Rattle.mirguneth.proofs.job.load_job.Tie as tie
 
-returns : tie.Need-returns
-returns c = job-long (c .before .before .before .before .args .s .now) _ (c .if1 .taken)
+slice-aggregate-read-head : tie.Need-slice-aggregate-read-head
+slice-aggregate-read-head c = search needs
 
-slice-aggregate-read-line : tie.Need-slice-aggregate-read-line
-slice-aggregate-read-line c = search needs
+read-head-requires : tie.Need-read-head-requires
+read-head-requires c κs = search needs
 
-read-line-requires : tie.Need-read-line-requires
-read-line-requires c κs = search needs
+enum-known-at : tie.Need-enum-known-at
+enum-known-at c = search needs
 
-enum-known-p : tie.Need-enum-known-p
-enum-known-p c = search needs
+slice-aggregate-load-rest : tie.Need-slice-aggregate-load-rest
+slice-aggregate-load-rest c = search needs
 
-slice-read-v : tie.Need-slice-read-v
-slice-read-v c = search needs
+load-rest-requires : tie.Need-load-rest-requires
+load-rest-requires c κs =
+    let h = rw (c .before .before .before .at .given .1) at (c .before .before .before .before .before .before .read-head .ensures) in
+    (search needs, h, omega (arith, fits-most (c .before .before .before .before .before .before .read-head .last .1 .0) (h .0), c .before .before .before .before .before .before .before .before .before .before .pre))
 
-slice-read-m : tie.Need-slice-read-m
-slice-read-m c = search needs
-
-slice-read-e : tie.Need-slice-read-e
-slice-read-e c = search needs
-
-slice-read-check-head : tie.Need-slice-read-check-head
-slice-read-check-head c = search needs
-
-check-head-requires : tie.Need-check-head-requires
-check-head-requires c κs = search needs
+enum-known-x : tie.Need-enum-known-x
+enum-known-x c = search needs
 
 same-length : tie.Need-same-length
 same-length c = search needs
 
+returns : tie.Need-returns
+returns c = search needs
+
 returns-2 : tie.Need-returns-2
-returns-2 c =
-    let s = c .before .before .before .before .before .before .before .before .before .before .before .before .before .before .before .before .before .before .args .s .now in
-    let d = c .before .before .before .before .before .before .before .before .before .before .before .read-line .last .1 .1 .1 .1 .0 in
-    job-refused s _ (c .before .before .before .before .before .before .before .before .before .before .before .before .before .before .if1 .left) d _ (sym (c .before .before .before .before .before .before .before .before .before .before .before .read-line .ensures) ∙ ap (told s (take 4 d)) (c .before .before .before .before .before .before .before .p .given .1)) _ (c .before .check-head .ensures) (c .if2 .taken)
-
-load-runs-requires : tie.Need-load-runs-requires
-load-runs-requires c κs =
-    let d = c .before .before .before .before .before .before .before .before .before .before .before .before .before .read-line .last .1 .1 .1 .1 .0 in
-    let o = c .before .before .if2 .left in
-    (headed d (sym (c .before .before .before .check-head .ensures) ∙ omega arith) (omega (arith, c .before .before .before .before .before .before .before .before .before .before .before .before .before .read-line .kept .1 .1 .1 .1 .0)), c .before .before .before .before .before .before .before .before .before .before .before .before .before .before .before .before .before .before .before .before .pre .1)
-
-enum-known-n : tie.Need-enum-known-n
-enum-known-n c = search needs
-
-same-length-2 : tie.Need-same-length-2
-same-length-2 c = search needs
-
-same-length-3 : tie.Need-same-length-3
-same-length-3 c = search needs
-
-returns-3 : tie.Need-returns-3
-returns-3 c =
-    let s = c .before .before .before .before .before .before .before .before .before .before .before .before .before .before .before .before .before .before .before .before .before .before .before .before .before .args .s .now in
-    let d = c .before .before .before .before .before .before .before .before .before .before .before .before .before .before .before .before .before .before .read-line .last .1 .1 .1 .1 .0 in
-    job-next s _ (c .before .before .before .before .before .before .before .before .before .before .before .before .before .before .before .before .before .before .before .before .before .if1 .left) d _ (sym (c .before .before .before .before .before .before .before .before .before .before .before .before .before .before .before .before .before .before .read-line .ensures) ∙ ap (told s (take 4 d)) (c .before .before .before .before .before .before .before .before .before .before .before .before .before .before .p .given .1)) _ (c .before .before .before .before .before .before .before .before .check-head .ensures) (c .before .before .before .before .before .before .before .if2 .left) _ (c .before .before .before .before .load-runs .ensures)
-
-same-length-4 : tie.Need-same-length-4
-same-length-4 c = search needs
-
-returns-4 : tie.Need-returns-4
-returns-4 c =
-    let s = c .before .before .before .before .before .before .before .before .before .before .before .before .args .s .now in
-    let d = c .before .before .before .before .before .read-line .last .1 .1 .1 .1 .0 in
-    job-no s _ (c .before .before .before .before .before .before .before .before .if1 .left) _ (sym (c .before .before .before .before .before .read-line .ensures) ∙ ap (told s (take 4 d)) (c .before .n .given .1))
+returns-2 c = rw (rw (c .before .x .given .1) at (c .before .before .before .before .read-head .ensures)) refl
 
 pub load-job-spec : {M : Type 1} → statement M
 load-job-spec =
     tie.close
     (tie.spec
-    returns
-    slice-aggregate-read-line
-    read-line-requires
-    enum-known-p
-    slice-read-v
-    slice-read-m
-    slice-read-e
-    slice-read-check-head
-    check-head-requires
+    slice-aggregate-read-head
+    read-head-requires
+    enum-known-at
+    slice-aggregate-load-rest
+    load-rest-requires
+    enum-known-x
     same-length
-    returns-2
-    load-runs-requires
-    enum-known-n
-    same-length-2
-    same-length-3
-    returns-3
-    same-length-4
-    returns-4)
+    returns
+    returns-2)

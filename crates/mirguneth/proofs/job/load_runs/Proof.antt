@@ -10,7 +10,7 @@ use Rattle.definitions.specs.Lists.{nth}
 use Rattle.definitions.specs.Job.{jobHeadOf}
 use Rattle.text.specs.Told.{told}
 use Rattle.mirguneth.specs.Memory.{rows}
-use Rattle.mirguneth.proofs.CellLaws.{runs-most, lent-head, lent-headed, runs-in, runs-are-not}
+use Rattle.mirguneth.proofs.CellLaws.{lent-nth, runs-most, lent-head, lent-headed, runs-in, runs-are-not}
 use Rattle.mirguneth.proofs.StageLaws.{runs-no, runs-then}
 use Rattle.mirguneth.proofs.job.load_runs.Statement.{statement}
 use Rattle.mirguneth.proofs.job.load_runs.Tie as tie
@@ -48,7 +48,7 @@ load-delays-requires : tie.Need-load-delays-requires
 load-delays-requires c κs =
     let d = c .before .before .before .before .before .before .before .before .before .before .before .before .before .before .before .args .mem .now in
     let ys = c .before .before .before .before .before .before .before .read-rows .last .1 .1 .1 .1 .1 .1 .0 in
-    (lent-headed d (putMid 4 (length d - 4) d ys) ys 4 refl (c .before .before .before .before .before .before .before .read-rows .kept .1 .1 .1 .1 .1 .1 .0) (omega arith) (omega arith) (c .before .before .before .before .before .before .before .before .before .before .before .before .before .before .before .pre .0), c .before .before .before .before .before .before .before .before .before .before .before .before .before .before .before .pre .1)
+    (lent-headed d (putMid 4 (length d - 4) d ys) ys 4 refl (c .before .before .before .before .before .before .before .read-rows .kept .1 .1 .1 .1 .1 .1 .0) (omega arith) (omega arith) (c .before .before .before .before .before .before .before .before .before .before .before .before .before .before .before .pre .0), rw (lent-nth d (putMid 4 (length d - 4) d ys) ys 4 refl (omega arith) 0 (omega arith)) (c .before .before .before .before .before .before .before .before .before .before .before .before .before .before .before .pre .1))
 
 enum-known-n : tie.Need-enum-known-n
 enum-known-n c = search needs

@@ -1,6 +1,6 @@
 -- The places passed are clear, and nothing else changed.
 use mathlib.Core.Path.{_≡_, refl}
-use Prim.Native.Nat.{ℕ, _≤_, _<_, _-_, _+_}
+use Prim.Native.Nat.{ℕ, _≤_, _<_, _-_, _+_, _*_}
 use native.Mathlib.Omega.{arith}
 use borrow.Author.Needs.{needs}
 use lib.ListN.{length}
@@ -13,10 +13,16 @@ use Rattle.mirguneth.proofs.levels.clear_levels.Statement.{statement}
 use Rattle.mirguneth.proofs.levels.clear_levels.Tie as tie
 
 abbrev Inv-loop : tie.InvT-loop
-Inv-loop mem₀ i₀ mem i = (i ≤ 512) × (length mem ≡ memorySize) × KeptOutside levelAt lineAt mem₀ mem × ((k : ℕ) → k < i → nth mem (levelAt + k) ≡ 0)
+Inv-loop mem₀ rooms level n i₀ mem i = (i ≤ 16 * rooms) × (length mem ≡ memorySize rooms) × KeptOutside (levelAt rooms) (lineAt rooms) mem₀ mem × ((k : ℕ) → k < i → nth mem (levelAt rooms + k) ≡ 0)
 
 abbrev μ-loop : tie.MeasureT-loop
-μ-loop mem₀ i₀ mem i = 512 - i
+μ-loop mem₀ rooms level n i₀ mem i = 16 * rooms - i
+
+mul-level : tie.Need-mul-level Inv-loop μ-loop
+mul-level c = search needs
+
+mul-n : tie.Need-mul-n Inv-loop μ-loop
+mul-n c = search needs
 
 loop-holds : tie.Need-loop-holds Inv-loop μ-loop
 loop-holds c = (search needs, c .pre .size, kept-all, λ k h. absurd (omega arith))
@@ -39,14 +45,14 @@ loop-less c = search needs
 loop-again : tie.Need-loop-again Inv-loop μ-loop
 loop-again c =
     let l = c .before .loop in
-    (search needs, search needs, kept-set (levelAt + l .i) 0 (l .inv .2) (omega arith) (omega arith), table-more (λ _. 0) (l .mem) levelAt (l .i) 0 (l .inv .3) (omega arith) refl)
+    (search needs, search needs, kept-set (levelAt _ + l .i) 0 (l .inv .2) (omega arith) (omega arith), table-more (λ _. 0) (l .mem) (levelAt _) (l .i) 0 (l .inv .3) (omega arith) refl)
 
 same-length : tie.Need-same-length Inv-loop μ-loop
 same-length c = c .before .loop .inv .2 .size
 
 returns : tie.Need-returns Inv-loop μ-loop
 returns c =
-    let l = c .before .loop in let e : l .i ≡ 512 = omega arith in
+    let l = c .before .loop in
     (l .inv .2, λ i h. l .inv .3 i (omega arith))
 
 pub clear-levels-spec : {M : Type 1} → statement M
@@ -55,6 +61,8 @@ clear-levels-spec =
     (tie.spec
     Inv-loop
     μ-loop
+    mul-level
+    mul-n
     loop-holds
     add-mem
     mul-mem

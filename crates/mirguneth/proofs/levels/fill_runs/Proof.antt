@@ -1,6 +1,6 @@
 -- The places passed hold the scaled run times, and nothing else changed.
 use mathlib.Core.Path.{_≡_, ap, _∙_}
-use Prim.Native.Nat.{ℕ, _≤_, _<_, _-_, _+_}
+use Prim.Native.Nat.{ℕ, _≤_, _<_, _-_, _+_, _*_}
 use native.Mathlib.Omega.{arith}
 use borrow.Author.Needs.{needs}
 use lib.ListN.{length}
@@ -14,11 +14,14 @@ use Rattle.mirguneth.proofs.levels.fill_runs.Statement.{statement}
 use Rattle.mirguneth.proofs.levels.fill_runs.Tie as tie
 
 abbrev Inv-loop : tie.InvT-loop
-Inv-loop mem₀ v t₀ mem t =
-    (t ≤ v) × (v ≤ 255) × (length mem ≡ memorySize) × KeptOutside runAt (rowAt 0) mem₀ mem × ((u : ℕ) → u < t → nth mem (runAt + u) ≡ scaledRun (jobIn mem₀) u)
+Inv-loop mem₀ rooms run v t₀ mem t =
+    (t ≤ v) × ((v ≤ 255) × (v ≤ 8 * rooms)) × (length mem ≡ memorySize rooms) × KeptOutside (runAt rooms) (rowAt rooms 0) mem₀ mem × ((u : ℕ) → u < t → nth mem (runAt rooms + u) ≡ scaledRun (jobIn mem₀) u)
 
 abbrev μ-loop : tie.MeasureT-loop
-μ-loop mem₀ v t₀ mem t = v - t
+μ-loop mem₀ rooms run v t₀ mem t = v - t
+
+mul-run : tie.Need-mul-run Inv-loop μ-loop
+mul-run c = search needs
 
 slice-read-v : tie.Need-slice-read-v Inv-loop μ-loop
 slice-read-v c = let s = sizes (c .before .before .pre) in omega arith
@@ -27,7 +30,7 @@ loop-holds : tie.Need-loop-holds Inv-loop μ-loop
 loop-holds c = let s = sizes (c .before .before .pre) in (search needs, s .tasks-most, s .size, kept-all, λ u h. absurd (omega arith))
 
 scaled-run-requires : tie.Need-scaled-run-requires Inv-loop μ-loop
-scaled-run-requires c κs = (held-kept (c .before .before .before .before .before .pre) (c .before .before .loop .inv .3) (omega arith), omega (arith, c .before .before .loop .inv .3 .before 0 (omega arith), c .before .loop-test .taken))
+scaled-run-requires c κs = ((_, held-kept (c .before .before .before .before .before .pre) (c .before .before .loop .inv .3) (omega arith)), omega (arith, c .before .before .loop .inv .3 .before 0 (omega arith), c .before .loop-test .taken))
 
 add-mem : tie.Need-add-mem Inv-loop μ-loop
 add-mem c = search needs
@@ -50,8 +53,8 @@ loop-again c =
       search needs,
       search needs,
       search needs,
-      kept-set (runAt + l .t) (x .result) (l .inv .3) (omega arith) (omega arith),
-      table-more (scaledRun (jobIn d)) (l .mem) runAt (l .t) (x .result) (l .inv .4) (omega arith) (x .ensures ∙ ap (λ j. scaledRun j (l .t)) (job-kept (c .before .before .before .before .before .before .pre) (l .inv .3) (omega arith))),
+      kept-set (runAt (c .before .before .before .before .before .before .args .rooms) + l .t) (x .result) (l .inv .3) (omega arith) (omega arith),
+      table-more (scaledRun (jobIn d)) (l .mem) (runAt (c .before .before .before .before .before .before .args .rooms)) (l .t) (x .result) (l .inv .4) (omega arith) (x .ensures ∙ ap (λ j. scaledRun j (l .t)) (job-kept (c .before .before .before .before .before .before .pre) (l .inv .3) (omega arith))),
     )
 
 same-length : tie.Need-same-length Inv-loop μ-loop
@@ -68,6 +71,7 @@ fill-runs-spec =
     (tie.spec
     Inv-loop
     μ-loop
+    mul-run
     slice-read-v
     loop-holds
     scaled-run-requires

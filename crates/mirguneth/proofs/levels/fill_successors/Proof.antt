@@ -1,11 +1,11 @@
 -- The table has the largest over the edges passed, and nothing else changed.
 use mathlib.Core.Path.{_≡_, ap, _∙_}
-use Prim.Native.Nat.{ℕ, _≤_, _<_, _-_, _+_}
+use Prim.Native.Nat.{ℕ, _≤_, _<_, _-_, _+_, _*_}
 use native.Mathlib.Omega.{arith}
 use borrow.Author.Needs.{needs}
 use lib.ListN.{getD}
 use mathlib.Core.List.{map}
-use Prim.Native.Nat.{_%_}
+use Prim.Native.Nat.{_%_, _*_}
 use Rattle.definitions.specs.Lists.{nth, countFrom, keep, greatest}
 use Rattle.mirguneth.specs.Layout.{raisedAt, lineAt}
 use Rattle.mirguneth.specs.Schedule.{edgeAt, KeptOutside}
@@ -16,11 +16,17 @@ use Rattle.mirguneth.proofs.levels.fill_successors.Statement.{statement
 use Rattle.mirguneth.proofs.levels.fill_successors.Tie as tie
 
 abbrev Inv-loop : tie.InvT-loop
-Inv-loop mem₀ total v m n g i₀ mem i =
-    (i ≤ n) × (n ≤ 1024) × KeptOutside raisedAt lineAt mem₀ mem × ((t : ℕ) → t < nth mem₀ 0 → nth mem (raisedAt + t) ≡ greatest (map (sent mem₀) (leaving mem₀ t i)))
+Inv-loop mem₀ rooms total level raised v m n g i₀ mem i =
+    (i ≤ n) × ((n ≤ 1024) × (n ≤ 32 * rooms)) × KeptOutside (raisedAt rooms) (lineAt rooms) mem₀ mem × ((t : ℕ) → t < nth mem₀ 0 → nth mem (raisedAt rooms + t) ≡ greatest (map (sent rooms mem₀) (leaving mem₀ t i)))
 
 abbrev μ-loop : tie.MeasureT-loop
-μ-loop mem₀ total v m n g i₀ mem i = n - i
+μ-loop mem₀ rooms total level raised v m n g i₀ mem i = n - i
+
+mul-level : tie.Need-mul-level Inv-loop μ-loop
+mul-level c = search needs
+
+mul-raised : tie.Need-mul-raised Inv-loop μ-loop
+mul-raised c = search needs
 
 slice-read-v : tie.Need-slice-read-v Inv-loop μ-loop
 slice-read-v c = let s = sizes (c .before .before .pre .0) in omega arith
@@ -137,7 +143,7 @@ loop-again c =
     let u = turn (c .before .before .before .before .before .before .before .before .before .before .pre .0) (l .inv .2) (c .before .before .before .before .before .before .before .before .before .before .args .total) (c .before .before .before .before .before .before .before .before .before .before .pre .1) (l .i) (c .before .before .before .before .loop-test .taken) (c .before .before .before .before .before .before .before .before .before .before .pre .2) in (
       search needs,
       l .inv .1,
-      kept-set (raisedAt + getD (l .mem) (edgeAt d (l .i)) 0 % 256) (x .result) (l .inv .2) (omega arith) (omega arith),
+      kept-set (raisedAt (c .before .before .before .before .before .before .before .before .before .before .args .rooms) + getD (l .mem) (edgeAt d (l .i)) 0 % 256) (x .result) (l .inv .2) (omega arith) (omega arith),
       successors-more (c .before .before .before .before .before .before .before .before .before .before .pre .0) (l .inv .2) (c .before .before .before .before .before .before .before .before .before .before .args .total) (c .before .before .before .before .before .before .before .before .before .before .pre .1) (l .i) (c .before .before .before .before .loop-test .taken) (l .inv .3) (c .before .before .before .before .before .before .before .before .before .before .pre .2) (x .result) (x .ensures),
     )
 
@@ -148,7 +154,7 @@ returns : tie.Need-returns Inv-loop μ-loop
 returns c =
     let d = c .before .before .before .before .before .before .args .mem .now in let l = c .before .loop in
     let e : l .i ≡ nth d 2 = omega arith in
-    (l .inv .2, λ t h. l .inv .3 t h ∙ ap (λ (k : ℕ). greatest (map (sent d) (leaving d t k))) e ∙ ap (λ es. greatest (map (sent d) es)) (leaving-all d t))
+    (l .inv .2, λ t h. l .inv .3 t h ∙ ap (λ (k : ℕ). greatest (map (sent (c .before .before .before .before .before .before .args .rooms) d) (leaving d t k))) e ∙ ap (λ es. greatest (map (sent (c .before .before .before .before .before .before .args .rooms) d) es)) (leaving-all d t))
 
 pub fill-successors-spec : {M : Type 1} → statement M
 fill-successors-spec =
@@ -156,6 +162,8 @@ fill-successors-spec =
     (tie.spec
     Inv-loop
     μ-loop
+    mul-level
+    mul-raised
     slice-read-v
     slice-read-m
     slice-read-n

@@ -19,7 +19,7 @@ same-length c = c .before .before .settle-rounds .ensures .0 .size ∙ c .before
 returns : tie.Need-returns
 returns c =
     let e = c .before .before .settle-rounds .ensures in
-    (kept-then (kept-wider levelAt (rowAt 0) (c .before .before .before .before .before .before .fill-runs .ensures .0) (omega arith) (omega arith)) (kept-wider levelAt (rowAt 0) (e .0) (omega arith) (omega arith)), e .1)
+    (kept-then (kept-wider (levelAt _) (rowAt _ 0) (c .before .before .before .before .before .before .fill-runs .ensures .0) (omega arith) (omega arith)) (kept-wider (levelAt _) (rowAt _ 0) (e .0) (omega arith) (omega arith)), e .1)
 
 pub settle-levels-spec : {M : Type 1} → statement M
 settle-levels-spec =

@@ -10,16 +10,16 @@ use Rattle.mirguneth.proofs.levels.settle_rounds.Statement.{statement}
 use Rattle.mirguneth.proofs.levels.settle_rounds.Tie as tie
 
 abbrev Inv-loop : tie.InvT-loop
-Inv-loop mem₀ total v n₀ mem n = (n ≤ v) × Settling mem₀ mem n
+Inv-loop mem₀ rooms total v n₀ mem n = (n ≤ v) × Settling rooms mem₀ mem n
 
 abbrev μ-loop : tie.MeasureT-loop
-μ-loop mem₀ total v n₀ mem n = v - n
+μ-loop mem₀ rooms total v n₀ mem n = v - n
 
 clear-levels-requires : tie.Need-clear-levels-requires Inv-loop μ-loop
 clear-levels-requires c κs = c .before .before .pre .0
 
 total-delay-requires : tie.Need-total-delay-requires Inv-loop μ-loop
-total-delay-requires c κs = held-kept (c .before .before .before .before .before .before .pre .0) (c .before .before .before .clear-levels .ensures .0) (omega arith)
+total-delay-requires c κs = (_, held-kept (c .before .before .before .before .before .before .pre .0) (c .before .before .before .clear-levels .ensures .0) (omega arith))
 
 slice-read-v : tie.Need-slice-read-v Inv-loop μ-loop
 slice-read-v c = search needs

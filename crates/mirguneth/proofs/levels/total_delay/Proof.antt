@@ -18,53 +18,53 @@ abbrev μ-loop : tie.MeasureT-loop
 μ-loop mem v m x₀ p₀ x p = m - p
 
 shared-slice-read-v : tie.Need-shared-slice-read-v Inv-loop μ-loop
-shared-slice-read-v c = let s = sizes (c .before .before .pre) in omega arith
+shared-slice-read-v c = let s = sizes (c .before .before .pre .1) in omega arith
 
 shared-slice-read-m : tie.Need-shared-slice-read-m Inv-loop μ-loop
-shared-slice-read-m c = let s = sizes (c .before .before .before .pre) in omega arith
+shared-slice-read-m c = let s = sizes (c .before .before .before .pre .1) in omega arith
 
 loop-holds : tie.Need-loop-holds Inv-loop μ-loop
 unfolding sum countFrom
-loop-holds c = (search needs, sizes (c .before .before .before .pre) .processors-most, refl)
+loop-holds c = (search needs, sizes (c .before .before .before .pre .1) .processors-most, refl)
 
 add-row-sum : tie.Need-add-row-sum Inv-loop μ-loop
 add-row-sum c =
-    let d = c .before .before .before .before .before .args .mem .now in let s = sizes (c .before .before .before .before .before .pre) in let h = c .loop-test .taken in
+    let d = c .before .before .before .before .before .args .mem .now in let s = sizes (c .before .before .before .before .before .pre .1) in let h = c .loop-test .taken in
     let r = row-room s (nth d 0 + c .before .loop .p) (omega arith) in
     omega arith
 
 add-row-sum-2 : tie.Need-add-row-sum-2 Inv-loop μ-loop
 add-row-sum-2 c =
-    let d = c .before .before .before .before .before .args .mem .now in let s = sizes (c .before .before .before .before .before .pre) in let h = c .loop-test .taken in
+    let d = c .before .before .before .before .before .args .mem .now in let s = sizes (c .before .before .before .before .before .pre .1) in let h = c .loop-test .taken in
     let r = row-room s (nth d 0 + c .before .loop .p) (omega arith) in
     omega arith
 
 mul-row-sum : tie.Need-mul-row-sum Inv-loop μ-loop
 mul-row-sum c =
-    let d = c .before .before .before .before .before .args .mem .now in let s = sizes (c .before .before .before .before .before .pre) in let h = c .loop-test .taken in
+    let d = c .before .before .before .before .before .args .mem .now in let s = sizes (c .before .before .before .before .before .pre .1) in let h = c .loop-test .taken in
     let r = row-room s (nth d 0 + c .before .loop .p) (omega arith) in
     omega arith
 
 add-row-sum-3 : tie.Need-add-row-sum-3 Inv-loop μ-loop
 add-row-sum-3 c =
-    let d = c .before .before .before .before .before .args .mem .now in let s = sizes (c .before .before .before .before .before .pre) in let h = c .loop-test .taken in
+    let d = c .before .before .before .before .before .args .mem .now in let s = sizes (c .before .before .before .before .before .pre .1) in let h = c .loop-test .taken in
     let r = row-room s (nth d 0 + c .before .loop .p) (omega arith) in
     omega arith
 
 add-row-sum-4 : tie.Need-add-row-sum-4 Inv-loop μ-loop
 add-row-sum-4 c =
-    let d = c .before .before .before .before .before .args .mem .now in let s = sizes (c .before .before .before .before .before .pre) in let h = c .loop-test .taken in
+    let d = c .before .before .before .before .before .args .mem .now in let s = sizes (c .before .before .before .before .before .pre .1) in let h = c .loop-test .taken in
     let r = row-room s (nth d 0 + c .before .loop .p) (omega arith) in
     omega arith
 
 row-sum-requires : tie.Need-row-sum-requires Inv-loop μ-loop
 row-sum-requires c κs =
-    let d = c .before .before .before .before .before .args .mem .now in let s = sizes (c .before .before .before .before .before .pre) in let h = c .loop-test .taken in
+    let d = c .before .before .before .before .before .args .mem .now in let s = sizes (c .before .before .before .before .before .pre .1) in let h = c .loop-test .taken in
     let r = row-room s (nth d 0 + c .before .loop .p) (omega arith) in
-    (omega arith, omega arith, λ q g. omega (arith, delay-most d (c .before .before .before .before .before .pre) (c .before .loop .p) q h g))
+    (omega arith, omega arith, λ q g. omega (arith, delay-most d (c .before .before .before .before .before .pre .1) (c .before .loop .p) q h g))
 
 add-x : tie.Need-add-x Inv-loop μ-loop
-add-x c = let d = c .before .before .before .before .before .before .args .mem .now in let l = c .before .before .loop in omega (arith, c .row-sum .ensures, delay-sum-most d (c .before .before .before .before .before .before .pre) (l .p) (c .before .loop-test .taken), total-most d (c .before .before .before .before .before .before .pre) (l .p) (l .inv .0))
+add-x c = let d = c .before .before .before .before .before .before .args .mem .now in let l = c .before .before .loop in omega (arith, c .row-sum .ensures, delay-sum-most d (c .before .before .before .before .before .before .pre .1) (l .p) (c .before .loop-test .taken), total-most d (c .before .before .before .before .before .before .pre .1) (l .p) (l .inv .0))
 
 add-p : tie.Need-add-p Inv-loop μ-loop
 add-p c = search needs
@@ -81,7 +81,7 @@ returns : tie.Need-returns Inv-loop μ-loop
 returns c =
     let d = c .before .before .before .before .before .args .mem .now in let l = c .before .loop in
     let e : l .p ≡ nth d 1 = omega arith in
-    l .inv .2 ∙ ap (λ (k : ℕ). sum (map (λ i. rowSum d (nth d 0 + i)) (below k))) e ∙ sym (total-in d (c .before .before .before .before .before .pre))
+    l .inv .2 ∙ ap (λ (k : ℕ). sum (map (λ i. rowSum d (nth d 0 + i)) (below k))) e ∙ sym (total-in d (c .before .before .before .before .before .pre .1))
 
 pub total-delay-spec : {M : Type 1} → statement M
 total-delay-spec =

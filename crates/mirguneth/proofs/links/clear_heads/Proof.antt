@@ -1,6 +1,6 @@
 -- Of the first t tasks no table has a link.
 use mathlib.Core.Path.{_≡_, _∙_}
-use Prim.Native.Nat.{ℕ, _≤_, _<_, _-_, _+_}
+use Prim.Native.Nat.{ℕ, _≤_, _<_, _-_, _+_, _*_}
 use native.Mathlib.Omega.{arith}
 use borrow.Author.Needs.{needs}
 use lib.ListN.{length-set}
@@ -13,11 +13,20 @@ use Rattle.mirguneth.proofs.links.clear_heads.Statement.{statement}
 use Rattle.mirguneth.proofs.links.clear_heads.Tie as tie
 
 abbrev Inv-loop : tie.InvT-loop
-Inv-loop mem₀ t₀ mem t =
-    (t ≤ 256) × KeptOutside inHeadAt levelAt mem₀ mem × ((u : ℕ) → u < t → (nth mem (inHeadAt + u) ≡ 0) × (nth mem (outHeadAt + u) ≡ 0))
+Inv-loop mem₀ rooms in-head out-head n t₀ mem t =
+    (t ≤ 8 * rooms) × KeptOutside (inHeadAt rooms) (levelAt rooms) mem₀ mem × ((u : ℕ) → u < t → (nth mem (inHeadAt rooms + u) ≡ 0) × (nth mem (outHeadAt rooms + u) ≡ 0))
 
 abbrev μ-loop : tie.MeasureT-loop
-μ-loop mem₀ t₀ mem t = 256 - t
+μ-loop mem₀ rooms in-head out-head n t₀ mem t = 8 * rooms - t
+
+mul-in-head : tie.Need-mul-in-head Inv-loop μ-loop
+mul-in-head c = search needs
+
+mul-out-head : tie.Need-mul-out-head Inv-loop μ-loop
+mul-out-head c = search needs
+
+mul-n : tie.Need-mul-n Inv-loop μ-loop
+mul-n c = search needs
 
 loop-holds : tie.Need-loop-holds Inv-loop μ-loop
 loop-holds c = (search needs, kept-all, λ u h. absurd (omega arith))
@@ -51,8 +60,8 @@ loop-again c =
     let l = c .before .loop in
     let k = l .inv .1 in (
       search needs,
-      kept-set (outHeadAt + l .t) 0 (kept-set (inHeadAt + l .t) 0 k (omega arith) (omega arith)) (omega arith) (omega arith),
-      cleared-next (l .mem) (l .t) (omega arith) (k .size ∙ c .before .before .pre) (l .inv .2),
+      kept-set (outHeadAt _ + l .t) 0 (kept-set (inHeadAt _ + l .t) 0 k (omega arith) (omega arith)) (omega arith) (omega arith),
+      cleared-next (c .before .before .args .rooms) (l .mem) (l .t) (omega arith) (k .size ∙ c .before .before .pre) (l .inv .2),
     )
 
 same-length : tie.Need-same-length Inv-loop μ-loop
@@ -67,6 +76,9 @@ clear-heads-spec =
     (tie.spec
     Inv-loop
     μ-loop
+    mul-in-head
+    mul-out-head
+    mul-n
     loop-holds
     add-mem
     mul-mem

@@ -11,10 +11,22 @@ use Rattle.mirguneth.proofs.links.link_edges.Statement.{statement}
 use Rattle.mirguneth.proofs.links.link_edges.Tie as tie
 
 abbrev Inv-loop : tie.InvT-loop
-Inv-loop mem₀ v m e g i₀ mem i = (i ≤ e) × JobHeld mem₀ × Sizes mem₀ × Laying mem₀ mem i
+Inv-loop mem₀ rooms in-next in-head out-next out-head v m e g i₀ mem i = (i ≤ e) × JobHeld rooms mem₀ × Sizes rooms mem₀ × Laying rooms mem₀ mem i
 
 abbrev μ-loop : tie.MeasureT-loop
-μ-loop mem₀ v m e g i₀ mem i = e - i
+μ-loop mem₀ rooms in-next in-head out-next out-head v m e g i₀ mem i = e - i
+
+mul-in-next : tie.Need-mul-in-next Inv-loop μ-loop
+mul-in-next c = search needs
+
+mul-in-head : tie.Need-mul-in-head Inv-loop μ-loop
+mul-in-head c = search needs
+
+mul-out-next : tie.Need-mul-out-next Inv-loop μ-loop
+mul-out-next c = search needs
+
+mul-out-head : tie.Need-mul-out-head Inv-loop μ-loop
+mul-out-head c = search needs
 
 clear-heads-requires : tie.Need-clear-heads-requires Inv-loop μ-loop
 clear-heads-requires c κs = c .before .before .pre .size
@@ -140,6 +152,10 @@ link-edges-spec =
     (tie.spec
     Inv-loop
     μ-loop
+    mul-in-next
+    mul-in-head
+    mul-out-next
+    mul-out-head
     clear-heads-requires
     slice-read-v
     slice-read-m

@@ -11,10 +11,19 @@ use Rattle.mirguneth.proofs.plan_text.plan_length.Statement.{statement}
 use Rattle.mirguneth.proofs.plan_text.plan_length.Tie as tie
 
 abbrev Inv-loop : tie.InvT-loop
-Inv-loop mem v w n₀ k₀ t10 n k = (k ≤ v) × (n ≡ length (textIn mem k))
+Inv-loop mem rooms best-at worst-at rows v w n₀ k₀ t10 n k = (k ≤ v) × (n ≡ length (textIn rooms mem k))
 
 abbrev μ-loop : tie.MeasureT-loop
-μ-loop mem v w n₀ k₀ t10 n k = v - k
+μ-loop mem rooms best-at worst-at rows v w n₀ k₀ t10 n k = v - k
+
+mul-best-at : tie.Need-mul-best-at Inv-loop μ-loop
+mul-best-at c = search needs
+
+mul-worst-at : tie.Need-mul-worst-at Inv-loop μ-loop
+mul-worst-at c = search needs
+
+mul-rows : tie.Need-mul-rows Inv-loop μ-loop
+mul-rows c = search needs
 
 shared-slice-read-v : tie.Need-shared-slice-read-v Inv-loop μ-loop
 shared-slice-read-v c = search needs
@@ -28,20 +37,26 @@ mul-w c = let s = sizes (c .before .before .before .pre) in omega arith
 add-w : tie.Need-add-w Inv-loop μ-loop
 add-w c = let s = sizes (c .before .before .before .pre) in omega arith
 
-shared-slice-read-t12 : tie.Need-shared-slice-read-t12 Inv-loop μ-loop
-shared-slice-read-t12 c = search needs
-
-shared-slice-read-t18 : tie.Need-shared-slice-read-t18 Inv-loop μ-loop
-shared-slice-read-t18 c = search needs
-
-shared-slice-read-t20 : tie.Need-shared-slice-read-t20 Inv-loop μ-loop
-shared-slice-read-t20 c = search needs
+shared-slice-read-t16 : tie.Need-shared-slice-read-t16 Inv-loop μ-loop
+shared-slice-read-t16 c = search needs
 
 shared-slice-read-t22 : tie.Need-shared-slice-read-t22 Inv-loop μ-loop
 shared-slice-read-t22 c = search needs
 
 shared-slice-read-t24 : tie.Need-shared-slice-read-t24 Inv-loop μ-loop
 shared-slice-read-t24 c = search needs
+
+mul-t19 : tie.Need-mul-t19 Inv-loop μ-loop
+mul-t19 c = search needs
+
+shared-slice-read-t26 : tie.Need-shared-slice-read-t26 Inv-loop μ-loop
+shared-slice-read-t26 c = search needs
+
+mul-t18 : tie.Need-mul-t18 Inv-loop μ-loop
+mul-t18 c = search needs
+
+shared-slice-read-t28 : tie.Need-shared-slice-read-t28 Inv-loop μ-loop
+shared-slice-read-t28 c = search needs
 
 slice-aggregate-line-length : tie.Need-slice-aggregate-line-length Inv-loop μ-loop
 slice-aggregate-line-length c = search needs
@@ -53,7 +68,7 @@ line-length-requires : tie.Need-line-length-requires Inv-loop μ-loop
 line-length-requires c κs = search needs
 
 loop-holds : tie.Need-loop-holds Inv-loop μ-loop
-loop-holds c = (search needs, c .line-length .ensures ∙ ap length (sym (text-none (c .before .before .before .before .before .before .before .before .before .before .before .args .mem .now))))
+loop-holds c = (search needs, c .line-length .ensures ∙ ap length (sym (text-none (c .before .before .before .before .before .before .before .before .before .before .before .args .mem .now) _)))
 
 mul-a : tie.Need-mul-a Inv-loop μ-loop
 mul-a c = let s = sizes (c .before .before .before .before .before .before .before .before .before .before .before .before .before .pre) in omega arith
@@ -103,7 +118,7 @@ returns : tie.Need-returns Inv-loop μ-loop
 returns c =
     let l = c .before .loop in
     let e : l .k ≡ nth (c .before .before .before .before .before .before .before .before .before .before .before .before .before .args .mem .now) 0 = omega arith in
-    l .inv .1 ∙ ap (λ (i : ℕ). length (textIn (c .before .before .before .before .before .before .before .before .before .before .before .before .before .args .mem .now) i)) e ∙ ap length (text-whole (c .before .before .before .before .before .before .before .before .before .before .before .before .before .args .mem .now))
+    l .inv .1 ∙ ap (λ (i : ℕ). length (textIn (c .before .before .before .before .before .before .before .before .before .before .before .before .before .args .rooms) (c .before .before .before .before .before .before .before .before .before .before .before .before .before .args .mem .now) i)) e ∙ ap length (text-whole (c .before .before .before .before .before .before .before .before .before .before .before .before .before .args .mem .now) _)
 
 pub plan-length-spec : {M : Type 1} → statement M
 plan-length-spec =
@@ -111,15 +126,20 @@ plan-length-spec =
     (tie.spec
     Inv-loop
     μ-loop
+    mul-best-at
+    mul-worst-at
+    mul-rows
     shared-slice-read-v
     shared-slice-read-w
     mul-w
     add-w
-    shared-slice-read-t12
-    shared-slice-read-t18
-    shared-slice-read-t20
+    shared-slice-read-t16
     shared-slice-read-t22
     shared-slice-read-t24
+    mul-t19
+    shared-slice-read-t26
+    mul-t18
+    shared-slice-read-t28
     slice-aggregate-line-length
     slice-aggregate-line-length-2
     line-length-requires

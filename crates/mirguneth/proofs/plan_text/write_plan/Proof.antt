@@ -12,11 +12,20 @@ use Rattle.mirguneth.proofs.plan_text.write_plan.Statement.{statement}
 use Rattle.mirguneth.proofs.plan_text.write_plan.Tie as tie
 
 abbrev Inv-loop : tie.InvT-loop
-Inv-loop out₀ mem v w at₀ k₀ t11 out at k =
-    (k ≤ v) × (at ≡ length (textIn mem k)) × (length (textIn mem v) ≤ length out₀) × (out ≡ over out₀ 0 (textIn mem k))
+Inv-loop out₀ mem rooms best-at worst-at rows v w at₀ k₀ t11 out at k =
+    (k ≤ v) × (at ≡ length (textIn rooms mem k)) × (length (textIn rooms mem v) ≤ length out₀) × (out ≡ over out₀ 0 (textIn rooms mem k))
 
 abbrev μ-loop : tie.MeasureT-loop
-μ-loop out₀ mem v w at₀ k₀ t11 out at k = v - k
+μ-loop out₀ mem rooms best-at worst-at rows v w at₀ k₀ t11 out at k = v - k
+
+mul-best-at : tie.Need-mul-best-at Inv-loop μ-loop
+mul-best-at c = search needs
+
+mul-worst-at : tie.Need-mul-worst-at Inv-loop μ-loop
+mul-worst-at c = search needs
+
+mul-rows : tie.Need-mul-rows Inv-loop μ-loop
+mul-rows c = search needs
 
 shared-slice-read-v : tie.Need-shared-slice-read-v Inv-loop μ-loop
 shared-slice-read-v c = search needs
@@ -30,20 +39,26 @@ mul-w c = let s = sizes (c .before .before .before .before .pre .0) in omega ari
 add-w : tie.Need-add-w Inv-loop μ-loop
 add-w c = let s = sizes (c .before .before .before .before .pre .0) in omega arith
 
-shared-slice-read-t13 : tie.Need-shared-slice-read-t13 Inv-loop μ-loop
-shared-slice-read-t13 c = search needs
-
-shared-slice-read-t19 : tie.Need-shared-slice-read-t19 Inv-loop μ-loop
-shared-slice-read-t19 c = search needs
-
-shared-slice-read-t21 : tie.Need-shared-slice-read-t21 Inv-loop μ-loop
-shared-slice-read-t21 c = search needs
+shared-slice-read-t17 : tie.Need-shared-slice-read-t17 Inv-loop μ-loop
+shared-slice-read-t17 c = search needs
 
 shared-slice-read-t23 : tie.Need-shared-slice-read-t23 Inv-loop μ-loop
 shared-slice-read-t23 c = search needs
 
 shared-slice-read-t25 : tie.Need-shared-slice-read-t25 Inv-loop μ-loop
 shared-slice-read-t25 c = search needs
+
+mul-t20 : tie.Need-mul-t20 Inv-loop μ-loop
+mul-t20 c = search needs
+
+shared-slice-read-t27 : tie.Need-shared-slice-read-t27 Inv-loop μ-loop
+shared-slice-read-t27 c = search needs
+
+mul-t19 : tie.Need-mul-t19 Inv-loop μ-loop
+mul-t19 c = search needs
+
+shared-slice-read-t29 : tie.Need-shared-slice-read-t29 Inv-loop μ-loop
+shared-slice-read-t29 c = search needs
 
 slice-aggregate-write-line : tie.Need-slice-aggregate-write-line Inv-loop μ-loop
 slice-aggregate-write-line c = search needs
@@ -52,12 +67,12 @@ slice-aggregate-write-line-2 : tie.Need-slice-aggregate-write-line-2 Inv-loop μ
 slice-aggregate-write-line-2 c = search needs
 
 write-line-requires : tie.Need-write-line-requires Inv-loop μ-loop
-write-line-requires c κs = let m = c .before .before .before .before .before .before .before .before .before .before .before .before .args .mem .now in head-room m (sizes (c .before .before .before .before .before .before .before .before .before .before .before .before .pre .0)) (c .before .before .before .before .before .before .before .before .before .before .before .before .args .out .now) (rw (text-whole m) (c .before .before .before .before .before .before .before .before .before .before .before .before .pre .1))
+write-line-requires c κs = let m = c .before .before .before .before .before .before .before .before .before .before .before .before .args .mem .now in head-room m (sizes (c .before .before .before .before .before .before .before .before .before .before .before .before .pre .0)) (c .before .before .before .before .before .before .before .before .before .before .before .before .args .out .now) (rw (text-whole m _) (c .before .before .before .before .before .before .before .before .before .before .before .before .pre .1))
 
 loop-holds : tie.Need-loop-holds Inv-loop μ-loop
 loop-holds c =
     let m = c .before .before .before .before .before .before .before .before .before .before .before .before .before .before .before .args .mem .now in let w = c .before .before .write-line in let s = sizes (c .before .before .before .before .before .before .before .before .before .before .before .before .before .before .before .pre .0) in
-    (search needs, w .ensures .0 ∙ ap length (sym (text-none m)), head-left m s (c .before .before .before .before .before .before .before .before .before .before .before .before .before .before .before .args .out .now) (w .last .0) (w .ensures .1) (rw (text-whole m) (c .before .before .before .before .before .before .before .before .before .before .before .before .before .before .before .pre .1)), head-written m s (c .before .before .before .before .before .before .before .before .before .before .before .before .before .before .before .args .out .now) (w .last .0) (w .ensures .1))
+    (search needs, w .ensures .0 ∙ ap length (sym (text-none m _)), head-left m s (c .before .before .before .before .before .before .before .before .before .before .before .before .before .before .before .args .out .now) (w .last .0) (w .ensures .1) (rw (text-whole m _) (c .before .before .before .before .before .before .before .before .before .before .before .before .before .before .before .pre .1)), head-written m s (c .before .before .before .before .before .before .before .before .before .before .before .before .before .before .before .args .out .now) (w .last .0) (w .ensures .1))
 
 mul-a : tie.Need-mul-a Inv-loop μ-loop
 mul-a c = let s = sizes (c .before .before .before .before .before .before .before .before .before .before .before .before .before .before .before .before .before .pre .0) in omega arith
@@ -131,14 +146,14 @@ same-length : tie.Need-same-length Inv-loop μ-loop
 same-length c =
     let m = c .before .before .before .before .before .before .before .before .before .before .before .before .before .before .before .before .before .args .mem .now in let l = c .before .loop in let w = c .before .before .before .before .write-line in let s = sizes (c .before .before .before .before .before .before .before .before .before .before .before .before .before .before .before .before .before .pre .0) in
     let e : l .k ≡ nth m 0 = omega arith in
-    text-kept m s (w .last .0) (l .inv .2) (l .out) (rw (← e) (l .inv .3)) ∙ head-kept m s (c .before .before .before .before .before .before .before .before .before .before .before .before .before .before .before .before .before .args .out .now) (w .last .0) (w .ensures .1) (rw (text-whole m) (c .before .before .before .before .before .before .before .before .before .before .before .before .before .before .before .before .before .pre .1))
+    text-kept m s (w .last .0) (l .inv .2) (l .out) (rw (← e) (l .inv .3)) ∙ head-kept m s (c .before .before .before .before .before .before .before .before .before .before .before .before .before .before .before .before .before .args .out .now) (w .last .0) (w .ensures .1) (rw (text-whole m _) (c .before .before .before .before .before .before .before .before .before .before .before .before .before .before .before .before .before .pre .1))
 
 returns : tie.Need-returns Inv-loop μ-loop
 returns c =
     let m = c .before .before .before .before .before .before .before .before .before .before .before .before .before .before .before .before .before .args .mem .now in let l = c .before .loop in let w = c .before .before .before .before .write-line in let s = sizes (c .before .before .before .before .before .before .before .before .before .before .before .before .before .before .before .before .before .pre .0) in
     let e : l .k ≡ nth m 0 = omega arith in (
-      l .inv .1 ∙ ap (λ (i : ℕ). length (textIn m i)) e ∙ ap length (text-whole m),
-      head-covered m s (c .before .before .before .before .before .before .before .before .before .before .before .before .before .before .before .before .before .args .out .now) (w .last .0) (w .ensures .1) (l .out) (l .inv .3 ∙ ap (λ (i : ℕ). over (w .last .0) 0 (textIn m i)) e) ∙ ap (over (c .before .before .before .before .before .before .before .before .before .before .before .before .before .before .before .before .before .args .out .now) 0) (text-whole m),
+      l .inv .1 ∙ ap (λ (i : ℕ). length (textIn (c .before .before .before .before .before .before .before .before .before .before .before .before .before .before .before .before .before .args .rooms) m i)) e ∙ ap length (text-whole m _),
+      head-covered m s (c .before .before .before .before .before .before .before .before .before .before .before .before .before .before .before .before .before .args .out .now) (w .last .0) (w .ensures .1) (l .out) (l .inv .3 ∙ ap (λ (i : ℕ). over (w .last .0) 0 (textIn (c .before .before .before .before .before .before .before .before .before .before .before .before .before .before .before .before .before .args .rooms) m i)) e) ∙ ap (over (c .before .before .before .before .before .before .before .before .before .before .before .before .before .before .before .before .before .args .out .now) 0) (text-whole m _),
     )
 
 pub write-plan-spec : {M : Type 1} → statement M
@@ -147,15 +162,20 @@ write-plan-spec =
     (tie.spec
     Inv-loop
     μ-loop
+    mul-best-at
+    mul-worst-at
+    mul-rows
     shared-slice-read-v
     shared-slice-read-w
     mul-w
     add-w
-    shared-slice-read-t13
-    shared-slice-read-t19
-    shared-slice-read-t21
+    shared-slice-read-t17
     shared-slice-read-t23
     shared-slice-read-t25
+    mul-t20
+    shared-slice-read-t27
+    mul-t19
+    shared-slice-read-t29
     slice-aggregate-write-line
     slice-aggregate-write-line-2
     write-line-requires

@@ -1,6 +1,6 @@
 -- The tasks passed are cleared, and nothing else changed.
 use mathlib.Core.Path.{_≡_, refl}
-use Prim.Native.Nat.{_≤_, _<_, _-_}
+use Prim.Native.Nat.{_≤_, _<_, _-_, _*_}
 use native.Mathlib.Omega.{arith}
 use borrow.Author.Needs.{needs}
 use lib.ListN.{length, length-set}
@@ -14,10 +14,22 @@ use Rattle.mirguneth.proofs.planner.clear_tasks.Statement.{statement}
 use Rattle.mirguneth.proofs.planner.clear_tasks.Tie as tie
 
 abbrev Inv-loop : tie.InvT-loop
-Inv-loop mem₀ v t₀ mem t = (t ≤ v) × (v ≤ 255) × (length mem ≡ memorySize) × KeptOutside lineAt (rowAt 0) mem₀ mem × Cleared t mem
+Inv-loop mem₀ rooms level line blocked priorities v t₀ mem t = (t ≤ v) × ((v ≤ 255) × (v ≤ 8 * rooms)) × (length mem ≡ memorySize rooms) × KeptOutside (lineAt rooms) (rowAt rooms 0) mem₀ mem × Cleared rooms t mem
 
 abbrev μ-loop : tie.MeasureT-loop
-μ-loop mem₀ v t₀ mem t = v - t
+μ-loop mem₀ rooms level line blocked priorities v t₀ mem t = v - t
+
+mul-level : tie.Need-mul-level Inv-loop μ-loop
+mul-level c = search needs
+
+mul-line : tie.Need-mul-line Inv-loop μ-loop
+mul-line c = search needs
+
+mul-blocked : tie.Need-mul-blocked Inv-loop μ-loop
+mul-blocked c = search needs
+
+mul-priorities : tie.Need-mul-priorities Inv-loop μ-loop
+mul-priorities c = search needs
 
 slice-read-v : tie.Need-slice-read-v Inv-loop μ-loop
 slice-read-v c = omega (arith, sizes (c .before .pre))
@@ -69,8 +81,8 @@ loop-less c = search needs
 
 loop-again : tie.Need-loop-again Inv-loop μ-loop
 loop-again c =
-    let l = c .before .before .loop in let h : l .t < 255 = omega arith in
-    (search needs, l .inv .1, simp length-set (l .inv .2), cleared-kept (l .mem) (l .t) _ h (l .inv .2) refl _ (l .inv .3), cleared-more (l .mem) (l .t) _ h (l .inv .2) refl (l .inv .4))
+    let l = c .before .before .loop in let h : l .t < 8 * c .before .before .before .before .args .rooms = omega arith in
+    (search needs, l .inv .1, simp length-set (l .inv .2), cleared-kept _ (l .mem) (l .t) _ h (l .inv .2) refl _ (l .inv .3), cleared-more _ (l .mem) (l .t) _ h (l .inv .2) refl (l .inv .4))
 
 same-length : tie.Need-same-length Inv-loop μ-loop
 same-length c = search needs
@@ -86,6 +98,10 @@ clear-tasks-spec =
     (tie.spec
     Inv-loop
     μ-loop
+    mul-level
+    mul-line
+    mul-blocked
+    mul-priorities
     slice-read-v
     loop-holds
     add-x

@@ -3,15 +3,18 @@ use Prim.Native.Nat.{_-_}
 use native.Mathlib.Omega.{arith}
 use borrow.Author.Needs.{needs}
 use Rattle.mirguneth.proofs.Held.{Sizes, sizes}
-use Rattle.mirguneth.proofs.OutsetLaws.{Counted, counted-none, counted-little, counted-more, counted-all}
+use Rattle.mirguneth.proofs.OutsetLaws.{Counted, counted-none, counted-below, counted-little, counted-more, counted-all}
 use Rattle.mirguneth.proofs.planner.count_blocked.Statement.{statement}
 use Rattle.mirguneth.proofs.planner.count_blocked.Tie as tie
 
 abbrev Inv-loop : tie.InvT-loop
-Inv-loop mem₀ v m e g i₀ mem i = Sizes mem₀ × Counted i mem₀ mem
+Inv-loop mem₀ rooms blocked v m e g i₀ mem i = Sizes rooms mem₀ × Counted rooms i mem₀ mem
 
 abbrev μ-loop : tie.MeasureT-loop
-μ-loop mem₀ v m e g i₀ mem i = e - i
+μ-loop mem₀ rooms blocked v m e g i₀ mem i = e - i
+
+mul-blocked : tie.Need-mul-blocked Inv-loop μ-loop
+mul-blocked c = search needs
 
 slice-read-v : tie.Need-slice-read-v Inv-loop μ-loop
 slice-read-v c = search needs
@@ -53,13 +56,13 @@ mul-mem : tie.Need-mul-mem Inv-loop μ-loop
 mul-mem c = search needs
 
 slice-read-mem : tie.Need-slice-read-mem Inv-loop μ-loop
-slice-read-mem c = search needs
+slice-read-mem c = let l = c .before .before .before .loop in omega (arith, counted-below (c .before .before .before .before .before .before .before .pre .0) (l .inv .1) (c .before .before .loop-test .taken), l .inv .0, l .inv .1 .kept .size)
 
 add-mem-2 : tie.Need-add-mem-2 Inv-loop μ-loop
 add-mem-2 c = omega (arith, counted-little (c .before .before .before .before .before .before .before .pre .0) (c .before .before .before .loop .inv .1) (c .before .before .loop-test .taken))
 
 slice-write-mem : tie.Need-slice-write-mem Inv-loop μ-loop
-slice-write-mem c = search needs
+slice-write-mem c = let l = c .before .before .before .loop in omega (arith, counted-below (c .before .before .before .before .before .before .before .pre .0) (l .inv .1) (c .before .before .loop-test .taken), l .inv .0, l .inv .1 .kept .size)
 
 add-i : tie.Need-add-i Inv-loop μ-loop
 add-i c = search needs
@@ -82,6 +85,7 @@ count-blocked-spec =
     (tie.spec
     Inv-loop
     μ-loop
+    mul-blocked
     slice-read-v
     slice-read-m
     slice-read-e

@@ -28,11 +28,11 @@ use Rattle.mirguneth.proofs.planner.release.Reads as release-reads
 use Rattle.mirguneth.proofs.times.delay_table.Reads as delay-table-reads
 
 abbrev Inv-loop : tie.InvT-loop
-Inv-loop mem₀ v delays clocks₀ free₀ n₀ k₀ mem clocks free n k =
-    (k ≤ v) × (v ≡ nth mem 0) × KeptOutside inHeadAt memorySize mem₀ mem × Drawn k mem × Ranked [] mem × ClocksHeld clocks (jobIn mem) (earliesIn k mem) (latesIn k mem) × FreeList free n mem
+Inv-loop mem₀ rooms v delays clocks₀ free₀ n₀ k₀ mem clocks free n k =
+    (k ≤ v) × (v ≡ nth mem 0) × KeptOutside (inHeadAt rooms) (memorySize rooms) mem₀ mem × Drawn rooms k mem × Ranked rooms [] mem × ClocksHeld clocks (jobIn mem) (earliesIn rooms k mem) (latesIn rooms k mem) × FreeList rooms free n mem
 
 abbrev μ-loop : tie.MeasureT-loop
-μ-loop mem₀ v delays clocks₀ free₀ n₀ k₀ mem clocks free n k = v - k
+μ-loop mem₀ rooms v delays clocks₀ free₀ n₀ k₀ mem clocks free n k = v - k
 
 prepare-requires : tie.Need-prepare-requires Inv-loop μ-loop
 prepare-requires c κs = search needs
@@ -41,7 +41,7 @@ slice-read-v : tie.Need-slice-read-v Inv-loop μ-loop
 slice-read-v c = let w = sizes (c .before .before .before .prepare .ensures .1 .standing .job) in omega arith
 
 delay-table-requires : tie.Need-delay-table-requires Inv-loop μ-loop
-delay-table-requires c κs = c .before .before .before .before .prepare .ensures .1 .standing .job
+delay-table-requires c κs = (_, c .before .before .before .before .prepare .ensures .1 .standing .job)
 
 new-requires : tie.Need-new-requires Inv-loop μ-loop
 new-requires c κs = search needs
@@ -88,7 +88,7 @@ slice-aggregate-place-task c = search needs
 place-task-requires : tie.Need-place-task-requires Inv-loop μ-loop
 place-task-requires c κs =
     let l = c .before .before .before .before .before .before .before .before .before .loop in
-    (delays-kept (c .before .before .before .before .before .before .before .before .before .before .before .before .before .before .before .before .before .before .before .before .prepare .ensures .1 .standing .job) (same-before 0 jobSize (l .inv .2) (omega arith)) (c .before .before .before .before .before .before .before .before .before .before .before .before .before .before .before .delay-table .ensures), l .inv .3, l .inv .4, omega arith, c .before .before .before .before .before .critical .ensures .1, l .inv .5)
+    (delays-kept (c .before .before .before .before .before .before .before .before .before .before .before .before .before .before .before .before .before .before .before .before .prepare .ensures .1 .standing .job) (same-before 0 (jobSize _) (l .inv .2) (omega arith)) (c .before .before .before .before .before .before .before .before .before .before .before .before .before .before .before .delay-table .ensures), l .inv .3, l .inv .4, omega arith, c .before .before .before .before .before .critical .ensures .1, l .inv .5)
 
 slice-aggregate-release : tie.Need-slice-aggregate-release Inv-loop μ-loop
 slice-aggregate-release c = search needs
@@ -118,7 +118,7 @@ loop-again c =
     let q = c .before .before .before .release .ensures in (
       omega (arith, c .before .before .before .before .before .before .before .before .before .before .before .before .before .before .before .before .before .loop-test .taken),
       l .inv .1 ∙ sym (q .0 .before 0 (omega arith) ∙ p .0 .before 0 (omega arith)),
-      kept-then (l .inv .2) (kept-then (kept-wider inHeadAt memorySize (p .0) (omega arith) (omega arith)) (kept-wider inHeadAt memorySize (q .0) (omega arith) (omega arith))),
+      kept-then (l .inv .2) (kept-then (kept-wider (inHeadAt _) (memorySize _) (p .0) (omega arith) (omega arith)) (kept-wider (inHeadAt _) (memorySize _) (q .0) (omega arith) (omega arith))),
       drawn-choice (q .0) (p .1) (omega arith) (omega arith),
       q .1,
       clocks-choice (q .0) (p .1) (p .3),

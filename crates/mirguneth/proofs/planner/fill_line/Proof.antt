@@ -14,13 +14,16 @@ use Rattle.mirguneth.proofs.planner.fill_line.Statement.{statement}
 use Rattle.mirguneth.proofs.planner.fill_line.Tie as tie
 
 abbrev Inv-loop : tie.InvT-loop
-Inv-loop mem₀ k t early late m w a after₀ c₀ p₀ mem after c p = (p ≤ m) × (c ≡ length (keep (isChosen early m w) (below p))) × Begun k t (keep (isChosen early m w) (below p)) after mem₀ mem
+Inv-loop mem₀ rooms k t early late rows m w a after₀ c₀ p₀ mem after c p = (p ≤ m) × (c ≡ length (keep (isChosen early m w) (below p))) × Begun rooms k t (keep (isChosen early m w) (below p)) after mem₀ mem
 
 abbrev μ-loop : tie.MeasureT-loop
-μ-loop mem₀ k t early late m w a after₀ c₀ p₀ mem after c p = m - p
+μ-loop mem₀ rooms k t early late rows m w a after₀ c₀ p₀ mem after c p = m - p
 
-held : (c : tie.Start Inv-loop μ-loop) → Sizes (c .args .mem .now)
+held : (c : tie.Start Inv-loop μ-loop) → Sizes (c .args .rooms) (c .args .mem .now)
 held c = sizes (c .pre .drawn .standing .job)
+
+mul-rows : tie.Need-mul-rows Inv-loop μ-loop
+mul-rows c = search needs
 
 slice-read-m : tie.Need-slice-read-m Inv-loop μ-loop
 slice-read-m c = omega (arith, held (c .before .before))
@@ -99,8 +102,8 @@ loop-again c =
     let e = sym (c .before .is-chosen .ensures) in
     let a = c .before .before .before .before .before .before .before .before .args in
     let d = a .mem .now in
-    let ps = keep (isChosen (a .t4) (nth d 1) (nth d 3 + 1)) (below (l .p + 1)) in
-    let b : (c .if1 .c ≡ length ps) × Begun (a .k) (a .t) ps (c .if1 .after) d (c .if1 .mem) =
+    let ps = keep (isChosen (a .t5) (nth d 1) (nth d 3 + 1)) (below (l .p + 1)) in
+    let b : (c .if1 .c ≡ length ps) × Begun (c .before .before .before .before .before .before .before .before .args .rooms) (a .k) (a .t) ps (c .if1 .after) d (c .if1 .mem) =
     ⊎-elim
     (λ w. rw (w .6, w .7, w .8) (take-box (c .before .before .before .before .before .before .before .before .pre) h (l .inv .1) (l .inv .2) (e ∙ w .0 .taken) (w .5 .result) (w .2 .ensures) (w .5 .ensures .0) (w .5 .ensures .1)))
     (λ w. rw (w .1, w .2, w .3) (pass-box (c .before .before .before .before .before .before .before .before .pre) h (l .inv .1) (l .inv .2) (e ∙ w .0 .left)))
@@ -119,6 +122,7 @@ fill-line-spec =
     (tie.spec
     Inv-loop
     μ-loop
+    mul-rows
     slice-read-m
     slice-read-w
     add-w

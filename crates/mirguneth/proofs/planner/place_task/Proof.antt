@@ -1,6 +1,6 @@
 -- The line is what the definition places next.
 use mathlib.Core.Path.{_≡_}
-use Prim.Native.Nat.{_<_}
+use Prim.Native.Nat.{_<_, _*_}
 use native.Mathlib.Omega.{arith}
 use borrow.Author.Needs.{needs}
 use lib.ListN.{length, length-set}
@@ -12,11 +12,17 @@ use Rattle.mirguneth.proofs.planner.place_task.Statement.{statement}
 use Rattle.mirguneth.proofs.planner.place_task.Tie as tie
 
 -- The line and the task are within their tables.
-small : (c : tie.Start) → (c .args .k < 255) × (c .args .t < 255) × (length (c .args .mem .now) ≡ 15872)
+small : (c : tie.Start) → (c .args .k < 8 * c .args .rooms) × (c .args .t < 8 * c .args .rooms) × (length (c .args .mem .now) ≡ 513 * c .args .rooms)
 small c =
     let p = c .pre in
     let w = sizes (p .1 .standing .job) in
     (omega arith, omega (arith, task-below (p .1) (p .3) (p .2) (c .args .t) (p .4)), w .size)
+
+mul-rows : tie.Need-mul-rows
+mul-rows c = search needs
+
+mul-line : tie.Need-mul-line
+mul-line c = search needs
 
 finishes-requires : tie.Need-finishes-requires
 finishes-requires c κs =
@@ -69,6 +75,8 @@ pub place-task-spec : {M : Type 1} → statement M
 place-task-spec =
     tie.close
     (tie.spec
+    mul-rows
+    mul-line
     finishes-requires
     fill-line-requires
     mul-mem

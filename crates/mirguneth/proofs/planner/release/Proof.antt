@@ -9,24 +9,24 @@ use Rattle.definitions.specs.Lists.{nth}
 use Rattle.mirguneth.specs.Layout.{outNextAt}
 use Rattle.mirguneth.specs.Planning.{FreeList, Drawn}
 use Rattle.mirguneth.proofs.Held.{Sizes, sizes}
-use Rattle.mirguneth.proofs.ReleaseLaws.{Releasing, release-first, release-done, release-falls, release-some, release-held, release-asks, release-level, release-free, list-held, list-free}
+use Rattle.mirguneth.proofs.ReleaseLaws.{Releasing, release-first, release-done, release-within, release-falls, release-some, release-held, release-asks, release-level, release-free, list-held, list-free}
 use Rattle.mirguneth.proofs.planner.release.Statement.{statement}
 use Rattle.mirguneth.proofs.planner.release.Tie as tie
 
 abbrev Inv-loop : tie.InvT-loop
-Inv-loop mem₀ t free₀ count v m g n₀ k₀ mem free n k = Sizes mem₀ × ((i : ℕ) × Drawn i mem₀ × Releasing i k mem₀ mem) × FreeList free n mem
+Inv-loop mem₀ rooms t free₀ count out-head blocked priorities level out-next v m g n₀ k₀ mem free n k = Sizes rooms mem₀ × ((i : ℕ) × Drawn rooms i mem₀ × Releasing rooms i k mem₀ mem) × FreeList rooms free n mem
 
 abbrev μ-loop : tie.MeasureT-loop
-μ-loop mem₀ t free₀ count v m g n₀ k₀ mem free n k = k
+μ-loop mem₀ rooms t free₀ count out-head blocked priorities level out-next v m g n₀ k₀ mem free n k = k
 
-held : (c : tie.Start Inv-loop μ-loop) → Sizes (c .args .mem .now)
+held : (c : tie.Start Inv-loop μ-loop) → Sizes (c .args .rooms) (c .args .mem .now)
 held c = sizes (c .pre .0 .1 .standing .job)
 
 -- After a turn the edges from the next link on are still counted.
 turned : (c : tie.Joined1 Inv-loop μ-loop)
     → let l = c .before .before .before .before .loop in
     let d = c .before .before .before .before .before .before .before .before .before .before .args .mem .now in
-    Releasing (l .inv .1 .0) (nth d (outNextAt + (l .k - 1))) d (c .if1 .mem)
+    Releasing (c .before .before .before .before .before .before .before .before .before .before .args .rooms) (l .inv .1 .0) (nth d (outNextAt (c .before .before .before .before .before .before .before .before .before .before .args .rooms) + (l .k - 1))) d (c .if1 .mem)
 turned c =
     let l = c .before .before .before .before .loop in
     let (i, s, r) = l .inv .1 in
@@ -37,7 +37,7 @@ turned c =
     (c .if1 .came)
 
 -- The free tasks are listed again.
-listed : (c : tie.Joined1 Inv-loop μ-loop) → FreeList (c .if1 .free) (c .if1 .n) (c .if1 .mem)
+listed : (c : tie.Joined1 Inv-loop μ-loop) → FreeList (c .before .before .before .before .before .before .before .before .before .before .args .rooms) (c .if1 .free) (c .if1 .n) (c .if1 .mem)
 listed c =
     let l = c .before .before .before .before .loop in
     let (i, s, r) = l .inv .1 in
@@ -51,10 +51,25 @@ listed c =
 linked : (c : tie.Joined1 Inv-loop μ-loop)
     → let l = c .before .before .before .before .loop in
     let d = c .before .before .before .before .before .before .before .before .before .before .args .mem .now in
-    nth (c .if1 .mem) (outNextAt + (l .k - 1)) ≡ nth d (outNextAt + (l .k - 1))
+    nth (c .if1 .mem) (outNextAt (c .before .before .before .before .before .before .before .before .before .before .args .rooms) + (l .k - 1)) ≡ nth d (outNextAt (c .before .before .before .before .before .before .before .before .before .before .args .rooms) + (l .k - 1))
 linked c =
     let l = c .before .before .before .before .loop in
-    turned c .kept .before (outNextAt + (l .k - 1)) (omega (arith, l .inv .0 .edges-most, l .inv .1 .2 .most))
+    turned c .kept .before (outNextAt (c .before .before .before .before .before .before .before .before .before .before .args .rooms) + (l .k - 1)) (omega (arith, l .inv .0 .edges-most, l .inv .1 .2 .most))
+
+mul-out-head : tie.Need-mul-out-head Inv-loop μ-loop
+mul-out-head c = search needs
+
+mul-blocked : tie.Need-mul-blocked Inv-loop μ-loop
+mul-blocked c = search needs
+
+mul-priorities : tie.Need-mul-priorities Inv-loop μ-loop
+mul-priorities c = search needs
+
+mul-level : tie.Need-mul-level Inv-loop μ-loop
+mul-level c = search needs
+
+mul-out-next : tie.Need-mul-out-next Inv-loop μ-loop
+mul-out-next c = search needs
 
 slice-read-v : tie.Need-slice-read-v Inv-loop μ-loop
 slice-read-v c = search needs
@@ -105,7 +120,7 @@ mul-b : tie.Need-mul-b Inv-loop μ-loop
 mul-b c = search needs
 
 slice-read-b : tie.Need-slice-read-b Inv-loop μ-loop
-slice-read-b c = search needs
+slice-read-b c = let (i, s, r) = c .before .before .before .loop .inv .1 in omega (arith, release-within s r (c .before .before .loop-test .taken), r .kept .size, c .before .before .before .loop .inv .0 .size)
 
 sub-b : tie.Need-sub-b Inv-loop μ-loop
 sub-b c = let (i, s, r) = c .before .before .before .loop .inv .1 in omega (arith, release-some s r (c .before .before .loop-test .taken))
@@ -117,7 +132,7 @@ mul-mem : tie.Need-mul-mem Inv-loop μ-loop
 mul-mem c = search needs
 
 slice-write-mem : tie.Need-slice-write-mem Inv-loop μ-loop
-slice-write-mem c = search needs
+slice-write-mem c = let (i, s, r) = c .before .before .before .loop .inv .1 in omega (arith, release-within s r (c .before .before .loop-test .taken), r .kept .size, c .before .before .before .loop .inv .0 .size)
 
 top-level-requires : tie.Need-top-level-requires Inv-loop μ-loop
 top-level-requires c κs = let (i, s, r) = c .before .before .before .before .before .loop .inv .1 in release-asks s r (c .before .before .before .before .loop-test .taken) (c .before .if1 .taken)
@@ -141,7 +156,7 @@ mul-mem-3 : tie.Need-mul-mem-3 Inv-loop μ-loop
 mul-mem-3 c = search needs
 
 slice-write-mem-2 : tie.Need-slice-write-mem-2 Inv-loop μ-loop
-slice-write-mem-2 c = simp length-set (omega arith)
+slice-write-mem-2 c = let (i, s, r) = c .before .before .before .before .before .before .before .loop .inv .1 in simp length-set (omega (arith, release-within s r (c .before .before .before .before .before .before .loop-test .taken), r .kept .size, c .before .before .before .before .before .before .before .loop .inv .0 .size))
 
 cast-put-in : tie.Need-cast-put-in Inv-loop μ-loop
 cast-put-in c = search needs
@@ -185,6 +200,11 @@ release-spec =
     (tie.spec
     Inv-loop
     μ-loop
+    mul-out-head
+    mul-blocked
+    mul-priorities
+    mul-level
+    mul-out-next
     slice-read-v
     slice-read-m
     add-g

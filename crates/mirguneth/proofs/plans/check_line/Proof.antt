@@ -12,14 +12,17 @@ use Rattle.mirguneth.proofs.plans.descends.Reads as descends-reads
 use Rattle.mirguneth.proofs.plans.fed.Reads as fed-reads
 use Rattle.mirguneth.proofs.plans.strays.Reads as strays-reads
 
+mul-line : tie.Need-mul-line
+mul-line c = search needs
+
 strays-requires : tie.Need-strays-requires
-strays-requires c κs = search needs
+strays-requires c κs = ((_, c .before .pre .0), c .before .pre .2)
 
 returns : tie.Need-returns
 returns c = (λ k s. line-strays (c .before .before .before .args .mem .now) (c .before .before .before .args .a) k s (sym (c .if1 .taken) ∙ c .before .strays .ensures), λ z. absurd (omega arith))
 
 descends-requires : tie.Need-descends-requires
-descends-requires c κs = search needs
+descends-requires c κs = ((_, c .before .before .before .pre .0), c .before .before .before .pre .2)
 
 returns-2 : tie.Need-returns-2
 returns-2 c = (λ k s. line-descends (c .before .before .before .before .before .args .mem .now) (c .before .before .before .before .before .args .a) k s (sym (c .before .before .if1 .left) ∙ c .before .before .before .strays .ensures) (sym (c .if2 .taken) ∙ c .before .descends .ensures), λ z. absurd (omega arith))
@@ -66,6 +69,7 @@ pub check-line-spec : {M : Type 1} → statement M
 check-line-spec =
     tie.close
     (tie.spec
+    mul-line
     strays-requires
     returns
     descends-requires

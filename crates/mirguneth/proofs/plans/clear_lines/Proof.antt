@@ -1,5 +1,5 @@
 use mathlib.Core.Path.{_≡_, refl}
-use Prim.Native.Nat.{ℕ, _≤_, _<_, _-_, _+_}
+use Prim.Native.Nat.{ℕ, _≤_, _<_, _-_, _+_, _*_}
 use native.Mathlib.Omega.{arith}
 use borrow.Author.Needs.{needs}
 use lib.ListN.{length}
@@ -14,10 +14,16 @@ use Rattle.mirguneth.proofs.plans.clear_lines.Reads as reads
 use Rattle.mirguneth.proofs.plans.clear_lines.Lts as lts
 
 abbrev Inv-loop : tie.InvT-loop
-Inv-loop mem₀ t₀ mem t = (t ≤ 256) × (length mem ≡ length mem₀) × KeptOutside lineAt blockedAt mem₀ mem × ((u : ℕ) → u < t → nth mem (lineAt + u) ≡ 0)
+Inv-loop mem₀ rooms line n t₀ mem t = (t ≤ 8 * rooms) × (length mem ≡ length mem₀) × KeptOutside (lineAt rooms) (blockedAt rooms) mem₀ mem × ((u : ℕ) → u < t → nth mem (lineAt rooms + u) ≡ 0)
 
 abbrev μ-loop : tie.MeasureT-loop
-μ-loop mem₀ t₀ mem t = 256 - t
+μ-loop mem₀ rooms line n t₀ mem t = 8 * rooms - t
+
+mul-line : tie.Need-mul-line Inv-loop μ-loop
+mul-line c = search needs
+
+mul-n : tie.Need-mul-n Inv-loop μ-loop
+mul-n c = search needs
 
 loop-holds : tie.Need-loop-holds Inv-loop μ-loop
 loop-holds c = (search needs, refl, kept-all, λ u h. absurd (omega arith))
@@ -40,7 +46,7 @@ loop-less c = search needs
 loop-again : tie.Need-loop-again Inv-loop μ-loop
 loop-again c =
     let l = c .before .loop in
-    (search needs, search needs, kept-set (lineAt + l .t) 0 (l .inv .2) (omega arith) (omega arith), cleared-more (l .mem) (l .t) (omega arith) (l .inv .3))
+    (search needs, search needs, kept-set (lineAt _ + l .t) 0 (l .inv .2) (omega arith) (omega arith), cleared-more _ (l .mem) (l .t) (omega arith) (l .inv .3))
 
 same-length : tie.Need-same-length Inv-loop μ-loop
 same-length c = search needs
@@ -54,6 +60,8 @@ clear-lines-spec =
     (tie.spec
     Inv-loop
     μ-loop
+    mul-line
+    mul-n
     loop-holds
     add-mem
     mul-mem

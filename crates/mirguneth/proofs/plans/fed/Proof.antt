@@ -4,7 +4,7 @@ use native.Mathlib.Omega.{arith}
 use borrow.Author.Needs.{needs}
 use lib.ListN.{getD}
 use Rattle.mirguneth.specs.Layout.{inHeadAt}
-use Rattle.mirguneth.proofs.Held.{Sizes, sizes}
+use Rattle.mirguneth.proofs.Held.{Sizes, sizes, from-below}
 use Rattle.mirguneth.proofs.PlanLaws.{linedFrom, lined-all, lined-end, lined-no, lined-next, link-falls}
 use Rattle.mirguneth.proofs.plans.fed.Statement.{statement}
 use Rattle.mirguneth.proofs.plans.fed.Tie as tie
@@ -12,10 +12,19 @@ use Rattle.mirguneth.proofs.plans.fed.Reads as reads
 use Rattle.mirguneth.proofs.plans.fed.Lts as lts
 
 abbrev Inv-loop : tie.InvT-loop
-Inv-loop mem t v m g k₀ k = Sizes mem × (k ≤ getD mem 2 0) × (linedFrom mem t k ≡ linedFrom mem t (getD mem (inHeadAt + t) 0))
+Inv-loop mem rooms t in-head line in-next v m g k₀ k = Sizes rooms mem × (k ≤ getD mem 2 0) × (linedFrom rooms mem t k ≡ linedFrom rooms mem t (getD mem (inHeadAt rooms + t) 0))
 
 abbrev μ-loop : tie.MeasureT-loop
-μ-loop mem t v m g k₀ k = k
+μ-loop mem rooms t in-head line in-next v m g k₀ k = k
+
+mul-in-head : tie.Need-mul-in-head Inv-loop μ-loop
+mul-in-head c = search needs
+
+mul-line : tie.Need-mul-line Inv-loop μ-loop
+mul-line c = search needs
+
+mul-in-next : tie.Need-mul-in-next Inv-loop μ-loop
+mul-in-next c = search needs
 
 shared-slice-read-v : tie.Need-shared-slice-read-v Inv-loop μ-loop
 shared-slice-read-v c = search needs
@@ -66,12 +75,12 @@ mul-if1 : tie.Need-mul-if1 Inv-loop μ-loop
 mul-if1 c = search needs
 
 shared-slice-read-if1 : tie.Need-shared-slice-read-if1 Inv-loop μ-loop
-shared-slice-read-if1 c = search needs
+shared-slice-read-if1 c = let l = c .before .before .before .loop in omega (arith, from-below (c .before .before .before .before .before .before .before .pre .0) (l .k - 1) (omega (arith, l .inv .1)), l .inv .0)
 
 returns : tie.Need-returns Inv-loop μ-loop
 returns c =
     let mem = c .before .before .before .before .before .before .before .before .args .mem .now in let t = c .before .before .before .before .before .before .before .before .args .t in
-    lined-no mem t (c .before .before .before .before .before .before .before .before .pre .1) (c .before .before .before .before .loop .k) (omega arith) (c .before .before .before .before .loop .inv .1) (c .if1 .taken) ∙ c .before .before .before .before .loop .inv .2 ∙ lined-all mem t (c .before .before .before .before .before .before .before .before .pre .1) (c .before .before .before .before .before .before .before .before .pre .2)
+    lined-no (c .before .before .before .before .before .before .before .before .args .rooms) mem t (c .before .before .before .before .before .before .before .before .pre .1) (c .before .before .before .before .loop .k) (omega arith) (c .before .before .before .before .loop .inv .1) (c .if1 .taken) ∙ c .before .before .before .before .loop .inv .2 ∙ lined-all (c .before .before .before .before .before .before .before .before .args .rooms) mem t (c .before .before .before .before .before .before .before .before .pre .1) (c .before .before .before .before .before .before .before .before .pre .2)
 
 sub-k : tie.Need-sub-k Inv-loop μ-loop
 sub-k c = search needs
@@ -86,19 +95,19 @@ shared-slice-read-k-2 : tie.Need-shared-slice-read-k-2 Inv-loop μ-loop
 shared-slice-read-k-2 c = search needs
 
 loop-less : tie.Need-loop-less Inv-loop μ-loop
-loop-less c = link-falls (c .before .before .before .before .before .before .before .before .before .args .mem .now) (c .before .before .before .before .before .before .before .before .before .args .t) (c .before .before .before .before .before .before .before .before .before .pre .1) (c .before .before .before .before .before .loop .k) (omega arith) (c .before .before .before .before .before .loop .inv .1)
+loop-less c = link-falls (c .before .before .before .before .before .before .before .before .before .args .rooms) (c .before .before .before .before .before .before .before .before .before .args .mem .now) (c .before .before .before .before .before .before .before .before .before .args .t) (c .before .before .before .before .before .before .before .before .before .pre .1) (c .before .before .before .before .before .loop .k) (omega arith) (c .before .before .before .before .before .loop .inv .1)
 
 loop-again : tie.Need-loop-again Inv-loop μ-loop
 loop-again c =
     let mem = c .before .before .before .before .before .before .before .before .before .args .mem .now in let t = c .before .before .before .before .before .before .before .before .before .args .t in
-    let f = link-falls mem t (c .before .before .before .before .before .before .before .before .before .pre .1) (c .before .before .before .before .before .loop .k) (omega arith) (c .before .before .before .before .before .loop .inv .1) in
-    (c .before .before .before .before .before .loop .inv .0, omega (arith, f, c .before .before .before .before .before .loop .inv .1), lined-next mem t (c .before .before .before .before .before .before .before .before .before .pre .1) (c .before .before .before .before .before .loop .k) (omega arith) (c .before .before .before .before .before .loop .inv .1) (c .before .if1 .left) ∙ c .before .before .before .before .before .loop .inv .2)
+    let f = link-falls (c .before .before .before .before .before .before .before .before .before .args .rooms) mem t (c .before .before .before .before .before .before .before .before .before .pre .1) (c .before .before .before .before .before .loop .k) (omega arith) (c .before .before .before .before .before .loop .inv .1) in
+    (c .before .before .before .before .before .loop .inv .0, omega (arith, f, c .before .before .before .before .before .loop .inv .1), lined-next (c .before .before .before .before .before .before .before .before .before .args .rooms) mem t (c .before .before .before .before .before .before .before .before .before .pre .1) (c .before .before .before .before .before .loop .k) (omega arith) (c .before .before .before .before .before .loop .inv .1) (c .before .if1 .left) ∙ c .before .before .before .before .before .loop .inv .2)
 
 returns-2 : tie.Need-returns-2 Inv-loop μ-loop
 returns-2 c =
     let mem = c .before .before .before .before .before .args .mem .now in let t = c .before .before .before .before .before .args .t in
     let z : c .before .loop .k ≡ 0 = omega arith in
-    lined-end mem t ∙ rw z at (c .before .loop .inv .2) ∙ lined-all mem t (c .before .before .before .before .before .pre .1) (c .before .before .before .before .before .pre .2)
+    lined-end (c .before .before .before .before .before .args .rooms) mem t ∙ rw z at (c .before .loop .inv .2) ∙ lined-all (c .before .before .before .before .before .args .rooms) mem t (c .before .before .before .before .before .pre .1) (c .before .before .before .before .before .pre .2)
 
 pub fed-spec : {M : Type 1} → statement M
 fed-spec =
@@ -106,6 +115,9 @@ fed-spec =
     (tie.spec
     Inv-loop
     μ-loop
+    mul-in-head
+    mul-line
+    mul-in-next
     shared-slice-read-v
     shared-slice-read-m
     add-g

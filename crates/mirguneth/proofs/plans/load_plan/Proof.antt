@@ -18,8 +18,14 @@ use Rattle.mirguneth.proofs.plans.check_head.Reads as check-head-reads
 use Rattle.mirguneth.proofs.plans.clear_lines.Reads as clear-lines-reads
 use Rattle.mirguneth.proofs.plans.read_plan_lines.Reads as read-plan-lines-reads
 
+mul-best-at : tie.Need-mul-best-at
+mul-best-at c = search needs
+
+mul-worst-at : tie.Need-mul-worst-at
+mul-worst-at c = search needs
+
 returns : tie.Need-returns
-returns c = (kept-all, plan-long (c .before .before .before .args .mem .now) (c .before .before .before .args .s .now) (c .before .before .before .args .mem .now) (c .if1 .taken))
+returns c = (kept-all, plan-long (c .before .before .before .args .mem .now) (c .before .before .before .args .s .now) _ (c .before .before .before .args .mem .now) (c .if1 .taken))
 
 slice-aggregate-read-line : tie.Need-slice-aggregate-read-line
 slice-aggregate-read-line c = search needs
@@ -50,7 +56,7 @@ returns-2 c =
     let d = c .before .before .before .before .before .before .before .before .before .before .before .before .before .before .args .mem .now in let s = c .before .before .before .before .before .before .before .before .before .before .before .before .before .before .args .s .now in
     let ys = c .before .before .before .before .before .before .before .before .read-line .last .1 .1 .1 .1 .0 in
     let e = sym (c .before .before .before .before .before .before .before .before .read-line .ensures) ∙ ap (told s (take 5 ys)) (c .before .before .before .before .before .p .given .1) in
-    (kept-all, plan-head-no d s (c .before .before .before .before .before .before .before .before .before .before .before .if1 .left) ys (c .before .before .before .before .before .p .given .0 .0) e d _ (c .before .check-head .ensures) (c .if2 .taken))
+    (kept-all, plan-head-no d s (c .before .before .before .before .before .before .before .before .before .before .before .if1 .left) ys (c .before .before .before .before .before .p .given .0 .0) e _ d _ (c .before .check-head .ensures) (c .if2 .taken))
 
 clear-lines-requires : tie.Need-clear-lines-requires
 clear-lines-requires c κs = search needs
@@ -75,20 +81,26 @@ returns-3 c =
     let z : c .before .before .before .before .before .before .before .before .before .before .before .before .before .check-head .result ≡ 0 = omega arith in
     let f = sym z ∙ c .before .before .before .before .before .before .before .before .before .before .before .before .before .check-head .ensures in
     let mem = c .before .before .before .before .before .before .read-plan-lines .last .1 .1 .0 in
-    let ns = linesIn (nth mem 3 + 1) (nth mem 0) mem in
+    let ns = linesIn (c .before .before .before .before .before .before .before .before .before .before .before .before .before .before .before .before .before .before .before .before .before .before .before .before .before .before .args .rooms) (nth mem 3 + 1) (nth mem 0) mem in
     let g = sym (ap (told s ns) (c .before .before .q .given .1)) ∙ c .before .before .before .before .before .before .read-plan-lines .ensures .1 ∙ cleared-lines (c .before .before .before .before .before .before .before .before .before .before .before .before .before .before .before .before .before .before .before .before .before .before .before .before .before .before .pre .0) (c .before .before .before .before .before .before .before .before .before .before .before .before .before .before .before .before .before .before .before .before .before .before .before .before .before .before .pre .1) (c .before .before .before .before .before .before .before .before .before .before .clear-lines .ensures .0) s (c .before .before .before .before .before .before .before .before .before .before .before .before .before .before .before .before .before .p .given .0 .0) in (
-      kept-then (kept-wider lineAt farAt (c .before .before .before .before .before .before .before .before .before .before .clear-lines .ensures .0) (omega arith) (omega arith)) (c .before .before .before .before .before .before .read-plan-lines .ensures .0),
-      plan-left-over d s (c .before .before .before .before .before .before .before .before .before .before .before .before .before .before .before .before .before .before .before .before .before .before .before .if1 .left) ys (c .before .before .before .before .before .before .before .before .before .before .before .before .before .before .before .before .before .p .given .0 .0) e f ns (c .before .before .q .given .0 .0) g mem (c .if3 .taken),
+      kept-then (kept-wider (lineAt (c .before .before .before .before .before .before .before .before .before .before .before .before .before .before .before .before .before .before .before .before .before .before .before .before .before .before .args .rooms)) (farAt (c .before .before .before .before .before .before .before .before .before .before .before .before .before .before .before .before .before .before .before .before .before .before .before .before .before .before .args .rooms)) (c .before .before .before .before .before .before .before .before .before .before .clear-lines .ensures .0) (omega arith) (omega arith)) (c .before .before .before .before .before .before .read-plan-lines .ensures .0),
+      plan-left-over d s (c .before .before .before .before .before .before .before .before .before .before .before .before .before .before .before .before .before .before .before .before .before .before .before .if1 .left) ys (c .before .before .before .before .before .before .before .before .before .before .before .before .before .before .before .before .before .p .given .0 .0) e f ns (c .before .before .q .given .0 .0) g _ mem (c .if3 .taken),
     )
 
 array-read-mem : tie.Need-array-read-mem
 array-read-mem c = search needs
+
+mul-mem : tie.Need-mul-mem
+mul-mem c = search needs
 
 slice-write-mem : tie.Need-slice-write-mem
 slice-write-mem c = search needs
 
 array-read-mem-2 : tie.Need-array-read-mem-2
 array-read-mem-2 c = search needs
+
+mul-mem-2 : tie.Need-mul-mem-2
+mul-mem-2 c = search needs
 
 slice-write-mem-2 : tie.Need-slice-write-mem-2
 slice-write-mem-2 c = simp length-set (omega arith)
@@ -97,7 +109,7 @@ returns-4 : tie.Need-returns-4
 returns-4 c =
     let d = c .before .before .before .before .before .before .before .before .before .before .args .mem .now in let s = c .before .before .before .before .before .before .before .before .before .before .args .s .now in
     let ys = c .before .before .before .before .read-line .last .1 .1 .1 .1 .0 in
-    (kept-all, plan-head-bad d s (c .before .before .before .before .before .before .before .if1 .left) d _ (sym (c .before .before .before .before .read-line .ensures) ∙ ap (told s (take 5 ys)) (c .before .x .given .1)))
+    (kept-all, plan-head-bad d s (c .before .before .before .before .before .before .before .if1 .left) _ d _ (sym (c .before .before .before .before .read-line .ensures) ∙ ap (told s (take 5 ys)) (c .before .x .given .1)))
 
 same-length-3 : tie.Need-same-length-3
 same-length-3 c = search needs
@@ -110,10 +122,10 @@ returns-5 c =
     let z : c .before .before .before .before .before .before .before .before .before .before .before .before .check-head .result ≡ 0 = omega arith in
     let f = sym z ∙ c .before .before .before .before .before .before .before .before .before .before .before .before .check-head .ensures in
     let mem = c .before .before .before .before .before .read-plan-lines .last .1 .1 .0 in
-    let ns = linesIn (nth mem 3 + 1) (nth mem 0) mem in
+    let ns = linesIn (c .before .before .before .before .before .before .before .before .before .before .before .before .before .before .before .before .before .before .before .before .before .before .before .before .before .args .rooms) (nth mem 3 + 1) (nth mem 0) mem in
     let g = sym (ap (told s ns) (c .before .y .given .1)) ∙ c .before .before .before .before .before .read-plan-lines .ensures .1 ∙ cleared-lines (c .before .before .before .before .before .before .before .before .before .before .before .before .before .before .before .before .before .before .before .before .before .before .before .before .before .pre .0) (c .before .before .before .before .before .before .before .before .before .before .before .before .before .before .before .before .before .before .before .before .before .before .before .before .before .pre .1) (c .before .before .before .before .before .before .before .before .before .clear-lines .ensures .0) s (c .before .before .before .before .before .before .before .before .before .before .before .before .before .before .before .before .p .given .0 .0) in (
-      kept-then (kept-wider lineAt farAt (c .before .before .before .before .before .before .before .before .before .clear-lines .ensures .0) (omega arith) (omega arith)) (c .before .before .before .before .before .read-plan-lines .ensures .0),
-      plan-lines-bad d s (c .before .before .before .before .before .before .before .before .before .before .before .before .before .before .before .before .before .before .before .before .before .before .if1 .left) ys (c .before .before .before .before .before .before .before .before .before .before .before .before .before .before .before .before .p .given .0 .0) e f mem _ g,
+      kept-then (kept-wider (lineAt (c .before .before .before .before .before .before .before .before .before .before .before .before .before .before .before .before .before .before .before .before .before .before .before .before .before .args .rooms)) (farAt (c .before .before .before .before .before .before .before .before .before .before .before .before .before .before .before .before .before .before .before .before .before .before .before .before .before .args .rooms)) (c .before .before .before .before .before .before .before .before .before .clear-lines .ensures .0) (omega arith) (omega arith)) (c .before .before .before .before .before .read-plan-lines .ensures .0),
+      plan-lines-bad d s (c .before .before .before .before .before .before .before .before .before .before .before .before .before .before .before .before .before .before .before .before .before .before .if1 .left) ys (c .before .before .before .before .before .before .before .before .before .before .before .before .before .before .before .before .p .given .0 .0) e f _ mem _ g,
     )
 
 same-length-4 : tie.Need-same-length-4
@@ -127,10 +139,10 @@ returns-6 c =
     let z : c .before .before .before .before .before .before .before .before .before .before .before .before .before .check-head .result ≡ 0 = omega arith in
     let f = sym z ∙ c .before .before .before .before .before .before .before .before .before .before .before .before .before .check-head .ensures in
     let mem = c .before .before .before .before .before .before .read-plan-lines .last .1 .1 .0 in
-    let ns = linesIn (nth mem 3 + 1) (nth mem 0) mem in
+    let ns = linesIn (c .before .before .before .before .before .before .before .before .before .before .before .before .before .before .before .before .before .before .before .before .before .before .before .before .before .before .args .rooms) (nth mem 3 + 1) (nth mem 0) mem in
     let g = sym (ap (told s ns) (c .before .before .q .given .1)) ∙ c .before .before .before .before .before .before .read-plan-lines .ensures .1 ∙ cleared-lines (c .before .before .before .before .before .before .before .before .before .before .before .before .before .before .before .before .before .before .before .before .before .before .before .before .before .before .pre .0) (c .before .before .before .before .before .before .before .before .before .before .before .before .before .before .before .before .before .before .before .before .before .before .before .before .before .before .pre .1) (c .before .before .before .before .before .before .before .before .before .before .clear-lines .ensures .0) s (c .before .before .before .before .before .before .before .before .before .before .before .before .before .before .before .before .before .p .given .0 .0) in
     let t = c .before .before .before .before .before .before .read-plan-lines .ensures .2 (c .before .before .q .given .0 .0) (c .before .before .q .given .1) in (
-      kept-then (kept-wider lineAt farAt (c .before .before .before .before .before .before .before .before .before .before .clear-lines .ensures .0) (omega arith) (omega arith)) (kept-then (c .before .before .before .before .before .before .read-plan-lines .ensures .0) (kept-wider lineAt farAt (stored-kept mem (nth ys 3) (nth ys 4) t) (omega arith) (omega arith))),
+      kept-then (kept-wider (lineAt (c .before .before .before .before .before .before .before .before .before .before .before .before .before .before .before .before .before .before .before .before .before .before .before .before .before .before .args .rooms)) (farAt (c .before .before .before .before .before .before .before .before .before .before .before .before .before .before .before .before .before .before .before .before .before .before .before .before .before .before .args .rooms)) (c .before .before .before .before .before .before .before .before .before .before .clear-lines .ensures .0) (omega arith) (omega arith)) (kept-then (c .before .before .before .before .before .before .read-plan-lines .ensures .0) (kept-wider (lineAt (c .before .before .before .before .before .before .before .before .before .before .before .before .before .before .before .before .before .before .before .before .before .before .before .before .before .before .args .rooms)) (farAt (c .before .before .before .before .before .before .before .before .before .before .before .before .before .before .before .before .before .before .before .before .before .before .before .before .before .before .args .rooms)) (stored-kept mem (nth ys 3) (nth ys 4) t) (omega arith) (omega arith))),
       plan-good d s (c .before .before .before .before .before .before .before .before .before .before .before .before .before .before .before .before .before .before .before .before .before .before .before .if1 .left) ys (c .before .before .before .before .before .before .before .before .before .before .before .before .before .before .before .before .before .p .given .0 .0) e f ns (c .before .before .q .given .0 .0) g _ (c .if3 .left) (stored-plan mem (nth ys 3) (nth ys 4) t) (stored-standing mem (nth ys 3) (nth ys 4) t),
     )
 
@@ -138,6 +150,8 @@ pub load-plan-spec : {M : Type 1} → statement M
 load-plan-spec =
     tie.close
     (tie.spec
+    mul-best-at
+    mul-worst-at
     returns
     slice-aggregate-read-line
     slice-aggregate-read-line-2
@@ -155,8 +169,10 @@ load-plan-spec =
     same-length-2
     returns-3
     array-read-mem
+    mul-mem
     slice-write-mem
     array-read-mem-2
+    mul-mem-2
     slice-write-mem-2
     returns-4
     same-length-3

@@ -15,10 +15,16 @@ use Rattle.mirguneth.proofs.reader.read_line.Reads as read-line-reads
 use Rattle.mirguneth.proofs.plans.check_line.Reads as check-line-reads
 
 abbrev Inv-loop : tie.InvT-loop
-Inv-loop s at mem₀ v n p₀ k₀ t16 mem p k = (k ≤ v) × (v ≤ 255) × (n ≤ 25) × (length mem ≡ memorySize) × LinesUpTo s at mem₀ k p mem
+Inv-loop s at mem₀ rooms rows line v n p₀ k₀ t16 mem p k = (k ≤ v) × (v ≤ 255) × (n ≤ 25) × (length mem ≡ memorySize rooms) × LinesUpTo rooms s at mem₀ k p mem
 
 abbrev μ-loop : tie.MeasureT-loop
-μ-loop s at mem₀ v n p₀ k₀ t16 mem p k = v - k
+μ-loop s at mem₀ rooms rows line v n p₀ k₀ t16 mem p k = v - k
+
+mul-rows : tie.Need-mul-rows Inv-loop μ-loop
+mul-rows c = search needs
+
+mul-line : tie.Need-mul-line Inv-loop μ-loop
+mul-line c = search needs
 
 slice-read-v : tie.Need-slice-read-v Inv-loop μ-loop
 slice-read-v c = search needs
@@ -165,6 +171,8 @@ read-plan-lines-spec =
     (tie.spec
     Inv-loop
     μ-loop
+    mul-rows
+    mul-line
     slice-read-v
     slice-read-n
     mul-n

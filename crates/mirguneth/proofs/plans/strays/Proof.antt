@@ -35,10 +35,10 @@ shared-slice-read-c : tie.Need-shared-slice-read-c Inv-loop μ-loop
 shared-slice-read-c c = search needs
 
 add-c : tie.Need-add-c Inv-loop μ-loop
-add-c c = let s = sizes (c .before .before .before .before .before .pre .0) in omega arith
+add-c c = let s = sizes (c .before .before .before .before .before .pre .0 .1) in omega arith
 
 loop-holds : tie.Need-loop-holds Inv-loop μ-loop
-loop-holds c = let s = sizes (c .before .before .before .before .before .pre .0) in (omega arith, refl)
+loop-holds c = let s = sizes (c .before .before .before .before .before .pre .0 .1) in (omega arith, refl)
 
 sub-c : tie.Need-sub-c Inv-loop μ-loop
 sub-c c = search needs

@@ -16,11 +16,14 @@ use Rattle.mirguneth.proofs.priority.fill_far.Statement.{statement}
 use Rattle.mirguneth.proofs.priority.fill_far.Tie as tie
 
 abbrev Inv-loop : tie.InvT-loop
-Inv-loop mem₀ v m p₀ mem p =
-    (p ≤ m) × (m ≤ 16) × (length mem ≡ memorySize) × KeptOutside farAt memorySize mem₀ mem × ((q : ℕ) → q < p → nth mem (farAt + q) ≡ largestDelay (jobIn mem₀) q)
+Inv-loop mem₀ rooms far v m p₀ mem p =
+    (p ≤ m) × (m ≤ 16) × (length mem ≡ memorySize rooms) × KeptOutside (farAt rooms) (memorySize rooms) mem₀ mem × ((q : ℕ) → q < p → nth mem (farAt rooms + q) ≡ largestDelay (jobIn mem₀) q)
 
 abbrev μ-loop : tie.MeasureT-loop
-μ-loop mem₀ v m p₀ mem p = m - p
+μ-loop mem₀ rooms far v m p₀ mem p = m - p
+
+mul-far : tie.Need-mul-far Inv-loop μ-loop
+mul-far c = search needs
 
 slice-read-v : tie.Need-slice-read-v Inv-loop μ-loop
 slice-read-v c = let s = sizes (c .before .before .pre) in omega arith
@@ -88,8 +91,8 @@ loop-again c =
       search needs,
       search needs,
       search needs,
-      kept-set (farAt + l .p) (x .result) (l .inv .3) (omega arith) (omega arith),
-      table-more (largestDelay (jobIn d)) (l .mem) farAt (l .p) (x .result) (l .inv .4) (omega arith) (far-kept (c .before .before .before .before .before .before .before .pre) (l .inv .3) (l .p) (x .result) h (x .ensures)),
+      kept-set (farAt (c .before .before .before .before .before .before .before .args .rooms) + l .p) (x .result) (l .inv .3) (omega arith) (omega arith),
+      table-more (largestDelay (jobIn d)) (l .mem) (farAt (c .before .before .before .before .before .before .before .args .rooms)) (l .p) (x .result) (l .inv .4) (omega arith) (far-kept (c .before .before .before .before .before .before .before .pre) (l .inv .3) (l .p) (x .result) h (x .ensures)),
     )
 
 same-length : tie.Need-same-length Inv-loop μ-loop
@@ -106,6 +109,7 @@ fill-far-spec =
     (tie.spec
     Inv-loop
     μ-loop
+    mul-far
     slice-read-v
     slice-read-m
     loop-holds

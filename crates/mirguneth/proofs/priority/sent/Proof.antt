@@ -6,6 +6,9 @@ use Rattle.mirguneth.proofs.TopLaws.{sent-on, sent-little}
 use Rattle.mirguneth.proofs.priority.sent.Statement.{statement}
 use Rattle.mirguneth.proofs.priority.sent.Tie as tie
 
+mul-far : tie.Need-mul-far
+mul-far c = search needs
+
 mul-p : tie.Need-mul-p
 mul-p c = search needs
 
@@ -58,6 +61,7 @@ pub sent-spec : {M : Type 1} → statement M
 sent-spec =
     tie.close
     (tie.spec
+    mul-far
     mul-p
     add-p
     add-p-2

@@ -13,10 +13,10 @@ use Rattle.mirguneth.proofs.priority.spread.Statement.{statement}
 use Rattle.mirguneth.proofs.priority.spread.Tie as tie
 
 abbrev Inv-loop : tie.InvT-loop
-Inv-loop mem a volume w x₀ c₀ x c = (c ≤ w) × (x ≤ 4296011520) × (tick x ≡ spreadIn volume a c mem)
+Inv-loop mem rooms a volume w x₀ c₀ x c = (c ≤ w) × (x ≤ 4296011520) × (tick x ≡ spreadIn rooms volume a c mem)
 
 abbrev μ-loop : tie.MeasureT-loop
-μ-loop mem a volume w x₀ c₀ x c = w - c
+μ-loop mem rooms a volume w x₀ c₀ x c = w - c
 
 shared-slice-read-w : tie.Need-shared-slice-read-w Inv-loop μ-loop
 shared-slice-read-w c = search needs

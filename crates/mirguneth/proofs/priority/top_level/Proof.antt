@@ -15,22 +15,34 @@ use Rattle.mirguneth.proofs.priority.top_level.Statement.{statement}
 use Rattle.mirguneth.proofs.priority.top_level.Tie as tie
 
 abbrev Inv-loop : tie.InvT-loop
-Inv-loop mem t v m g x₀ k₀ x k = Sizes mem × (x ≤ 4296011520) × Gathering (spreads mem) t mem (timeIn x) k
+Inv-loop mem rooms t in-head rows line in-next v m g x₀ k₀ x k = Sizes rooms mem × (x ≤ 4296011520) × Gathering rooms (spreads rooms mem) t mem (timeIn x) k
 
 abbrev μ-loop : tie.MeasureT-loop
-μ-loop mem t v m g x₀ k₀ x k = k
+μ-loop mem rooms t in-head rows line in-next v m g x₀ k₀ x k = k
 
-held : (c : tie.Start Inv-loop μ-loop) → Sizes (c .args .mem .now)
+held : (c : tie.Start Inv-loop μ-loop) → Sizes (c .args .rooms) (c .args .mem .now)
 held c = sizes (c .pre .0 .1 .job)
 
 abbrev start : tie.In-loop Inv-loop μ-loop → tie.Start Inv-loop μ-loop
 start c = c .before .before .before .before .before .before
 
 -- The edge at hand comes from a task that has its line.
-feeds : (c : tie.In-loop Inv-loop μ-loop) → Feeds (edgeIn (nth (start c .args .mem .now) (edgeAt (start c .args .mem .now) (c .before .loop .k - 1)))) (start c .args .mem .now)
+feeds : (c : tie.In-loop Inv-loop μ-loop) → Feeds (start c .args .rooms) (edgeIn (nth (start c .args .mem .now) (edgeAt (start c .args .mem .now) (c .before .loop .k - 1)))) (start c .args .mem .now)
 feeds c =
     let s = start c in
-    gather-edge (spreads (s .args .mem .now)) (s .pre .0 .0) (s .args .t) (s .args .mem .now) (s .pre .0 .1) (c .before .loop .inv .2) (c .loop-test .taken) (s .pre .2)
+    gather-edge (spreads (start c .args .rooms) (s .args .mem .now)) (s .pre .0 .0) (s .args .t) (s .args .mem .now) (s .pre .0 .1) (c .before .loop .inv .2) (c .loop-test .taken) (s .pre .2)
+
+mul-in-head : tie.Need-mul-in-head Inv-loop μ-loop
+mul-in-head c = search needs
+
+mul-rows : tie.Need-mul-rows Inv-loop μ-loop
+mul-rows c = search needs
+
+mul-line : tie.Need-mul-line Inv-loop μ-loop
+mul-line c = search needs
+
+mul-in-next : tie.Need-mul-in-next Inv-loop μ-loop
+mul-in-next c = search needs
 
 shared-slice-read-v : tie.Need-shared-slice-read-v Inv-loop μ-loop
 shared-slice-read-v c = search needs
@@ -60,7 +72,7 @@ shared-slice-read-k : tie.Need-shared-slice-read-k Inv-loop μ-loop
 shared-slice-read-k c = omega (arith, held (c .before .before .before .before))
 
 loop-holds : tie.Need-loop-holds Inv-loop μ-loop
-loop-holds c = let a = c .before .before .before .before .args in (held (c .before .before .before .before), omega arith, gather-first (spreads (a .mem .now)) (c .before .before .before .before .pre .0 .0) (a .t) (a .mem .now) (c .before .before .before .before .pre .0 .1) (c .before .before .before .before .pre .1))
+loop-holds c = let a = c .before .before .before .before .args in (held (c .before .before .before .before), omega arith, gather-first (spreads (c .before .before .before .before .args .rooms) (a .mem .now)) (c .before .before .before .before .pre .0 .0) (a .t) (a .mem .now) (c .before .before .before .before .pre .0 .1) (c .before .before .before .before .pre .1))
 
 sub-c : tie.Need-sub-c Inv-loop μ-loop
 sub-c c = search needs
@@ -81,7 +93,7 @@ mul-a : tie.Need-mul-a Inv-loop μ-loop
 mul-a c = search needs
 
 shared-slice-read-a : tie.Need-shared-slice-read-a Inv-loop μ-loop
-shared-slice-read-a c = search needs
+shared-slice-read-a c = let f = feeds (c .before .before) in let s = held (start (c .before .before)) in omega arith
 
 sub-a : tie.Need-sub-a Inv-loop μ-loop
 sub-a c = let f = feeds (c .before .before) in omega arith
@@ -110,7 +122,7 @@ shared-slice-read-k-2 c = search needs
 loop-less : tie.Need-loop-less Inv-loop μ-loop
 loop-less c =
     let a = c .before .before .before .before .before .before .before .before .before .before .before .args in
-    gather-falls (spreads (a .mem .now)) (c .before .before .before .before .before .before .before .before .before .before .before .pre .0 .0) (a .t) (a .mem .now) (c .before .before .before .before .before .before .before .before .before .before .before .pre .0 .1) (c .before .before .before .before .before .before .loop .inv .2) (c .before .before .before .before .before .loop-test .taken)
+    gather-falls (spreads (c .before .before .before .before .before .before .before .before .before .before .before .args .rooms) (a .mem .now)) (c .before .before .before .before .before .before .before .before .before .before .before .pre .0 .0) (a .t) (a .mem .now) (c .before .before .before .before .before .before .before .before .before .before .before .pre .0 .1) (c .before .before .before .before .before .before .loop .inv .2) (c .before .before .before .before .before .loop-test .taken)
 
 loop-again : tie.Need-loop-again Inv-loop μ-loop
 loop-again c =
@@ -121,7 +133,7 @@ loop-again c =
     let (f, g, h) = top-later (l .x) y (l .inv .1) (c .before .before .spread .ensures .1) in
     let s : x ≤ 4296011520 = ⊎-elim (λ w. omega (arith, w .1, c .before .before .spread .ensures .1)) (λ w. omega (arith, w .1)) (c .before .if1 .came) in
     let e : timeIn x ≡ later (timeIn y) (timeIn (l .x)) = ⊎-elim (λ w. rw (w .1) (h (omega (arith, w .0 .taken)))) (λ w. rw (w .1) (g (omega (arith, w .0 .left)))) (c .before .if1 .came) in
-    (l .inv .0, s, gather-next (spreads (a .mem .now)) (c .before .before .before .before .before .before .before .before .before .before .before .pre .0 .0) (a .t) (a .mem .now) (c .before .before .before .before .before .before .before .before .before .before .before .pre .0 .1) (l .inv .2) (c .before .before .before .before .before .loop-test .taken) (timeIn x) (e ∙ ap (λ (z : Time). later z (timeIn (l .x))) (sym f ∙ c .before .before .spread .ensures .0)))
+    (l .inv .0, s, gather-next (spreads (c .before .before .before .before .before .before .before .before .before .before .before .args .rooms) (a .mem .now)) (c .before .before .before .before .before .before .before .before .before .before .before .pre .0 .0) (a .t) (a .mem .now) (c .before .before .before .before .before .before .before .before .before .before .before .pre .0 .1) (l .inv .2) (c .before .before .before .before .before .loop-test .taken) (timeIn x) (e ∙ ap (λ (z : Time). later z (timeIn (l .x))) (sym f ∙ c .before .before .spread .ensures .0)))
 
 returns : tie.Need-returns Inv-loop μ-loop
 returns c = let l = c .before .before .loop in (top-one (c .before .before .before .before .before .before .before .pre .0 .0) (c .before .before .before .before .before .before .before .pre .0 .1) (l .inv .2) (omega arith) (l .inv .1) (c .if2 .taken), omega arith)
@@ -144,6 +156,10 @@ top-level-spec =
     (tie.spec
     Inv-loop
     μ-loop
+    mul-in-head
+    mul-rows
+    mul-line
+    mul-in-next
     shared-slice-read-v
     shared-slice-read-m
     add-g

@@ -12,10 +12,16 @@ use Rattle.mirguneth.proofs.replaying.first_finish.Statement.{statement
 use Rattle.mirguneth.proofs.replaying.first_finish.Tie as tie
 
 abbrev Inv-loop : tie.InvT-loop
-Inv-loop mem t w a time₀ processor₀ c₀ time processor c = (c ≤ w) × (time ≤ neverCell) × Seen mem t c time processor
+Inv-loop mem rooms t rows line w a time₀ processor₀ c₀ time processor c = (c ≤ w) × (time ≤ neverCell) × Seen rooms mem t c time processor
 
 abbrev μ-loop : tie.MeasureT-loop
-μ-loop mem t w a time₀ processor₀ c₀ time processor c = w - c
+μ-loop mem rooms t rows line w a time₀ processor₀ c₀ time processor c = w - c
+
+mul-rows : tie.Need-mul-rows Inv-loop μ-loop
+mul-rows c = search needs
+
+mul-line : tie.Need-mul-line Inv-loop μ-loop
+mul-line c = search needs
 
 shared-slice-read-w : tie.Need-shared-slice-read-w Inv-loop μ-loop
 shared-slice-read-w c = let z = sizes (c .before .pre .0 .job) in let u = all-placed (c .before .pre .0) (c .before .args .t) (c .before .pre .2) in let v = row-of-task (c .before .pre .0) (c .before .args .t) (c .before .pre .2) .1 in omega arith
@@ -42,7 +48,7 @@ add-a-2 : tie.Need-add-a-2 Inv-loop μ-loop
 add-a-2 c = let z = sizes (c .before .before .pre .0 .job) in let u = all-placed (c .before .before .pre .0) (c .before .before .args .t) (c .before .before .pre .2) in let v = row-of-task (c .before .before .pre .0) (c .before .before .args .t) (c .before .before .pre .2) .1 in omega arith
 
 loop-holds : tie.Need-loop-holds Inv-loop μ-loop
-loop-holds c = (search needs, search needs, seen-none (c .before .before .args .mem .now) (c .before .before .args .t) 0)
+loop-holds c = (search needs, search needs, seen-none (c .before .before .args .rooms) (c .before .before .args .mem .now) (c .before .before .args .t) 0)
 
 mul-x : tie.Need-mul-x Inv-loop μ-loop
 mul-x c = let z = sizes (c .before .before .before .before .pre .0 .job) in let u = all-placed (c .before .before .before .before .pre .0) (c .before .before .before .before .args .t) (c .before .before .before .before .pre .2) in let v = row-of-task (c .before .before .before .before .pre .0) (c .before .before .before .before .args .t) (c .before .before .before .before .pre .2) .1 in omega arith
@@ -84,8 +90,8 @@ loop-again : tie.Need-loop-again Inv-loop μ-loop
 loop-again c =
     let l = c .before .before .before .loop in
     let d = c .before .before .before .before .before .before .args .mem .now in
-    let x = getD d (9480 + (getD d (8712 + c .before .before .before .before .before .before .args .t) 0 - 1) * 25 + (2 + 3 * l .c)) 0 in
-    let m : x ≤ neverCell = omega (arith, c .before .shared-slice-known3 .given (9480 + (getD d (8712 + c .before .before .before .before .before .before .args .t) 0 - 1) * 25 + (2 + 3 * l .c))) in (
+    let x = getD d (297 * c .before .before .before .before .before .before .args .rooms + (getD d (273 * c .before .before .before .before .before .before .args .rooms + c .before .before .before .before .before .before .args .t) 0 - 1) * 25 + (2 + 3 * l .c)) 0 in
+    let m : x ≤ neverCell = omega (arith, c .before .shared-slice-known3 .given (297 * c .before .before .before .before .before .before .args .rooms + (getD d (273 * c .before .before .before .before .before .before .args .rooms + c .before .before .before .before .before .before .args .t) 0 - 1) * 25 + (2 + 3 * l .c))) in (
       search needs,
       ⊎-elim (λ w. rw (w .2) m) (λ w. rw (w .1) (l .inv .1)) (c .if1 .came),
       ⊎-elim
@@ -103,6 +109,8 @@ first-finish-spec =
     (tie.spec
     Inv-loop
     μ-loop
+    mul-rows
+    mul-line
     shared-slice-read-w
     add-w
     add-a

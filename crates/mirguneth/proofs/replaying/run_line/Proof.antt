@@ -10,23 +10,26 @@ use Rattle.mirguneth.proofs.replaying.run_line.Statement.{statement}
 use Rattle.mirguneth.proofs.replaying.run_line.Tie as tie
 
 abbrev Inv-loop : tie.InvT-loop
-Inv-loop mem₀ delays k stops w a t b supplied after₀ c₀ mem after c = (c ≤ w) × LineRuns k c stops (after .at) mem₀ mem
+Inv-loop mem₀ rooms delays k stops rows w a t b supplied after₀ c₀ mem after c = (c ≤ w) × LineRuns rooms k c stops (after .at) mem₀ mem
 
 abbrev μ-loop : tie.MeasureT-loop
-μ-loop mem₀ delays k stops w a t b supplied after₀ c₀ mem after c = w - c
+μ-loop mem₀ rooms delays k stops rows w a t b supplied after₀ c₀ mem after c = w - c
 
-held : (c : tie.Start Inv-loop μ-loop) → Sizes (c .args .mem .now)
+held : (c : tie.Start Inv-loop μ-loop) → Sizes (c .args .rooms) (c .args .mem .now)
 held c = sizes (c .pre .1 .standing .job)
 
 -- The row of the task's run times is in the job.
-runs : (c : tie.Start Inv-loop μ-loop) → 4 + nth (c .args .mem .now) (rowAt (c .args .k)) * (nth (c .args .mem .now) 1 + 1) + (0 + 1) < jobSize
-runs c = let z = held c in row-below z (nth (c .args .mem .now) (rowAt (c .args .k))) 0 (omega (arith, c .pre .1 .standing .task-of (c .args .k) (c .pre .2))) (omega arith)
+runs : (c : tie.Start Inv-loop μ-loop) → 4 + nth (c .args .mem .now) (rowAt (c .args .rooms) (c .args .k)) * (nth (c .args .mem .now) 1 + 1) + (0 + 1) < jobSize (c .args .rooms)
+runs c = let z = held c in row-below z (nth (c .args .mem .now) (rowAt (c .args .rooms) (c .args .k))) 0 (omega (arith, c .pre .1 .standing .task-of (c .args .k) (c .pre .2))) (omega arith)
 
 abbrev start : tie.In-loop Inv-loop μ-loop → tie.Start Inv-loop μ-loop
 start c = c .before .before .before .before .before .before .before .before .before .before
 
-step : (c : tie.In-loop Inv-loop μ-loop) → LineStep (nth (start c .args .mem .now) (rowAt (start c .args .k))) (nth (c .before .loop .mem) (rowAt (start c .args .k) + (1 + 3 * c .before .loop .c))) (c .before .loop .after .at) (start c .args .mem .now) (c .before .loop .mem)
+step : (c : tie.In-loop Inv-loop μ-loop) → LineStep (start c .args .rooms) (nth (start c .args .mem .now) (rowAt (start c .args .rooms) (start c .args .k))) (nth (c .before .loop .mem) (rowAt (start c .args .rooms) (start c .args .k) + (1 + 3 * c .before .loop .c))) (c .before .loop .after .at) (start c .args .mem .now) (c .before .loop .mem)
 step c = line-step (start c .args .k) (c .before .loop .c) (c .before .loop .inv .1) (start c .pre .1 .standing) (start c .pre .2) (start c .pre .3) (c .loop-test .taken)
+
+mul-rows : tie.Need-mul-rows Inv-loop μ-loop
+mul-rows c = search needs
 
 slice-read-w : tie.Need-slice-read-w Inv-loop μ-loop
 slice-read-w c = let z = held (c .before .before .before .before) in omega arith
@@ -151,7 +154,7 @@ loop-again : tie.Need-loop-again Inv-loop μ-loop
 loop-again c =
     let l = c .before .before .before .before .before .before .before .loop in
     let p = c .before .before .before .before .before .before .before .before .before .before .before .before .before .before .before .before .pre in
-    let supplied = nth (c .before .before .before .before .before .before .before .before .first-data .result) (nth (l .mem) (rowAt (c .before .before .before .before .before .before .before .before .before .before .before .before .before .before .before .before .args .k) + (1 + 3 * l .c))) in (
+    let supplied = nth (c .before .before .before .before .before .before .before .before .first-data .result) (nth (l .mem) (rowAt (c .before .before .before .before .before .before .before .before .before .before .before .before .before .before .before .before .args .rooms) (c .before .before .before .before .before .before .before .before .before .before .before .before .before .before .before .before .args .k) + (1 + 3 * l .c))) in (
       search needs,
       line-next (c .before .before .before .before .before .before .before .before .before .before .before .before .before .before .before .before .args .k) (l .c) (l .inv .1) (p .1 .standing) (p .2) (p .3) (c .before .before .before .before .before .before .loop-test .taken) supplied (c .before .before .finish-of .result) (c .unless-stopped .result) (c .before .before .before .before .before .before .before .before .first-data .ensures .1 _ (step (c .before .before .before .before .before .before) .processor) .0) (c .before .before .finish-of .ensures .0) (c .unless-stopped .ensures .0) (c .unless-stopped .ensures .1),
     )
@@ -168,6 +171,7 @@ run-line-spec =
     (tie.spec
     Inv-loop
     μ-loop
+    mul-rows
     slice-read-w
     add-w
     mul-a

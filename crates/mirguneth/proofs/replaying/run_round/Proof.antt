@@ -8,16 +8,16 @@ use Rattle.mirguneth.proofs.replaying.run_round.Statement.{statement}
 use Rattle.mirguneth.proofs.replaying.run_round.Tie as tie
 
 abbrev Inv-loop : tie.InvT-loop
-Inv-loop mem₀ stops v delays ready₀ k₀ mem ready k = (k ≤ v) × RoundRuns k stops (ready .at) mem₀ mem
+Inv-loop mem₀ rooms stops v delays ready₀ k₀ mem ready k = (k ≤ v) × RoundRuns rooms k stops (ready .at) mem₀ mem
 
 abbrev μ-loop : tie.MeasureT-loop
-μ-loop mem₀ stops v delays ready₀ k₀ mem ready k = v - k
+μ-loop mem₀ rooms stops v delays ready₀ k₀ mem ready k = v - k
 
 slice-read-v : tie.Need-slice-read-v Inv-loop μ-loop
 slice-read-v c = let z = sizes (c .before .before .before .pre .0 .job) in omega arith
 
 delay-table-requires : tie.Need-delay-table-requires Inv-loop μ-loop
-delay-table-requires c κs = c .before .before .before .before .pre .0 .job
+delay-table-requires c κs = (_, c .before .before .before .before .pre .0 .job)
 
 loop-holds : tie.Need-loop-holds Inv-loop μ-loop
 loop-holds c = (search needs, round-first (c .before .before .before .before .before .args .stops .now) (c .before .before .before .before .before .pre .0))

@@ -62,7 +62,7 @@ returns-2 c =
 returns-3 : tie.Need-returns-3
 returns-3 c =
     let d = c .before .before .before .before .before .before .before .before .before .before .args .mem .now in
-    run-refused d (c .before .before .before .before .load-stops .last .1 .1 .0) (c .before .before .before .before .before .before .before .before .before .before .args .stops .now) (c .before .before .before .before .before .before .before .before .before .before .args .out .now) _ (rw (c .before .x .given .1) at (c .before .before .before .before .load-stops .ensures (jobIn d) (processors-in d)))
+    run-refused (c .before .before .before .before .before .before .before .before .before .before .args .rooms) d (c .before .before .before .before .load-stops .last .1 .1 .0) (c .before .before .before .before .before .before .before .before .before .before .args .stops .now) (c .before .before .before .before .before .before .before .before .before .before .args .out .now) _ (rw (c .before .x .given .1) at (c .before .before .before .before .load-stops .ensures (jobIn d) (processors-in d)))
 
 pub put-replay-spec : {M : Type 1} → statement M
 put-replay-spec =

@@ -10,10 +10,10 @@ use Rattle.mirguneth.proofs.results.replay_length.Statement.{statement}
 use Rattle.mirguneth.proofs.results.replay_length.Tie as tie
 
 abbrev Inv-loop : tie.InvT-loop
-Inv-loop mem v n₀ t₀ n t = (t ≤ v) × (n ≤ 35 * t) × (n + length (restText t mem) ≡ length (restText 0 mem))
+Inv-loop mem rooms v n₀ t₀ n t = (t ≤ v) × (n ≤ 35 * t) × (n + length (restText rooms t mem) ≡ length (restText rooms 0 mem))
 
 abbrev μ-loop : tie.MeasureT-loop
-μ-loop mem v n₀ t₀ n t = v - t
+μ-loop mem rooms v n₀ t₀ n t = v - t
 
 shared-slice-read-v : tie.Need-shared-slice-read-v Inv-loop μ-loop
 shared-slice-read-v c = let z = sizes (c .before .before .pre .0 .job) in omega arith
@@ -57,8 +57,8 @@ returns : tie.Need-returns Inv-loop μ-loop
 returns c =
     let l = c .before .before .before .loop in
     let d = c .before .before .before .before .before .before .args .mem .now in
-    let e = ap length (rest-end (l .t) (c .before .end-of .result) d (c .before .before .loop-test .left) (c .before .end-of .ensures .0)) in
-    let n = ap length (rest-all d) in
+    let e = ap length (rest-end (c .before .before .before .before .before .before .args .rooms) (l .t) (c .before .end-of .result) d (c .before .before .loop-test .left) (c .before .end-of .ensures)) in
+    let n = ap length (rest-all (c .before .before .before .before .before .before .args .rooms) d) in
     omega (arith, c .end-length .ensures .0)
 
 pub replay-length-spec : {M : Type 1} → statement M

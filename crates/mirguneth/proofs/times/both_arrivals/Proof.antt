@@ -1,5 +1,5 @@
 -- After c turns the first c replicas of the line were offered.
-use Prim.Native.Nat.{_≤_, _-_}
+use Prim.Native.Nat.{ℕ, _≤_, _-_}
 use native.Mathlib.Omega.{arith}
 use borrow.Author.Needs.{needs}
 use Rattle.mirguneth.proofs.Held.{Sizes, sizes}
@@ -8,13 +8,13 @@ use Rattle.mirguneth.proofs.times.both_arrivals.Statement.{statement}
 use Rattle.mirguneth.proofs.times.both_arrivals.Tie as tie
 
 abbrev Inv-loop : tie.InvT-loop
-Inv-loop mem delays a volume early late₀ w low₀ c₀ late low c = (c ≤ w) × Sizes mem × Offered volume a mem late₀ c low late
+Inv-loop mem delays a volume early late₀ w low₀ c₀ late low c = (c ≤ w) × ((rooms : ℕ) × Sizes rooms mem) × Offered volume a mem late₀ c low late
 
 abbrev μ-loop : tie.MeasureT-loop
 μ-loop mem delays a volume early late₀ w low₀ c₀ late low c = w - c
 
-held : (c : tie.Start Inv-loop μ-loop) → Sizes (c .args .mem .now)
-held c = sizes (c .pre .0)
+held : (c : tie.Start Inv-loop μ-loop) → Sizes (c .pre .0 .0) (c .args .mem .now)
+held c = sizes (c .pre .0 .1)
 
 shared-slice-read-w : tie.Need-shared-slice-read-w Inv-loop μ-loop
 shared-slice-read-w c = omega (arith, held (c .before .before .before .before .before))
@@ -23,7 +23,7 @@ add-w : tie.Need-add-w Inv-loop μ-loop
 add-w c = omega (arith, held (c .before .before .before .before .before))
 
 loop-holds : tie.Need-loop-holds Inv-loop μ-loop
-loop-holds c = let a = c .before .before .before .before .before .args in let s = held (c .before .before .before .before .before) in (search needs, s, offer-none (a .volume) (a .a) (a .mem .now) (a .late .now) s (c .before .before .before .before .before .pre .7))
+loop-holds c = let a = c .before .before .before .before .before .args in let s = held (c .before .before .before .before .before) in (search needs, (_, s), offer-none (a .volume) (a .a) (a .mem .now) (a .late .now) s (c .before .before .before .before .before .pre .7))
 
 mul-q : tie.Need-mul-q Inv-loop μ-loop
 mul-q c = search needs
@@ -83,7 +83,7 @@ offer-both-requires : tie.Need-offer-both-requires Inv-loop μ-loop
 offer-both-requires c κs =
     let l = c .before .before .before .before .before .before .loop in
     let o = l .inv .2 in
-    let s = l .inv .1 in
+    let s = l .inv .1 .1 in
     let (_, d, r, _, v, b, _, _) = c .before .before .before .before .before .before .before .before .before .before .before .before .pre in
     (o .low-size, o .high-size, d .size, d .most, omega (arith, r .processor-of (l .c) (omega arith), s .processors-most), v, b (l .c) (omega arith) .0, b (l .c) (omega arith) .1)
 
@@ -101,7 +101,7 @@ loop-again c =
     let e = c .before .before .before .offer-both .ensures in (
       search needs,
       l .inv .1,
-      offer-next (a .volume) (a .a) (a .mem .now) (a .late .now) (l .inv .1) (l .inv .2) (a .delays .now) _ _ d r b v (omega arith) (e .0) (e .1) (e .2),
+      offer-next (a .volume) (a .a) (a .mem .now) (a .late .now) (l .inv .1 .1) (l .inv .2) (a .delays .now) _ _ d r b v (omega arith) (e .0) (e .1) (e .2),
     )
 
 slice-aggregate-raise : tie.Need-slice-aggregate-raise Inv-loop μ-loop
@@ -121,7 +121,7 @@ returns c =
     let a = c .before .before .before .before .before .before .before .before .before .before .before .before .args in
     let l = c .before .before .before .before .before .before .loop in
     let e = c .before .before .raise .ensures in
-    offer-done (a .volume) (a .a) (a .mem .now) (a .late .now) (l .inv .1) (l .inv .2) (a .early .now) _ (omega arith) (e .0) (e .1)
+    offer-done (a .volume) (a .a) (a .mem .now) (a .late .now) (l .inv .1 .1) (l .inv .2) (a .early .now) _ (omega arith) (e .0) (e .1)
 
 pub both-arrivals-spec : {M : Type 1} → statement M
 both-arrivals-spec =

@@ -7,13 +7,25 @@ use Rattle.mirguneth.proofs.times.both_data.Statement.{statement}
 use Rattle.mirguneth.proofs.times.both_data.Tie as tie
 
 abbrev Inv-loop : tie.InvT-loop
-Inv-loop mem delays t v m g early₀ late₀ k₀ early late k = Sizes mem × BothGathering t mem early late k
+Inv-loop mem rooms delays t in-head rows line in-next v m g early₀ late₀ k₀ early late k = Sizes rooms mem × BothGathering rooms t mem early late k
 
 abbrev μ-loop : tie.MeasureT-loop
-μ-loop mem delays t v m g early₀ late₀ k₀ early late k = k
+μ-loop mem rooms delays t in-head rows line in-next v m g early₀ late₀ k₀ early late k = k
 
-held : (c : tie.Start Inv-loop μ-loop) → Sizes (c .args .mem .now)
+held : (c : tie.Start Inv-loop μ-loop) → Sizes (c .args .rooms) (c .args .mem .now)
 held c = sizes (c .pre .0 .1 .job)
+
+mul-in-head : tie.Need-mul-in-head Inv-loop μ-loop
+mul-in-head c = search needs
+
+mul-rows : tie.Need-mul-rows Inv-loop μ-loop
+mul-rows c = search needs
+
+mul-line : tie.Need-mul-line Inv-loop μ-loop
+mul-line c = search needs
+
+mul-in-next : tie.Need-mul-in-next Inv-loop μ-loop
+mul-in-next c = search needs
 
 shared-slice-read-v : tie.Need-shared-slice-read-v Inv-loop μ-loop
 shared-slice-read-v c = omega (arith, held (c .before .before .before))
@@ -64,7 +76,7 @@ mul-a : tie.Need-mul-a Inv-loop μ-loop
 mul-a c = search needs
 
 shared-slice-read-a : tie.Need-shared-slice-read-a Inv-loop μ-loop
-shared-slice-read-a c = search needs
+shared-slice-read-a c = let f = both-edge (c .before .before .before .before .before .before .before .before .before .pre .0 .0) (c .before .before .before .before .before .before .before .before .before .args .t) (c .before .before .before .before .before .before .before .before .before .args .mem .now) (c .before .before .before .before .before .before .before .before .before .pre .0 .1) (c .before .before .before .loop .inv .1) (omega arith) (c .before .before .before .before .before .before .before .before .before .pre .3) .0 in let s = c .before .before .before .loop .inv .0 in omega arith
 
 sub-a : tie.Need-sub-a Inv-loop μ-loop
 sub-a c = let f = both-edge (c .before .before .before .before .before .before .before .before .before .pre .0 .0) (c .before .before .before .before .before .before .before .before .before .args .t) (c .before .before .before .before .before .before .before .before .before .args .mem .now) (c .before .before .before .before .before .before .before .before .before .pre .0 .1) (c .before .before .before .loop .inv .1) (omega arith) (c .before .before .before .before .before .before .before .before .before .pre .3) .0 in omega arith
@@ -88,7 +100,7 @@ both-arrivals-requires : tie.Need-both-arrivals-requires Inv-loop μ-loop
 both-arrivals-requires c κs =
     let l = c .before .before .before .before .before .loop in
     let (f, b) = both-edge (c .before .before .before .before .before .before .before .before .before .before .before .pre .0 .0) (c .before .before .before .before .before .before .before .before .before .before .before .args .t) (c .before .before .before .before .before .before .before .before .before .before .before .args .mem .now) (c .before .before .before .before .before .before .before .before .before .before .before .pre .0 .1) (l .inv .1) (omega arith) (c .before .before .before .before .before .before .before .before .before .before .before .pre .3) in
-    (c .before .before .before .before .before .before .before .before .before .before .before .pre .0 .1 .job, c .before .before .before .before .before .before .before .before .before .before .before .pre .1, f .row, omega (arith, f .line-most, f .line-some), f .volume-most, b, l .inv .1 .early-size, l .inv .1 .late-size)
+    ((_, c .before .before .before .before .before .before .before .before .before .before .before .pre .0 .1 .job), c .before .before .before .before .before .before .before .before .before .before .before .pre .1, f .row, omega (arith, f .line-most, f .line-some), f .volume-most, b, l .inv .1 .early-size, l .inv .1 .late-size)
 
 sub-k : tie.Need-sub-k Inv-loop μ-loop
 sub-k c = search needs
@@ -117,6 +129,10 @@ both-data-spec =
     (tie.spec
     Inv-loop
     μ-loop
+    mul-in-head
+    mul-rows
+    mul-line
+    mul-in-next
     shared-slice-read-v
     shared-slice-read-m
     add-g

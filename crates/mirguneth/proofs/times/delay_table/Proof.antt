@@ -1,27 +1,28 @@
 -- The cells before i hold the delays; the others hold 0.
 use mathlib.Core.Path.{_≡_, refl, _∙_}
-use mathlib.Core.Logic.{inl, inr, ⊎-elim}
+use mathlib.Core.Logic.{⊎-elim}
 use mathlib.Core.List.{List}
 use Prim.Native.Nat.{ℕ, _≤_, _<_, _-_, _+_, _*_, _/_, _%_}
 use native.Mathlib.Omega.{arith}
 use borrow.Author.Needs.{needs}
-use lib.ListN.{length, getD-replicate}
+use lib.ListN.{length}
 use Rattle.definitions.specs.Lists.{nth}
+use Rattle.mirguneth.specs.Layout.{jobSize}
 use Rattle.mirguneth.proofs.Held.{Sizes, sizes, row-below}
 use Rattle.mirguneth.proofs.TimeLaws.{delay-cell}
-use Rattle.mirguneth.proofs.ShortLaws.{Filled, filled-none, filled-kept, filled-set, DelayCell, delay-stored, delay-outside, table-made}
+use Rattle.mirguneth.proofs.ShortLaws.{Filled, filled-none, filled-kept, filled-set, DelayCell, delay-stored, delay-outside, none-set, table-made}
 use Rattle.mirguneth.proofs.times.delay_table.Statement.{statement}
 use Rattle.mirguneth.proofs.times.delay_table.Tie as tie
 
 abbrev Inv-loop : tie.InvT-loop
-Inv-loop mem v m delays₀ i₀ delays i = (i ≤ 256) × (length delays ≡ 256) × Sizes mem × Filled (DelayCell mem) delays₀ delays i
+Inv-loop mem v m n delays₀ i₀ delays i = (i ≤ n) × (length delays ≡ 256) × ((rooms : ℕ) × Sizes rooms mem) × Filled (DelayCell mem) delays₀ delays i
 
 abbrev μ-loop : tie.MeasureT-loop
-μ-loop mem v m delays₀ i₀ delays i = 256 - i
+μ-loop mem v m n delays₀ i₀ delays i = n - i
 
 -- The cell that is read is one of the job's.
-cell : {mem : List ℕ} → Sizes mem → (i : ℕ) → i / 16 < nth mem 1 → i % 16 < nth mem 1 → 4 + (nth mem 0 + i / 16) * (nth mem 1 + 1) + (i % 16 + 1) < 5640
-cell {mem} s i h g = row-below s (nth mem 0 + i / 16) (i % 16) (omega arith) g
+cell : {rooms : ℕ} {mem : List ℕ} → Sizes rooms mem → (i : ℕ) → i < 16 * nth mem 1 → i % 16 < nth mem 1 → 4 + (nth mem 0 + i / 16) * (nth mem 1 + 1) + (i % 16 + 1) < jobSize rooms
+cell {rooms} {mem} s i h g = row-below s (nth mem 0 + i / 16) (i % 16) (omega arith) g
 
 shared-slice-read-v : tie.Need-shared-slice-read-v Inv-loop μ-loop
 shared-slice-read-v c = search needs
@@ -29,8 +30,11 @@ shared-slice-read-v c = search needs
 shared-slice-read-m : tie.Need-shared-slice-read-m Inv-loop μ-loop
 shared-slice-read-m c = search needs
 
+mul-n : tie.Need-mul-n Inv-loop μ-loop
+mul-n c = search needs
+
 loop-holds : tie.Need-loop-holds Inv-loop μ-loop
-loop-holds c = (search needs, refl, sizes (c .before .before .pre), filled-none)
+loop-holds c = (search needs, refl, (_, sizes (c .before .before .pre .1)), filled-none)
 
 add-delays : tie.Need-add-delays Inv-loop μ-loop
 add-delays c = search needs
@@ -39,25 +43,25 @@ add-delays-2 : tie.Need-add-delays-2 Inv-loop μ-loop
 add-delays-2 c = search needs
 
 mul-delays : tie.Need-mul-delays Inv-loop μ-loop
-mul-delays c = omega (arith, cell (c .before .before .before .loop .inv .2) (c .before .before .before .loop .i) (c .before .if1 .taken) (c .if2 .taken))
+mul-delays c = omega (arith, cell (c .before .before .loop .inv .2 .1) (c .before .before .loop .i) (c .before .loop-test .taken) (c .if1 .taken))
 
 add-delays-3 : tie.Need-add-delays-3 Inv-loop μ-loop
-add-delays-3 c = omega (arith, cell (c .before .before .before .loop .inv .2) (c .before .before .before .loop .i) (c .before .if1 .taken) (c .if2 .taken))
+add-delays-3 c = omega (arith, cell (c .before .before .loop .inv .2 .1) (c .before .before .loop .i) (c .before .loop-test .taken) (c .if1 .taken))
 
 add-delays-4 : tie.Need-add-delays-4 Inv-loop μ-loop
 add-delays-4 c = search needs
 
 add-delays-5 : tie.Need-add-delays-5 Inv-loop μ-loop
-add-delays-5 c = omega (arith, cell (c .before .before .before .loop .inv .2) (c .before .before .before .loop .i) (c .before .if1 .taken) (c .if2 .taken))
+add-delays-5 c = omega (arith, cell (c .before .before .loop .inv .2 .1) (c .before .before .loop .i) (c .before .loop-test .taken) (c .if1 .taken))
 
 mul-delays-2 : tie.Need-mul-delays-2 Inv-loop μ-loop
-mul-delays-2 c = omega (arith, cell (c .before .before .before .loop .inv .2) (c .before .before .before .loop .i) (c .before .if1 .taken) (c .if2 .taken))
+mul-delays-2 c = omega (arith, cell (c .before .before .loop .inv .2 .1) (c .before .before .loop .i) (c .before .loop-test .taken) (c .if1 .taken))
 
 shared-slice-read-delays : tie.Need-shared-slice-read-delays Inv-loop μ-loop
-shared-slice-read-delays c = let s = c .before .before .before .before .loop .inv .2 in omega (arith, cell s (c .before .before .before .before .loop .i) (c .before .before .if1 .taken) (c .before .if2 .taken))
+shared-slice-read-delays c = let s = c .before .before .before .loop .inv .2 .1 in omega (arith, cell s (c .before .before .before .loop .i) (c .before .before .loop-test .taken) (c .before .if1 .taken))
 
 cast-delays : tie.Need-cast-delays Inv-loop μ-loop
-cast-delays c = omega (arith, delay-cell (c .before .before .before .before .before .before .before .pre) (c .before .before .before .before .loop .i / 16) (c .before .before .before .before .loop .i % 16) (c .before .before .if1 .taken) (c .before .if2 .taken))
+cast-delays c = let l = c .before .before .before .loop in omega (arith, delay-cell (c .before .before .before .before .before .before .pre .1) (l .i / 16) (l .i % 16) (omega (arith, c .before .before .loop-test .taken)) (c .before .if1 .taken))
 
 mul-delays-3 : tie.Need-mul-delays-3 Inv-loop μ-loop
 mul-delays-3 c = search needs
@@ -74,21 +78,21 @@ loop-less c = search needs
 loop-again : tie.Need-loop-again Inv-loop μ-loop
 loop-again c =
     let l = c .before .before .loop in
-    let z : nth (l .delays) (l .i) ≡ 0 = l .inv .3 .rest (l .i) (omega arith) ∙ getD-replicate 256 (l .i) 0 0 (omega arith) in
+    let h = c .before .loop-test .taken in
+    let s = l .inv .2 .1 in
+    let z : nth (l .delays) (l .i) ≡ 0 = l .inv .3 .rest (l .i) (omega arith) ∙ none-set (l .i) in
     let d = c .before .before .before .before .before .args .mem .now in (
       search needs,
-      ⊎-elim (λ w. rw (w .3) (search needs)) (⊎-elim (λ w. rw (w .2) (l .inv .1)) (λ w. rw (w .1) (l .inv .1))) (c .if1 .came),
+      ⊎-elim (λ w. rw (w .2) (search needs)) (λ w. rw (w .1) (l .inv .1)) (c .if1 .came),
       l .inv .2,
       ⊎-elim
-          (λ w. rw (w .3) (filled-set (l .inv .3) (nth d (4 + (nth d 0 + l .i / 16) * (nth d 1 + 1) + (l .i % 16 + 1))) (omega arith) (delay-stored (c .before .before .before .before .before .pre) (l .i) (w .0 .taken) (w .1 .taken))))
-          (⊎-elim
-          (λ w. rw (w .2) (filled-kept (l .inv .3) (delay-outside (l .inv .2) (l .i) (nth (l .delays) (l .i)) (omega arith) (inr (w .1 .left)))))
-          (λ w. rw (w .1) (filled-kept (l .inv .3) (delay-outside (l .inv .2) (l .i) (nth (l .delays) (l .i)) (omega arith) (inl (w .0 .left))))))
+          (λ w. rw (w .2) (filled-set (l .inv .3) (nth d (4 + (nth d 0 + l .i / 16) * (nth d 1 + 1) + (l .i % 16 + 1))) (omega arith) (delay-stored (c .before .before .before .before .before .pre .1) (l .i) (omega arith) (w .0 .taken))))
+          (λ w. rw (w .1) (filled-kept (l .inv .3) (delay-outside s (l .i) (nth (l .delays) (l .i)) (omega arith) (w .0 .left))))
           (c .if1 .came),
     )
 
 returns : tie.Need-returns Inv-loop μ-loop
-returns c = let l = c .before .loop in table-made (l .inv .2) (l .inv .1) (omega arith) (l .inv .3)
+returns c = let l = c .before .loop in table-made (l .inv .2 .1) (l .inv .1) (omega arith) none-set (l .inv .3)
 
 pub delay-table-spec : {M : Type 1} → statement M
 delay-table-spec =
@@ -98,6 +102,7 @@ delay-table-spec =
     μ-loop
     shared-slice-read-v
     shared-slice-read-m
+    mul-n
     loop-holds
     add-delays
     add-delays-2

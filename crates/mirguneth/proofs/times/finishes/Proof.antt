@@ -6,6 +6,7 @@ use native.Mathlib.Omega.{arith}
 use borrow.Author.Needs.{needs}
 use lib.ListN.{length, length-set}
 use Rattle.definitions.specs.Lists.{nth}
+use Rattle.mirguneth.specs.Layout.{jobSize}
 use Rattle.mirguneth.proofs.Held.{Sizes, sizes, row-below}
 use Rattle.mirguneth.proofs.TimeLaws.{run-cell}
 use Rattle.mirguneth.proofs.BothLaws.{Finish, finish-cell}
@@ -15,18 +16,18 @@ use Rattle.mirguneth.proofs.times.finishes.Statement.{statement}
 use Rattle.mirguneth.proofs.times.finishes.Tie as tie
 
 abbrev Inv-loop : tie.InvT-loop
-Inv-loop mem delays t clocks m «data» f₀ p₀ f p =
-    (p ≤ m) × Sizes mem × (length (f .early) ≡ 16) × (length (f .late) ≡ 16)
-    × ((q : ℕ) → q < p → Finish false t (clocks .early) mem q (nth (f .early) q))
-    × ((q : ℕ) → q < p → Finish true t (clocks .late) mem q (nth (f .late) q))
+Inv-loop mem rooms delays t clocks m «data» f₀ p₀ f p =
+    (p ≤ m) × Sizes rooms mem × (length (f .early) ≡ 16) × (length (f .late) ≡ 16)
+    × ((q : ℕ) → q < p → Finish rooms false t (clocks .early) mem q (nth (f .early) q))
+    × ((q : ℕ) → q < p → Finish rooms true t (clocks .late) mem q (nth (f .late) q))
 
 abbrev μ-loop : tie.MeasureT-loop
-μ-loop mem delays t clocks m «data» f₀ p₀ f p = m - p
+μ-loop mem rooms delays t clocks m «data» f₀ p₀ f p = m - p
 
-held : (c : tie.Start Inv-loop μ-loop) → Sizes (c .args .mem .now)
+held : (c : tie.Start Inv-loop μ-loop) → Sizes (c .args .rooms) (c .args .mem .now)
 held c = sizes (c .pre .0 .1 .job)
 
-cell : (c : tie.Start Inv-loop μ-loop) (p : ℕ) → p < nth (c .args .mem .now) 1 → 4 + c .args .t * (nth (c .args .mem .now) 1 + 1) + (p + 1) < 5640
+cell : (c : tie.Start Inv-loop μ-loop) (p : ℕ) → p < nth (c .args .mem .now) 1 → 4 + c .args .t * (nth (c .args .mem .now) 1 + 1) + (p + 1) < jobSize (c .args .rooms)
 cell c p h = row-below (held c) (c .args .t) p (omega (arith, c .pre .2)) h
 
 run : (c : tie.Start Inv-loop μ-loop) (p : ℕ) → p < nth (c .args .mem .now) 1 → nth (c .args .mem .now) (4 + c .args .t * (nth (c .args .mem .now) 1 + 1) + (p + 1)) ≤ 1000000
@@ -129,10 +130,10 @@ loop-again c =
       l .inv .1,
       simp length-set (l .inv .2),
       simp length-set (l .inv .3),
-      each-more (Finish false (a .t) (a .t4 .early) (a .mem .now)) (l .f .early) (l .p) _ (omega arith) (l .inv .4)
-          (finish-cell false (a .t) (a .t4 .early) (a .mem .now) (l .p) _ _ (c .before .before .before .before .before .before .before .before .before .before .before .before .before .pre .2) h (d .early-ready (l .p) h) (c .before .before .before .later-tick .ensures)),
-      each-more (Finish true (a .t) (a .t4 .late) (a .mem .now)) (l .f .late) (l .p) _ (omega arith) (l .inv .5)
-          (finish-cell true (a .t) (a .t4 .late) (a .mem .now) (l .p) _ _ (c .before .before .before .before .before .before .before .before .before .before .before .before .before .pre .2) h (d .late-ready (l .p) h) (c .later-tick2 .ensures)),
+      each-more (Finish (c .before .before .before .before .before .before .before .before .before .before .before .before .before .args .rooms) false (a .t) (a .t5 .early) (a .mem .now)) (l .f .early) (l .p) _ (omega arith) (l .inv .4)
+          (finish-cell (c .before .before .before .before .before .before .before .before .before .before .before .before .before .args .rooms) false (a .t) (a .t5 .early) (a .mem .now) (l .p) _ _ (c .before .before .before .before .before .before .before .before .before .before .before .before .before .pre .2) h (d .early-ready (l .p) h) (c .before .before .before .later-tick .ensures)),
+      each-more (Finish (c .before .before .before .before .before .before .before .before .before .before .before .before .before .args .rooms) true (a .t) (a .t5 .late) (a .mem .now)) (l .f .late) (l .p) _ (omega arith) (l .inv .5)
+          (finish-cell (c .before .before .before .before .before .before .before .before .before .before .before .before .before .args .rooms) true (a .t) (a .t5 .late) (a .mem .now) (l .p) _ _ (c .before .before .before .before .before .before .before .before .before .before .before .before .before .pre .2) h (d .late-ready (l .p) h) (c .later-tick2 .ensures)),
     )
 
 returns : tie.Need-returns Inv-loop μ-loop

@@ -17,21 +17,21 @@ use Rattle.mirguneth.proofs.times.first_arrivals.Statement.{statement}
 use Rattle.mirguneth.proofs.times.first_arrivals.Tie as tie
 
 abbrev Inv-loop : tie.InvT-loop
-Inv-loop mem delays a volume w low₀ c₀ low c = (c ≤ w) × (length low ≡ 16) × Sizes mem × ((p : ℕ) → p < nth mem 1 → shortIn (nth low p) ≡ chosenBy false (λ q. volume * delay (jobIn mem) q p) a c mem)
+Inv-loop mem delays a volume w low₀ c₀ low c = (c ≤ w) × (length low ≡ 16) × ((rooms : ℕ) × Sizes rooms mem) × ((p : ℕ) → p < nth mem 1 → shortIn (nth low p) ≡ chosenBy false (λ q. volume * delay (jobIn mem) q p) a c mem)
 
 abbrev μ-loop : tie.MeasureT-loop
 μ-loop mem delays a volume w low₀ c₀ low c = w - c
 
 shared-slice-read-w : tie.Need-shared-slice-read-w Inv-loop μ-loop
-shared-slice-read-w c = let s = sizes (c .before .before .before .pre .0) in omega arith
+shared-slice-read-w c = let s = sizes (c .before .before .before .pre .0 .1) in omega arith
 
 add-w : tie.Need-add-w Inv-loop μ-loop
-add-w c = let s = sizes (c .before .before .before .pre .0) in omega arith
+add-w c = let s = sizes (c .before .before .before .pre .0 .1) in omega arith
 
 loop-holds : tie.Need-loop-holds Inv-loop μ-loop
 loop-holds c =
-    let a = c .before .before .before .args in let s = sizes (c .before .before .before .pre .0) in
-    (search needs, refl, s, λ p h. rw (getD-replicate 16 p shortNever 0 (omega arith)) (chosen-none false (λ q. a .volume * delay (jobIn (a .mem .now)) q p) (a .a) (a .mem .now) neverCell none-early))
+    let a = c .before .before .before .args in let s = sizes (c .before .before .before .pre .0 .1) in
+    (search needs, refl, (_, s), λ p h. rw (getD-replicate 16 p shortNever 0 (omega arith)) (chosen-none false (λ q. a .volume * delay (jobIn (a .mem .now)) q p) (a .a) (a .mem .now) neverCell none-early))
 
 mul-x : tie.Need-mul-x Inv-loop μ-loop
 mul-x c = search needs
@@ -71,7 +71,7 @@ cast-offer-sooner c = omega (arith, small-tick 4200000000 (nth (c .before .befor
 
 offer-sooner-requires : tie.Need-offer-sooner-requires Inv-loop μ-loop
 offer-sooner-requires c κs =
-    let a = c .before .before .before .before .before .before .before .before .before .args in let s = c .before .before .before .before .before .loop .inv .2 in
+    let a = c .before .before .before .before .before .before .before .before .before .args in let s = c .before .before .before .before .before .loop .inv .2 .1 in
     (c .before .before .before .before .before .loop .inv .1, c .before .before .before .before .before .before .before .before .before .pre .1 .size, c .before .before .before .before .before .before .before .before .before .pre .1 .most, omega (arith, c .before .before .before .before .before .before .before .before .before .pre .2 .processor-of (c .before .before .before .before .before .loop .c) (c .before .before .before .before .loop-test .taken)), c .before .before .before .before .before .before .before .before .before .pre .4, small-tick 4200000000 (nth (a .mem .now) (a .a + (2 + 3 * c .before .before .before .before .before .loop .c))) (c .before .before .if1 .taken) (c .before .before .before .before .before .before .before .before .before .pre .5 (c .before .before .before .before .before .loop .c) (c .before .before .before .before .loop-test .taken)))
 
 add-c : tie.Need-add-c Inv-loop μ-loop
@@ -82,7 +82,7 @@ loop-less c = search needs
 
 loop-again : tie.Need-loop-again Inv-loop μ-loop
 loop-again c =
-    let a = c .before .before .before .before .before .before .before .args in let l = c .before .before .before .loop in let d = a .mem .now in let s = l .inv .2 in let k = c .before .before .loop-test .taken in
+    let a = c .before .before .before .before .before .before .before .args in let l = c .before .before .before .loop in let d = a .mem .now in let s = l .inv .2 .1 in let k = c .before .before .loop-test .taken in
     let x = nth d (a .a + (2 + 3 * l .c)) in
     let from : ℕ → ℕ = λ p. nth d (a .a + (1 + 3 * l .c)) * 16 + p in (
       search needs,

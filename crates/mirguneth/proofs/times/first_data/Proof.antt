@@ -19,22 +19,34 @@ use Rattle.mirguneth.proofs.times.first_data.Statement.{statement}
 use Rattle.mirguneth.proofs.times.first_data.Tie as tie
 
 abbrev Inv-loop : tie.InvT-loop
-Inv-loop mem delays t v m g high₀ k₀ high k =
-    Sizes mem × (length high ≡ 16) × ((p : ℕ) → p < 16 → nth high p ≤ shortNever) × ((p : ℕ) → p < nth mem 1 → Gathering (arrives false p mem) t mem (shortIn (nth high p)) k)
+Inv-loop mem rooms delays t in-head rows line in-next v m g high₀ k₀ high k =
+    Sizes rooms mem × (length high ≡ 16) × ((p : ℕ) → p < 16 → nth high p ≤ shortNever) × ((p : ℕ) → p < nth mem 1 → Gathering rooms (arrives rooms false p mem) t mem (shortIn (nth high p)) k)
 
 abbrev μ-loop : tie.MeasureT-loop
-μ-loop mem delays t v m g high₀ k₀ high k = k
+μ-loop mem rooms delays t in-head rows line in-next v m g high₀ k₀ high k = k
 
-held : (c : tie.Start Inv-loop μ-loop) → Sizes (c .args .mem .now)
+held : (c : tie.Start Inv-loop μ-loop) → Sizes (c .args .rooms) (c .args .mem .now)
 held c = sizes (c .pre .0 .1 .job)
 
 -- The links that are left, for one of the processors.
-links : (c : tie.In-loop Inv-loop μ-loop) → Gathering (arrives false 0 (c .before .before .before .before .before .before .before .args .mem .now)) (c .before .before .before .before .before .before .before .args .t) (c .before .before .before .before .before .before .before .args .mem .now) (shortIn (nth (c .before .loop .high) 0)) (c .before .loop .k)
+links : (c : tie.In-loop Inv-loop μ-loop) → Gathering (c .before .before .before .before .before .before .before .args .rooms) (arrives (c .before .before .before .before .before .before .before .args .rooms) false 0 (c .before .before .before .before .before .before .before .args .mem .now)) (c .before .before .before .before .before .before .before .args .t) (c .before .before .before .before .before .before .before .args .mem .now) (shortIn (nth (c .before .loop .high) 0)) (c .before .loop .k)
 links c = c .before .loop .inv .3 0 (omega (arith, c .before .loop .inv .0))
 
 -- What the next edge's line gives.
-fed : (c : tie.In-loop Inv-loop μ-loop) → Feeds (edgeIn (nth (c .before .before .before .before .before .before .before .args .mem .now) (edgeAt (c .before .before .before .before .before .before .before .args .mem .now) (c .before .loop .k - 1)))) (c .before .before .before .before .before .before .before .args .mem .now)
-fed c = gather-edge (arrives false 0 (c .before .before .before .before .before .before .before .args .mem .now)) (c .before .before .before .before .before .before .before .pre .0 .0) (c .before .before .before .before .before .before .before .args .t) (c .before .before .before .before .before .before .before .args .mem .now) (c .before .before .before .before .before .before .before .pre .0 .1) (links c) (c .loop-test .taken) (λ e i. c .before .before .before .before .before .before .before .pre .3 e i .0)
+fed : (c : tie.In-loop Inv-loop μ-loop) → Feeds (c .before .before .before .before .before .before .before .args .rooms) (edgeIn (nth (c .before .before .before .before .before .before .before .args .mem .now) (edgeAt (c .before .before .before .before .before .before .before .args .mem .now) (c .before .loop .k - 1)))) (c .before .before .before .before .before .before .before .args .mem .now)
+fed c = gather-edge (arrives (c .before .before .before .before .before .before .before .args .rooms) false 0 (c .before .before .before .before .before .before .before .args .mem .now)) (c .before .before .before .before .before .before .before .pre .0 .0) (c .before .before .before .before .before .before .before .args .t) (c .before .before .before .before .before .before .before .args .mem .now) (c .before .before .before .before .before .before .before .pre .0 .1) (links c) (c .loop-test .taken) (λ e i. c .before .before .before .before .before .before .before .pre .3 e i .0)
+
+mul-in-head : tie.Need-mul-in-head Inv-loop μ-loop
+mul-in-head c = search needs
+
+mul-rows : tie.Need-mul-rows Inv-loop μ-loop
+mul-rows c = search needs
+
+mul-line : tie.Need-mul-line Inv-loop μ-loop
+mul-line c = search needs
+
+mul-in-next : tie.Need-mul-in-next Inv-loop μ-loop
+mul-in-next c = search needs
 
 shared-slice-read-v : tie.Need-shared-slice-read-v Inv-loop μ-loop
 shared-slice-read-v c = omega (arith, held (c .before .before .before))
@@ -69,7 +81,7 @@ loop-holds c =
       s,
       refl,
       λ p h. rw (getD-replicate {A = ℕ} 16 p 0 0 h) (omega arith),
-      λ p h. rw (getD-replicate {A = ℕ} 16 p 0 0 (omega arith)) (gather-first (arrives false p (a .mem .now)) (c .before .before .before .before .before .pre .0 .0) (a .t) (a .mem .now) (c .before .before .before .before .before .pre .0 .1) (c .before .before .before .before .before .pre .2)),
+      λ p h. rw (getD-replicate {A = ℕ} 16 p 0 0 (omega arith)) (gather-first (arrives (c .before .before .before .before .before .args .rooms) false p (a .mem .now)) (c .before .before .before .before .before .pre .0 .0) (a .t) (a .mem .now) (c .before .before .before .before .before .pre .0 .1) (c .before .before .before .before .before .pre .2)),
     )
 
 sub-c : tie.Need-sub-c Inv-loop μ-loop
@@ -91,7 +103,7 @@ mul-a : tie.Need-mul-a Inv-loop μ-loop
 mul-a c = search needs
 
 shared-slice-read-a : tie.Need-shared-slice-read-a Inv-loop μ-loop
-shared-slice-read-a c = search needs
+shared-slice-read-a c = let f = fed (c .before .before) in let s = c .before .before .before .loop .inv .0 in omega arith
 
 sub-a : tie.Need-sub-a Inv-loop μ-loop
 sub-a c = let f = fed (c .before .before) in omega arith
@@ -108,7 +120,7 @@ cast-first-arrivals c = let f = fed (c .before .before) in omega arith
 first-arrivals-requires : tie.Need-first-arrivals-requires Inv-loop μ-loop
 first-arrivals-requires c κs =
     let a = c .before .before .before .before .before .before .before .before .before .args in let s = c .before .before .before .loop .inv .0 in let f = fed (c .before .before) in
-    (c .before .before .before .before .before .before .before .before .before .pre .0 .1 .job, c .before .before .before .before .before .before .before .before .before .pre .1, f .row, omega arith, f .volume-most, c .before .before .before .before .before .before .before .before .before .pre .3 (edgeIn (nth (a .mem .now) (edgeAt (a .mem .now) (c .before .before .before .loop .k - 1)))) (gather-enters (arrives false 0 (a .mem .now)) (c .before .before .before .before .before .before .before .before .before .pre .0 .0) (a .t) (a .mem .now) (c .before .before .before .before .before .before .before .before .before .pre .0 .1) (links (c .before .before)) (c .before .before .loop-test .taken)) .1)
+    ((_, c .before .before .before .before .before .before .before .before .before .pre .0 .1 .job), c .before .before .before .before .before .before .before .before .before .pre .1, f .row, omega arith, f .volume-most, c .before .before .before .before .before .before .before .before .before .pre .3 (edgeIn (nth (a .mem .now) (edgeAt (a .mem .now) (c .before .before .before .loop .k - 1)))) (gather-enters (arrives (c .before .before .before .before .before .before .before .before .before .args .rooms) false 0 (a .mem .now)) (c .before .before .before .before .before .before .before .before .before .pre .0 .0) (a .t) (a .mem .now) (c .before .before .before .before .before .before .before .before .before .pre .0 .1) (links (c .before .before)) (c .before .before .loop-test .taken)) .1)
 
 slice-aggregate-raise : tie.Need-slice-aggregate-raise Inv-loop μ-loop
 slice-aggregate-raise c = search needs
@@ -132,7 +144,7 @@ shared-slice-read-k-2 : tie.Need-shared-slice-read-k-2 Inv-loop μ-loop
 shared-slice-read-k-2 c = omega (arith, links (c .before .before .before .before .before .before .before .before) .most, c .before .before .before .before .before .before .before .before .before .loop .inv .0)
 
 loop-less : tie.Need-loop-less Inv-loop μ-loop
-loop-less c = let a = c .before .before .before .before .before .before .before .before .before .before .before .before .before .before .before .args in gather-falls (arrives false 0 (a .mem .now)) (c .before .before .before .before .before .before .before .before .before .before .before .before .before .before .before .pre .0 .0) (a .t) (a .mem .now) (c .before .before .before .before .before .before .before .before .before .before .before .before .before .before .before .pre .0 .1) (links (c .before .before .before .before .before .before .before .before)) (c .before .before .before .before .before .before .before .before .loop-test .taken)
+loop-less c = let a = c .before .before .before .before .before .before .before .before .before .before .before .before .before .before .before .args in gather-falls (arrives (c .before .before .before .before .before .before .before .before .before .before .before .before .before .before .before .args .rooms) false 0 (a .mem .now)) (c .before .before .before .before .before .before .before .before .before .before .before .before .before .before .before .pre .0 .0) (a .t) (a .mem .now) (c .before .before .before .before .before .before .before .before .before .before .before .before .before .before .before .pre .0 .1) (links (c .before .before .before .before .before .before .before .before)) (c .before .before .before .before .before .before .before .before .loop-test .taken)
 
 loop-again : tie.Need-loop-again Inv-loop μ-loop
 loop-again c =
@@ -142,7 +154,7 @@ loop-again c =
       c .before .before .raise .ensures .0,
       λ p h. rw (c .before .before .raise .ensures .1 p h) (omega (arith, l .inv .2 p h, most p)),
       λ p h.
-          gather-next (arrives false p (a .mem .now)) (c .before .before .before .before .before .before .before .before .before .before .before .before .before .before .before .pre .0 .0) (a .t) (a .mem .now) (c .before .before .before .before .before .before .before .before .before .before .before .before .before .before .before .pre .0 .1) (l .inv .3 p h) (c .before .before .before .before .before .before .before .before .loop-test .taken) (shortIn (nth (c .before .before .raise .last .0) p))
+          gather-next (arrives (c .before .before .before .before .before .before .before .before .before .before .before .before .before .before .before .args .rooms) false p (a .mem .now)) (c .before .before .before .before .before .before .before .before .before .before .before .before .before .before .before .pre .0 .0) (a .t) (a .mem .now) (c .before .before .before .before .before .before .before .before .before .before .before .before .before .before .before .pre .0 .1) (l .inv .3 p h) (c .before .before .before .before .before .before .before .before .loop-test .taken) (shortIn (nth (c .before .before .raise .last .0) p))
           (rw (c .before .before .raise .ensures .1 p (omega arith)) (short-later (nth (l .high) p) (nth low p) (l .inv .2 p (omega arith)) (most p) ∙ later-comm (shortIn (nth (l .high) p)) (shortIn (nth low p)) ∙ ap (λ (z : Time). later z (shortIn (nth (l .high) p))) (c .before .before .before .before .before .first-arrivals .ensures .1 p h))),
     )
 
@@ -156,7 +168,7 @@ returns : tie.Need-returns Inv-loop μ-loop
 unfolding dataIn
 returns c =
     let a = c .before .before .before .before .before .before .before .before .before .args in let l = c .before .before .before .loop in let s = l .inv .0 in
-    (c .widened .ensures .0, λ p h. let e = c .widened .ensures .1 p (omega arith) in (e .0 ∙ gather-done (arrives false p (a .mem .now)) (c .before .before .before .before .before .before .before .before .before .pre .0 .0) (a .t) (a .mem .now) (c .before .before .before .before .before .before .before .before .before .pre .0 .1) (l .inv .3 p h) (omega arith), e .1))
+    (c .widened .ensures .0, λ p h. let e = c .widened .ensures .1 p (omega arith) in (e .0 ∙ gather-done (arrives (c .before .before .before .before .before .before .before .before .before .args .rooms) false p (a .mem .now)) (c .before .before .before .before .before .before .before .before .before .pre .0 .0) (a .t) (a .mem .now) (c .before .before .before .before .before .before .before .before .before .pre .0 .1) (l .inv .3 p h) (omega arith), e .1))
 
 pub first-data-spec : {M : Type 1} → statement M
 first-data-spec =
@@ -164,6 +176,10 @@ first-data-spec =
     (tie.spec
     Inv-loop
     μ-loop
+    mul-in-head
+    mul-rows
+    mul-line
+    mul-in-next
     shared-slice-read-v
     shared-slice-read-m
     add-g
