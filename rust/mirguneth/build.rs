@@ -8,7 +8,8 @@ fn main() {
     println!("cargo::rerun-if-env-changed=MIRGUNETH_LIB");
     let folder = match env::var_os("MIRGUNETH_LIB") {
         Some(folder) => PathBuf::from(folder),
-        None => PathBuf::from(env!("CARGO_MANIFEST_DIR")).join("../../target/staticlib"),
+        None => PathBuf::from(env::var_os("CARGO_MANIFEST_DIR").expect("cargo names the folder"))
+            .join("../../target/staticlib"),
     };
     let library = folder.join("libexports.a");
     println!("cargo::rerun-if-changed={}", library.display());
