@@ -1,8 +1,9 @@
 -- The line of a refusal: an opening, a number and LF, written one after another.
 use mathlib.Core.Path.{_≡_, refl, ap, sym, _∙_}
 use mathlib.Core.List.{List, [], _∷_, _++_, append-assoc}
-use Prim.Native.Nat.{ℕ, _+_, _≤_}
+use Prim.Native.Nat.{ℕ, _+_, _<_, _≤_}
 use native.Mathlib.Omega.{arith}
+use borrow.Author.Tests.{lt-leb}
 use lib.ListN.{length, length-append}
 use Rattle.definitions.specs.Lists.{bytes}
 use Rattle.definitions.specs.Limits.{document01}
@@ -27,6 +28,12 @@ module _ (opening : List ℕ) (n : ℕ) where
 
   pub line-length : length (lineText document01 opening (n ∷ [])) ≡ length opening + width document01 n + 1
   line-length = omega (arith, length-line document01 opening (n ∷ []), length-numbers document01 n [], length-none document01)
+
+  -- It does not fit the output d.
+  pub line-unfit : (d : List ℕ) → length d < length opening + width document01 n + 1 → (0 ≡ placeAfter d 0 (lineText document01 opening (n ∷ []))) × (d ≡ written d 0 (lineText document01 opening (n ∷ [])))
+  line-unfit d h =
+      let l : length d < 0 + length (lineText document01 opening (n ∷ [])) = omega (arith, line-length) in
+      rw (lt-leb _ _ l) (refl, refl)
 
   -- It fits the output d; x is d with the opening written, y is x with the digits written behind it.
   module _ (d x y : List ℕ) (a b : ℕ) (h : length (lineText document01 opening (n ∷ [])) ≤ length d) (ex : x ≡ written d 0 opening) (ea : a ≡ placeAfter d 0 opening)

@@ -20,6 +20,7 @@ use Rattle.mirguneth.specs.Memory.{edgeIn}
 use Rattle.mirguneth.specs.Schedule.{edgeAt, jobIn, KeptOutside, JobHeld, LevelsFilled}
 use Rattle.mirguneth.specs.Rounds.{levelsIn, roundMost, levelMost, TableMost, sent, SuccessorsFilled, RunsFilled, RunsAdded}
 use Rattle.mirguneth.proofs.Held.{below-same, tasks-in, edge-in, Sizes, sizes, edge-below, kept-all, kept-then, kept-wider, kept-set, job-kept, held-kept}
+use Rattle.mirguneth.proofs.Held as Held
 use Rattle.mirguneth.proofs.RowSums.{sum-least, total-in, total-most, scaled-most}
 use Rattle.mirguneth.proofs.Upward.{map-more, keep-yes, keep-no, greatest-last, table-more, table-other}
 
@@ -100,8 +101,8 @@ module _ {rooms : ℕ} {d mem : List ℕ} (held : JobHeld rooms d) (k : KeptOuts
   turn l =
       let s = sizes held in
       let m = edge-in d i h in
-      let f : nth d (edgeAt d i) % 256 < nth d 0 = omega (arith, tasks-in d, held .facts .from-task (edgeOf d i) m) in
-      let t : nth d (edgeAt d i) / 256 % 256 < nth d 0 = to-in d held (edgeOf d i) m in
+      let f = Held.from-below held i h in
+      let t = Held.to-below held i h in
       rw (cell-kept, e)
       (record {
         from-below = f;

@@ -20,7 +20,7 @@ use Rattle.mirguneth.specs.Layout.{memorySize, outHeadAt, outNextAt, lev
 use Rattle.mirguneth.specs.Memory.{edgeIn}
 use Rattle.mirguneth.specs.Schedule.{edgeAt, jobIn, topIn, chain, KeptOutside, Standing, FedIn, FarFilled}
 use Rattle.mirguneth.specs.Planning.{earliesIn, FreeList, inserted, Drawn, Ranked}
-use Rattle.mirguneth.proofs.Held.{tasks-in, edge-in, edge-below, same-behind, Sizes, sizes, job-kept, placed-same, chain-step, chain-end, kept-all, kept-set}
+use Rattle.mirguneth.proofs.Held.{tasks-in, to-below, edge-below, same-behind, Sizes, sizes, job-kept, placed-same, chain-step, chain-end, kept-all, kept-set}
 use Rattle.mirguneth.proofs.MarkLaws.{keep-same}
 use Rattle.mirguneth.proofs.FreeLaws.{Recounted, free-in, free-same}
 use Rattle.mirguneth.proofs.Drawing.{drawn-choice, top-here, fed-none, short-most}
@@ -128,7 +128,7 @@ module _ {rooms n : ℕ} {d : List ℕ} (s : Drawn rooms n d) where
       goes-here = ap (λ (x : ℕ). x / 256 % 256) (r .kept .before (edgeAt d (k - 1)) (omega (arith, edge-below w (k - 1) within)))
 
       release-below : goes < nth d 0
-      release-below = rw goes-here (rw (tasks-in d) at (s .standing .job .facts .to-task here (edge-in d (k - 1) within)))
+      release-below = rw goes-here (to-below (s .standing .job) (k - 1) within)
 
       goes-below : goes < nth mem 0
       goes-below = rw (r .kept .before 0 (omega arith)) release-below

@@ -71,6 +71,6 @@ farAt rooms = 497 * rooms
 abbrev pub bestAt : ℕ → ℕ
 bestAt rooms = 281 * rooms
 
--- M, after it.
+-- M of that plan, in the same table.
 abbrev pub worstAt : ℕ → ℕ
 worstAt rooms = 282 * rooms

@@ -1,14 +1,13 @@
 -- The test says whether the line fits; then its three parts are written one after another.
-use mathlib.Core.Path.{refl, _∙_}
+use mathlib.Core.Path.{_∙_}
 use mathlib.Core.List.{[], _∷_}
-use Prim.Native.Nat.{_≤_, _<_, _+_}
+use Prim.Native.Nat.{_≤_}
 use native.Mathlib.Omega.{arith}
 use borrow.Author.Needs.{needs}
-use borrow.Author.Tests.{lt-leb}
 use lib.ListN.{length}
 use Rattle.definitions.specs.Limits.{document01}
 use Rattle.definitions.specs.Text.{lineText}
-use Rattle.console.proofs.Lines.{line-length, line-written, line-place}
+use Rattle.console.proofs.Lines.{line-length, line-unfit, line-written, line-place}
 use Rattle.console.proofs.write_line.Statement.{statement}
 use Rattle.console.proofs.write_line.Tie as tie
 
@@ -17,20 +16,14 @@ width-of-requires c κs = search needs
 
 returns : tie.Need-returns
 returns c =
-    let a = c .before .before .before .before .args in
-    let l = line-length (a .opening .now) (a .n) in
-    let h : length (a .out .now) < 0 + length (lineText document01 (a .opening .now) (a .n ∷ [])) = omega arith in
-    rw (lt-leb _ _ h) (refl, refl)
+    let a = c .before .before .before .before .args in line-unfit (a .opening .now) (a .n) (a .out .now) (omega arith)
 
 sub-if2 : tie.Need-sub-if2
 sub-if2 c = search needs
 
 returns-2 : tie.Need-returns-2
 returns-2 c =
-    let a = c .before .before .before .before .before .args in
-    let l = line-length (a .opening .now) (a .n) in
-    let h : length (a .out .now) < 0 + length (lineText document01 (a .opening .now) (a .n ∷ [])) = omega arith in
-    rw (lt-leb _ _ h) (refl, refl)
+    let a = c .before .before .before .before .before .args in line-unfit (a .opening .now) (a .n) (a .out .now) (omega arith)
 
 write-fixed-requires : tie.Need-write-fixed-requires
 write-fixed-requires c κs = search needs
