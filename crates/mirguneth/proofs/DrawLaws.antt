@@ -19,7 +19,7 @@ use Rattle.definitions.proofs.Chosen.{chosen-count}
 use Rattle.definitions.proofs.Placing.{greatest-in}
 use Rattle.mirguneth.specs.Schedule.{choiceOf}
 use Rattle.mirguneth.specs.Planning.{bestOf}
-use Rattle.mirguneth.proofs.MarkLaws.{keep-same, keep-keep}
+use Rattle.mirguneth.proofs.ListLaws.{keep-same, keep-keep}
 use Rattle.mirguneth.proofs.Upward.{count-yes, count-no}
 
 -- Lists -----------------------------------------------------------------------------------------------------------

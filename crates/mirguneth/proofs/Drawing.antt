@@ -20,7 +20,7 @@ use Rattle.definitions.specs.Planner.{tickOf, Waiting, freeTasks, ranked, scale
 use Rattle.definitions.proofs.Lists.{both, in-map, in-keep, map-same, map-keep, in-append, append-left, append-right, in-below, all-in}
 use Rattle.definitions.proofs.Tasks.{copyOf, in-incoming}
 use Rattle.definitions.proofs.Placing.{placed-count}
-use Rattle.mirguneth.specs.Layout.{memorySize, jobSize, levelAt, raisedAt, lineAt, blockedAt, priorityAt, rowAt, farAt}
+use Rattle.mirguneth.specs.Layout.{memorySize, jobSize, levelAt, lineAt, blockedAt, priorityAt, rowAt, farAt}
 use Rattle.mirguneth.specs.Schedule.{jobIn, neverCell, timeIn, choiceOf, rowOutcomes, placedIn, rowReplicas, linesIn, rowOf, dataIn, topIn, KeptOutside, FedIn, lineTicks, Standing, ShortTo}
 use Rattle.mirguneth.specs.Arrivals.{lastShort, BothFed, ShortClocks}
 use Rattle.mirguneth.specs.declared.clocks.Clocks.{Clocks}
@@ -29,7 +29,7 @@ use Rattle.mirguneth.proofs.Held.{zero-or-more, tasks-in, processors-in
 use Rattle.mirguneth.proofs.Upward.{below-more, keep-yes, keep-no}
 use Rattle.mirguneth.proofs.TimeLaws.{time-tick}
 use Rattle.mirguneth.proofs.Placed.{has-placed, feeding-line, fed-all, start-placed, level-placed, FedBy}
-use Rattle.mirguneth.proofs.MarkLaws.{keep-same, keep-keep}
+use Rattle.mirguneth.proofs.ListLaws.{keep-same, keep-keep}
 use Rattle.mirguneth.proofs.DrawLaws.{isChosen, chosen-room, chosen-same, trial-nth, none-kept, all-same, some-free, best-in, waiting-from, Comes, comes-wider, comes-after, comes-later, comes-largest, comes-choice}
 
 -- The cells of a line -----------------------------------------------------------------------------------------------
@@ -225,7 +225,7 @@ drawn-same {rooms} {k} {d} {e} z j r f s =
       standing = standing-same z b (same-part (lineAt rooms) (blockedAt rooms) j (omega arith) (omega arith)) r (s .standing);
       linked = linked-out-same h b (s .linked);
       far = far-same h a f (s .far);
-      levels = levels-same h a (same-part (levelAt rooms) (raisedAt rooms) j (omega arith) (omega arith)) (s .levels);
+      levels = levels-same h a (same-part (levelAt rooms) (lineAt rooms) j (omega arith) (omega arith)) (s .levels);
       ticks = λ i c g m.
           let n : c < nth d 3 + 1 = rw l at m in
           let (x, y) = s .ticks i c g n in

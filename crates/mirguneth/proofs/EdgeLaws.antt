@@ -17,7 +17,7 @@ use Rattle.definitions.specs.Job.{Edge, edgeOf, edgeLine, edgeRule, edgeOrder}
 use Rattle.definitions.proofs.Lists.{both, both-true, either-right}
 use Rattle.mirguneth.specs.Memory.{edgeCell, edgeIn, pairBit, Pairs}
 use Rattle.mirguneth.proofs.LineLaws.{take-more}
-use Rattle.mirguneth.proofs.MarkLaws.{any-last}
+use Rattle.mirguneth.proofs.ListLaws.{any-last}
 use Rattle.mirguneth.proofs.RowLaws.{drop-lent}
 
 -- An edge in a cell, and back.

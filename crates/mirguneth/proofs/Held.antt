@@ -14,7 +14,7 @@ use Rattle.definitions.specs.Lists.{if_then_else_, nth, countFrom, below, In}
 use Rattle.definitions.specs.Job.{Edge, Job, runTime, delay}
 use Rattle.definitions.proofs.Lists.{map-same, in-below, below-in, length-count, map-in}
 use Rattle.mirguneth.specs.Memory.{edgeIn}
-use Rattle.mirguneth.specs.Layout.{memorySize, jobSize, inHeadAt, inNextAt, outHeadAt, outNextAt, levelAt, raisedAt, lineAt, blockedAt, rowAt, farAt}
+use Rattle.mirguneth.specs.Layout.{memorySize, jobSize, inHeadAt, inNextAt, outHeadAt, outNextAt, levelAt, lineAt, blockedAt, rowAt, farAt}
 use Rattle.mirguneth.specs.Schedule.{edgeAt, jobIn, rowOutcomes, placedIn, rowReplicas, linesIn, chain, Chained, KeptOutside, RowHeld, JobHeld, Standing, LinkedOut, LevelsFilled, FarFilled}
 use Rattle.mirguneth.proofs.RowLaws.{row-ends}
 
@@ -375,7 +375,7 @@ module _ {rooms : ℕ} {d e : List ℕ} (h : JobHeld rooms d) where
       let a : Same 0 (jobSize rooms) d e = same-part 0 (jobSize rooms) j (omega arith) (omega arith) in
       rw (job-same w a) (chained-same w a (same-part (outHeadAt rooms) (outHeadAt rooms + nth d 0) j (omega arith) (omega arith)) (same-part (outNextAt rooms) (outNextAt rooms + nth d 2) j (omega arith) (omega arith)) c)
 
-  pub levels-same : Same 0 (jobSize rooms) d e → Same (levelAt rooms) (raisedAt rooms) d e → LevelsFilled rooms d → LevelsFilled rooms e
+  pub levels-same : Same 0 (jobSize rooms) d e → Same (levelAt rooms) (lineAt rooms) d e → LevelsFilled rooms d → LevelsFilled rooms e
   levels-same j l f t g =
       let w = sizes h in
       let b : t < nth d 0 = rw (j .cell 0 (omega arith) (omega arith)) at g in

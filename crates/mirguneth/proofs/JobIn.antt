@@ -32,7 +32,7 @@ getD-in (x ∷ xs) zero d h = inl refl
 getD-in (x ∷ xs) (suc i) d h = inr (getD-in xs i d (omega arith))
 
 -- The values of f at the numbers below n are the members of xs.
-members : {A : Type 0} (f : ℕ → A) (d : A) (n : ℕ) (xs : List A) → length xs ≡ n → ((i : ℕ) → i < n → f i ≡ getD xs i d) → map f (below n) ≡ xs
+pub members : {A : Type 0} (f : ℕ → A) (d : A) (n : ℕ) (xs : List A) → length xs ≡ n → ((i : ℕ) → i < n → f i ≡ getD xs i d) → map f (below n) ≡ xs
 members f d n xs l h =
     let m : length (map f (below n)) ≡ n = length-map (below n) f ∙ length-count 0 n in
     ext-getD d (map f (below n)) xs (m ∙ sym l) (λ i g.

@@ -2,7 +2,7 @@ pub mod LineLaws
 pub mod WalkLaws
 pub mod ReaderLaws
 pub mod RowLaws
-pub mod MarkLaws
+pub mod ListLaws
 pub mod EdgeLaws
 pub mod Answers
 pub mod AnswerLaws
@@ -19,6 +19,9 @@ pub mod Placed
 pub mod EndLaws
 pub mod Upward
 pub mod RowSums
+pub mod OrderLaws
+pub mod SortLaws
+pub mod CircleLaws
 pub mod LevelLaws
 pub mod ChoiceLaws
 pub mod WriteLaws

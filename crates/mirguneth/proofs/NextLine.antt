@@ -20,7 +20,7 @@ use Rattle.definitions.specs.Planner.{tickOf, largestDelay, scale, topLevel, tr
 use Rattle.definitions.proofs.Lists.{both, both-true, in-map, in-keep, map-same, map-keep, in-below}
 use Rattle.definitions.proofs.Tasks.{in-incoming}
 use Rattle.definitions.proofs.Chosen.{chosen-count, chosen-below, chosen-distinct}
-use Rattle.mirguneth.specs.Layout.{memorySize, jobSize, inHeadAt, inNextAt, levelAt, raisedAt, lineAt, blockedAt, priorityAt, rowAt, farAt}
+use Rattle.mirguneth.specs.Layout.{memorySize, jobSize, inHeadAt, inNextAt, levelAt, lineAt, blockedAt, priorityAt, rowAt, farAt}
 use Rattle.mirguneth.specs.Schedule.{jobIn, timeIn, choiceOf, rowOutcomes, placedIn, rowReplicas, linesIn, KeptOutside, RowHeld, Standing, FedIn, topIn, lineTicks}
 use Rattle.mirguneth.specs.Arrivals.{BothFinish}
 use Rattle.mirguneth.specs.declared.clocks.Clocks.{Clocks}
@@ -28,7 +28,7 @@ use Rattle.mirguneth.specs.Planning.{isFree, freeIn, bestOf, waitingIn, 
 use Rattle.mirguneth.proofs.Held.{last-or-before, tasks-in, processors-in, Same, same-part, Sizes, sizes, job-same, held-same, placed-same, lines-same, row-held-same, chained-same, linked-out-same, levels-same, far-same, kept-set, kept-wider}
 use Rattle.mirguneth.proofs.TimeLaws.{time-tick}
 use Rattle.mirguneth.proofs.Placed.{ofTask-append, row-none, fed-all, level-placed}
-use Rattle.mirguneth.proofs.MarkLaws.{keep-same, keep-keep}
+use Rattle.mirguneth.proofs.ListLaws.{keep-same, keep-keep}
 use Rattle.mirguneth.proofs.DrawLaws.{keep-swap, count-split, count-reverse, place-turn, outcomeOn, walk-apart, replicas-map, Comes, tick-back, tick-most}
 use Rattle.mirguneth.proofs.Drawing.{free-ranked, replicaAt, in-replicas, outcomeOf, outcomes-row, finish-at, finish-comes, waitingAt, waiting-map, free-fed, top-here, lines-left, rest-here, task-below, task-waits, task-fed}
 
@@ -298,7 +298,7 @@ module _ {rooms k : ℕ} {d : List ℕ} (s : Drawn rooms k d) (h : k < nth d 0) 
           standing = standing-next;
           linked = linked-out-same job (same-part 0 (levelAt rooms) before-lines (omega arith) (omega arith)) (s .linked);
           far = far-same job job-cells far-table (s .far);
-          levels = levels-same job job-cells (same-part (levelAt rooms) (raisedAt rooms) before-lines (omega arith) (omega arith)) (s .levels);
+          levels = levels-same job job-cells (same-part (levelAt rooms) (lineAt rooms) before-lines (omega arith) (omega arith)) (s .levels);
           ticks = λ i c l m.
               let n : c < nth d 3 + 1 = rw losses-same at m in
               let few : c < 8 = omega (arith, w .losses-most) in

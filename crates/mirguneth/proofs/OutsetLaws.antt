@@ -18,7 +18,7 @@ use Rattle.definitions.specs.Planner.{waitingFrom, bottomLevels, planFor}
 use Rattle.definitions.proofs.Lists.{both, keep-length, keep-every, nth-below, length-count, in-below}
 use Rattle.definitions.proofs.Tasks.{in-incoming}
 use Rattle.definitions.proofs.BottomLevels.{length-bottom-levels}
-use Rattle.mirguneth.specs.Layout.{memorySize, jobSize, inHeadAt, inNextAt, levelAt, raisedAt, lineAt, blockedAt, priorityAt, rowAt, farAt}
+use Rattle.mirguneth.specs.Layout.{memorySize, jobSize, inHeadAt, inNextAt, levelAt, lineAt, blockedAt, priorityAt, rowAt, farAt}
 use Rattle.mirguneth.specs.Memory.{edgeIn}
 use Rattle.mirguneth.specs.Schedule.{edgeAt, jobIn, placedIn, linesIn, topIn, KeptOutside, JobHeld, LinkedIn, LinkedOut, FarFilled, LevelsFilled}
 use Rattle.mirguneth.specs.declared.clocks.Clocks.{Clocks}
@@ -204,7 +204,7 @@ outset-clocks h e l =
 
 -- Links, levels, largest delays, cleared tasks and counted edges, one after the other.
 module _ {rooms : ℕ} {d a b c e f : List ℕ} (h : JobHeld rooms d) (linked : KeptOutside (inHeadAt rooms) (levelAt rooms) d a × LinkedIn rooms a × LinkedOut rooms a)
-    (levelled : KeptOutside (levelAt rooms) (rowAt rooms 0) a b × LevelsFilled rooms b) (spread : KeptOutside (farAt rooms) (memorySize rooms) b c × FarFilled rooms c)
+    (levelled : KeptOutside (levelAt rooms) (lineAt rooms) a b × LevelsFilled rooms b) (spread : KeptOutside (farAt rooms) (memorySize rooms) b c × FarFilled rooms c)
     (cleared : KeptOutside (lineAt rooms) (rowAt rooms 0) c e × Cleared rooms (nth e 0) e)
     (counted : KeptOutside (blockedAt rooms) (priorityAt rooms) e f × ((t : ℕ) → t < nth f 0 → nth f (blockedAt rooms + t) ≡ length (incoming (jobIn f) t))) where
   held-a : JobHeld rooms a
@@ -247,7 +247,7 @@ module _ {rooms : ℕ} {d a b c e f : List ℕ} (h : JobHeld rooms d) (linked : 
       (rw (job-same w i) (chained-same w i (same-part (inHeadAt rooms) (inHeadAt rooms + nth a 0) j (omega arith) (omega arith)) (same-part (inNextAt rooms) (inNextAt rooms + nth a 2) j (omega arith) (omega arith)) (linked .1)))
       (linked-out-same held-a j (linked .2))
       (far-same held-c (same-before 0 (jobSize rooms) after-far (omega arith)) (same-behind (farAt rooms) (memorySize rooms) after-far (omega arith)) (spread .1))
-      (levels-same held-b (same-before 0 (jobSize rooms) after-levels (omega arith)) (same-before (levelAt rooms) (raisedAt rooms) after-levels (omega arith)) (levelled .1))
+      (levels-same held-b (same-before 0 (jobSize rooms) after-levels (omega arith)) (same-before (levelAt rooms) (lineAt rooms) after-levels (omega arith)) (levelled .1))
 
   pub outset-counts : Ranked rooms [] f
   outset-counts =

@@ -18,7 +18,7 @@ use Rattle.mirguneth.specs.Layout.{inHeadAt, inNextAt, lineAt, rowAt}
 use Rattle.mirguneth.specs.Schedule.{edgeAt, jobIn, rowReplicas, linesIn, chain, LinkedIn, RowHeld, Standing}
 use Rattle.mirguneth.specs.Loading.{lineIn}
 use Rattle.mirguneth.proofs.DrawLaws.{all-same}
-use Rattle.mirguneth.proofs.MarkLaws.{any-last}
+use Rattle.mirguneth.proofs.ListLaws.{any-last}
 use Rattle.mirguneth.proofs.Held.{last-or-before, chain-step, chain-end, tasks-in}
 
 -- The head --------------------------------------------------------------------------------------------------------

@@ -4,7 +4,6 @@ use mathlib.Core.List.{List, [], _∷_, reverse}
 use mathlib.Core.Bool.{Bool, true, false}
 use Prim.Native.Nat.{ℕ, suc, _+_, _*_, _-_, _/_, _%_, _<_, _≤_}
 use native.Mathlib.Omega.{arith}
-use native.Mathlib.Nat.{mul-le-mul}
 use borrow.Author.Tests.{eqb-true, eqb-false, eq-eqb}
 use lib.Dec.{eqb}
 use lib.ListN.{length, take, set, length-set}
@@ -12,16 +11,17 @@ use lib.Seq.{getD-set-same, getD-set-other}
 use Rattle.definitions.specs.Lists.{if_then_else_, nth, keep}
 use Rattle.definitions.specs.Limits.{document01}
 use Rattle.definitions.specs.Job.{Edge, incoming, outgoing}
-use Rattle.definitions.specs.Planner.{tickOf, scale, topLevel, bottomLevels}
-use Rattle.definitions.proofs.Lists.{both, both-true, nth-most}
+use Rattle.definitions.specs.Planner.{tickOf, scale, topLevel}
+use Rattle.definitions.proofs.Lists.{both, both-true}
 use Rattle.definitions.proofs.Tasks.{in-incoming}
-use Rattle.definitions.proofs.Bounds.{bottom-most}
 use Rattle.mirguneth.specs.Layout.{memorySize, outHeadAt, outNextAt, levelAt, lineAt, blockedAt, priorityAt, rowAt}
 use Rattle.mirguneth.specs.Memory.{edgeIn}
 use Rattle.mirguneth.specs.Schedule.{edgeAt, jobIn, topIn, chain, KeptOutside, Standing, FedIn, FarFilled}
 use Rattle.mirguneth.specs.Planning.{earliesIn, FreeList, inserted, Drawn, Ranked}
+use Rattle.mirguneth.specs.Levels.{levelMost}
 use Rattle.mirguneth.proofs.Held.{tasks-in, to-below, edge-below, same-behind, Sizes, sizes, job-kept, placed-same, chain-step, chain-end, kept-all, kept-set}
-use Rattle.mirguneth.proofs.MarkLaws.{keep-same}
+use Rattle.mirguneth.proofs.LevelLaws.{level-most}
+use Rattle.mirguneth.proofs.ListLaws.{keep-same}
 use Rattle.mirguneth.proofs.FreeLaws.{Recounted, free-in, free-same}
 use Rattle.mirguneth.proofs.Drawing.{drawn-choice, top-here, fed-none, short-most}
 
@@ -225,14 +225,9 @@ module _ {rooms n : ℕ} {d : List ℕ} (s : Drawn rooms n d) where
             let x = drawn-choice lowered-kept s (omega arith) (omega arith) in
             ((n, x .standing, λ j c l m. omega (arith, x .ticks j c l m .0, short-most (s .standing) (omega arith) (s .ticks))), rw (lowered-kept .before 0 (omega arith)) release-below, released, x .far)
 
-        pub release-level : nth lowered (levelAt rooms + goes) ≤ 133_447_008_000
-        unfolding jobIn
+        pub release-level : nth lowered (levelAt rooms + goes) ≤ levelMost
         release-level =
-            let f = s .standing .job .facts in
-            let m = nth d 1 in
-            let few : m * m ≤ 256 = mul-le-mul {n₁ = m} {m₁ = m} {n₂ = 16} {m₂ = 16} (w .processors-most) (w .processors-most) in
-            rw (lowered-kept .before (levelAt rooms + goes) (omega (arith, release-below, w .tasks-most)), s .levels goes release-below)
-            (omega (arith, nth-most (bottomLevels (jobIn d)) goes (bottom-most document01 (jobIn d) f)))
+            rw (lowered-kept .before (levelAt rooms + goes) (omega (arith, release-below, w .tasks-most)), s .levels goes release-below) (level-most (s .standing .job) goes)
 
         pub release-free : (x : ℕ) → x ≡ tickOf (topIn rooms goes lowered) * scale (jobIn lowered) → Releasing rooms n next d (set lowered (priorityAt rooms + goes) (x + nth lowered (levelAt rooms + goes)))
         release-free x e =

@@ -2,7 +2,7 @@
 use mathlib.Core.Path.{_≡_, refl, ap, _∙_}
 use mathlib.Core.List.{List, [], _∷_, map}
 use mathlib.Core.Bool.{Bool, true, false, not}
-use Prim.Native.Nat.{ℕ, zero, suc, _+_, _*_, _-_, _<_, _≤_}
+use Prim.Native.Nat.{ℕ, _+_, _*_, _-_, _<_, _≤_}
 use native.Mathlib.Omega.{arith}
 use native.Mathlib.Nat.{mul-le-mul}
 use borrow.Author.Tests.{eqb-true, eqb-false, ne-eqb}
@@ -52,12 +52,6 @@ module _ (mem : List ℕ) where
 
 pub sum-below : (f : ℕ → ℕ) (b n : ℕ) → ((i : ℕ) → i < n → f i ≤ b) → sum (map f (below n)) ≤ n * b
 sum-below f b n h = rw (length-count 0 n) at (sum-most f (below n) (λ i m. h i (in-below n i m)))
-
--- The first number is no more than the sum.
-pub sum-least : (f : ℕ → ℕ) (n : ℕ) → 1 ≤ n → f 0 ≤ sum (map f (below n))
-unfolding sum countFrom
-sum-least f zero h = absurd (omega arith)
-sum-least f (suc n) h = omega arith
 
 -- A member of which f is 0 may be left out.
 sum-others : (f : ℕ → ℕ) (p : ℕ) (xs : List ℕ) → f p ≡ 0 → sum (map f (keep (λ q. not (eqb q p)) xs)) ≡ sum (map f xs)

@@ -4,7 +4,7 @@ use mathlib.Core.List.{List, [], map}
 use mathlib.Core.Bool.{Bool, true, false, not, _||_}
 use Prim.Native.Nat.{ℕ, suc, _+_, _*_, _-_, _<_, _≤_}
 use native.Mathlib.Omega.{arith}
-use borrow.Author.Tests.{lt-ltb, le-ltb}
+use borrow.Author.Tests.{lt-ltb, le-ltb, ltb-true, not-false}
 use lib.Dec.{ltb}
 use lib.ListN.{length, take, drop, replicate, drop-of-length-le, List·getD-append}
 use lib.Seq.{drop-cons, getD-take, length-take-le}
@@ -12,14 +12,15 @@ use Rattle.definitions.specs.Lists.{bytes, nth, below, empty}
 use Rattle.definitions.specs.Limits.{document01}
 use Rattle.definitions.specs.Text.{found, refused, next, due, firstOf, line, lines, bad}
 use Rattle.definitions.specs.Job.{Edge, JobHead, jobHeadOf, jobHead, jobHeadRule, outside, runRule, delayRule, edgeLine, edgeRule, remaining, circular, jobLines, readJob}
-use Rattle.definitions.proofs.Lists.{either-right, not-outside}
-use Rattle.definitions.proofs.Reading.{job-head-parts}
+use Rattle.definitions.proofs.Lists.{either-right, neither, not-outside, passed}
+use Rattle.definitions.proofs.Reading.{lines-found, ruled-in, job-head-parts}
 use Rattle.slices.specs.Over.{over}
 use Rattle.slices.proofs.Over.{length-over}
 use Rattle.text.specs.declared.Step.{Step}
 use Rattle.text.specs.declared.Step.the-variants.{Next, Refused}
 use Rattle.mirguneth.specs.Layout.{cellsFor}
 use Rattle.mirguneth.specs.Memory.{jobCells, Pairs}
+use Rattle.mirguneth.specs.Order.{Within}
 use Rattle.mirguneth.specs.Answers.{Loaded}
 use Rattle.mirguneth.specs.Stages.{jobOf, fromEdges, fromDelays, fromRuns, fromHead, closed, edgesAt, Headed}
 use Rattle.mirguneth.proofs.EdgeLaws.{pairs-none}
@@ -103,6 +104,17 @@ module _ (d head : List ℕ) (n : length head ≡ 4) (l : 4 ≤ length d) where
   copied-loaded s e at r q h = rw (q, ← copied-head) h
 
 -- From the E lines on -------------------------------------------------------------------------------------------
+
+-- The edges of lines that were read are between tasks of the job.
+pub edges-within : (v n : ℕ) (s : List ℕ) (es : List Edge) (r : List ℕ) → lines (edgeLine document01) (edgeRule document01 v) n [] s ≡ found es r → Within v es
+unfolding edgeRule
+edges-within v n s es r f e i =
+    let (ys, q, _, w) = lines-found (edgeLine document01) (edgeRule document01 v) n [] s es r f in
+    let (seen, _, z) = ruled-in (edgeLine document01) (edgeRule document01 v) [] ys w e (rw q at i) in
+    let (a, _) = passed _ _ _ z in
+    let (b, _) = neither _ (outside 0 (document01 .volume) (e .volume)) a in
+    let (c, d) = neither (not (ltb (e .from) v)) (not (ltb (e .to) v)) b in
+    (ltb-true _ _ (not-false _ c), ltb-true _ _ (not-false _ d))
 
 module _ (h : JobHead) (runs delays : List (List ℕ)) (s mem : List ℕ) where
   pub edges-no : (n : ℕ) → lines (edgeLine document01) (edgeRule document01 (h .tasks)) (h .edges) [] s ≡ refused n

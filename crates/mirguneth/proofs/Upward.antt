@@ -1,16 +1,16 @@
 -- Lists over the numbers below n, with one number more: what a loop that goes upwards has passed.
-use mathlib.Core.Path.{_≡_, refl, ap, sym, _∙_}
+use mathlib.Core.Path.{_≡_, refl, ap, _∙_}
 use mathlib.Core.Logic.{_⊎_, ⊎-elim}
 use mathlib.Core.List.{List, [], _∷_, _++_, map, map-append, append-nil}
-use mathlib.Core.Bool.{Bool, true, false, _&&_}
+use mathlib.Core.Bool.{Bool, true, false}
 use Prim.Native.Nat.{ℕ, zero, suc, _+_, _<_, _≤_, max}
 use native.Mathlib.Omega.{arith}
 use native.Mathlib.Numerals.{add-one}
 use lib.Dec.{eqb}
-use lib.ListN.{length, set, length-append, length-map}
+use lib.ListN.{length, set, length-append}
 use lib.Seq.{getD-set-same, getD-set-other}
-use borrow.Author.Tests.{eqb-true, eqb-false, eq-eqb, ne-eqb}
-use Rattle.definitions.specs.Lists.{if_then_else_, nth, countFrom, below, keep, sum, greatest, sameNumbers}
+use borrow.Author.Tests.{eqb-true, eqb-false}
+use Rattle.definitions.specs.Lists.{if_then_else_, nth, countFrom, below, keep, sum, greatest}
 
 pub count-last : (k n : ℕ) → countFrom k (suc n) ≡ countFrom k n ++ (k + n) ∷ []
 unfolding countFrom
@@ -81,40 +81,3 @@ table-more f mem at n x h g e i l = by (eqb i n) refl
 pub table-other : (f : ℕ → ℕ) (mem : List ℕ) (at n k x : ℕ) → ((i : ℕ) → i < n → nth mem (at + i) ≡ f i) → (k < at) ⊎ (at + n ≤ k)
     → (i : ℕ) → i < n → nth (set mem k x) (at + i) ≡ f i
 table-other f mem at n k x h g i l = getD-set-other mem k (at + i) x 0 (λ s. ⊎-elim (λ a. omega arith) (λ a. omega arith) g) ∙ h i l
-
--- Two lists of the same length with one member more.
-same-last : (xs ys : List ℕ) (x y : ℕ) → length xs ≡ length ys → sameNumbers (xs ++ x ∷ []) (ys ++ y ∷ []) ≡ (sameNumbers xs ys && eqb x y)
-unfolding sameNumbers
-same-last [] [] x y e = by (eqb x y)
-  where
-    by : (b : Bool) → (b && true) ≡ b
-    by true = refl
-    by false = refl
-same-last [] (b ∷ ys) x y e = absurd (omega arith)
-same-last (a ∷ xs) [] x y e = absurd (omega arith)
-same-last (a ∷ xs) (b ∷ ys) x y e = by (eqb a b) (same-last xs ys x y (omega arith))
-  where
-    by : (t : Bool) → sameNumbers (xs ++ x ∷ []) (ys ++ y ∷ []) ≡ (sameNumbers xs ys && eqb x y)
-        → (t && sameNumbers (xs ++ x ∷ []) (ys ++ y ∷ [])) ≡ (t && sameNumbers xs ys && eqb x y)
-    by true r = r
-    by false r = refl
-
-same-more : (f g : ℕ → ℕ) (n : ℕ) → sameNumbers (map f (below (n + 1))) (map g (below (n + 1))) ≡ (sameNumbers (map f (below n)) (map g (below n)) && eqb (f n) (g n))
-same-more f g n =
-    rw (map-more f n, map-more g n) (same-last (map f (below n)) (map g (below n)) (f n) (g n) (length-map (below n) f ∙ sym (length-map (below n) g)))
-
--- Both lists go on alike, or not.
-module _ (f g : ℕ → ℕ) (n : ℕ) where
-  pub same-yes : f n ≡ g n → sameNumbers (map f (below (n + 1))) (map g (below (n + 1))) ≡ sameNumbers (map f (below n)) (map g (below n))
-  same-yes e = same-more f g n ∙ rw (eq-eqb (f n) (g n) e) (by (sameNumbers (map f (below n)) (map g (below n))))
-    where
-      by : (b : Bool) → (b && true) ≡ b
-      by true = refl
-      by false = refl
-
-  pub same-no : (f n ≡ g n → ⊥) → sameNumbers (map f (below (n + 1))) (map g (below (n + 1))) ≡ false
-  same-no e = same-more f g n ∙ rw (ne-eqb (f n) (g n) e) (by (sameNumbers (map f (below n)) (map g (below n))))
-    where
-      by : (b : Bool) → (b && false) ≡ false
-      by true = refl
-      by false = refl

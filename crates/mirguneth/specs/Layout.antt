@@ -5,7 +5,7 @@ use Rattle.definitions.specs.Job.{JobHead}
 
 -- All cells.
 abbrev pub memorySize : ℕ → ℕ
-memorySize rooms = 513 * rooms
+memorySize rooms = 505 * rooms
 
 -- The cells that a job may take, with those used on the way.
 abbrev pub jobSize : ℕ → ℕ
@@ -39,38 +39,30 @@ outNextAt rooms = 225 * rooms
 abbrev pub levelAt : ℕ → ℕ
 levelAt rooms = 257 * rooms
 
--- Bottom levels of the next round.
-abbrev pub raisedAt : ℕ → ℕ
-raisedAt rooms = 265 * rooms
-
 -- For each task its line in the plan, counted from 1; 0 if it is not placed.
 abbrev pub lineAt : ℕ → ℕ
-lineAt rooms = 273 * rooms
+lineAt rooms = 265 * rooms
 
 -- For each task the number of its edges from tasks that are not placed.
 abbrev pub blockedAt : ℕ → ℕ
-blockedAt rooms = 281 * rooms
+blockedAt rooms = 273 * rooms
 
 -- For each free task its priority.
 abbrev pub priorityAt : ℕ → ℕ
-priorityAt rooms = 289 * rooms
-
--- For each task its scaled run time while bottom levels are settled, where the priorities will stand.
-abbrev pub runAt : ℕ → ℕ
-runAt rooms = 289 * rooms
+priorityAt rooms = 281 * rooms
 
 -- The plan's lines, 25 cells each: the task, then processor, early and late for each replica.
 abbrev pub rowAt : ℕ → ℕ → ℕ
-rowAt rooms i = 297 * rooms + i * 25
+rowAt rooms i = 289 * rooms + i * 25
 
 -- For each processor its largest delay to any processor, after the last line.
 abbrev pub farAt : ℕ → ℕ
-farAt rooms = 497 * rooms
+farAt rooms = 489 * rooms
 
 -- M* of a plan that is complete, where the counts of blocking edges stood.
 abbrev pub bestAt : ℕ → ℕ
-bestAt rooms = 281 * rooms
+bestAt rooms = 273 * rooms
 
 -- M of that plan, in the same table.
 abbrev pub worstAt : ℕ → ℕ
-worstAt rooms = 282 * rooms
+worstAt rooms = 274 * rooms

@@ -5,7 +5,8 @@ pub mod Layout
 pub mod Schedule
 pub mod Arrivals
 pub mod Planning
-pub mod Rounds
+pub mod Order
+pub mod Levels
 pub mod Loading
 pub mod Checking
 pub mod Replaying

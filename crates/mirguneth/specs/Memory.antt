@@ -59,15 +59,3 @@ pairBit table a b = nth table (a * 32 + b / 8) / 2 ^ (b % 8) % 2
 pub record Pairs (v : ℕ) (es : List Edge) (table : List ℕ) : Type 0 where
   pub size : v * 32 ≤ length table
   pub holds : (a b : ℕ) → a < v → b < 256 → pairBit table a b ≡ (if any (λ d. eqb (d .from) a && eqb (d .to) b) es then 1 else 0)
-
--- Marks: place t is 1 if f is true of task t, else 0.
-pub record Marks (f : ℕ → Bool) (marks : List ℕ) : Type 0 where
-  pub size : length marks ≡ 256
-  pub holds : (t : ℕ) → t < 256 → nth marks t ≡ (if f t then 1 else 0)
-
-abbrev pub isMarked : List ℕ → ℕ → Bool
-isMarked marks t = eqb (nth marks t) 1
-
--- Task t is marked, and a marked task precedes it: a round keeps its mark.
-abbrev pub stays : List Edge → List ℕ → ℕ → Bool
-stays es marks t = isMarked marks t && any (λ e. eqb (e .to) t && isMarked marks (e .from)) es

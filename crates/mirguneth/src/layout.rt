@@ -19,32 +19,26 @@ pub const OUT_NEXT: usize = 225;
 // Bottom levels.
 pub const LEVEL: usize = 257;
 
-// Bottom levels of the next round.
-pub const RAISED: usize = 265;
-
 // For each task its line in the plan, counted from 1; 0 for none.
-pub const LINE: usize = 273;
+pub const LINE: usize = 265;
 
 // While a plan is drawn up: how many edges still block each task.
-pub const BLOCKED: usize = 281;
+pub const BLOCKED: usize = 273;
 
 // M*, while no plan is drawn up.
-pub const BEST: usize = 281;
+pub const BEST: usize = 273;
 
 // M, while no plan is drawn up.
-pub const WORST: usize = 282;
+pub const WORST: usize = 274;
 
 // While a plan is drawn up: the priority of each free task.
-pub const PRIORITY: usize = 289;
-
-// While bottom levels are settled: the scaled run time of each task.
-pub const RUN: usize = 289;
+pub const PRIORITY: usize = 281;
 
 // The lines of the plan, 25 cells each: the task, then a processor and two ticks for each replica.
-pub const ROWS: usize = 297;
+pub const ROWS: usize = 289;
 
 // For each processor its largest delay.
-pub const FAR: usize = 497;
+pub const FAR: usize = 489;
 
 // The time never.
 pub const NEVER: u64 = 18446744073709551615;

@@ -17,6 +17,7 @@ mod levels;
 mod lines;
 mod links;
 mod loading;
+mod order;
 mod plan_text;
 mod planner;
 mod plans;
@@ -61,7 +62,7 @@ pub fn read_job(text: &[u8], cells: &mut [u64]) -> Answer
     }
 }
 
-// The three tools take the smallest working memory that the job fits: 1, 2, 8 or 32 rooms of 513 cells.
+// The three tools take the smallest working memory that the job fits: 1, 2, 8 or 32 rooms of 505 cells.
 
 // Draws up a plan for a job's text, and writes it into `out`.
 pub fn plan(job: &[u8], out: &mut [u8]) -> Answer
@@ -71,18 +72,18 @@ pub fn plan(job: &[u8], out: &mut [u8]) -> Answer
     match job::read_head(job, &mut head) {
         Step::Next(at) => {
             if job::fits(&head, 1) {
-                let mut mem = [0u64; 513];
+                let mut mem = [0u64; 505];
                 return plan_text::plan_in(job, at, &head, &mut mem, 1, out);
             }
             if job::fits(&head, 2) {
-                let mut mem = [0u64; 1026];
+                let mut mem = [0u64; 1010];
                 return plan_text::plan_in(job, at, &head, &mut mem, 2, out);
             }
             if job::fits(&head, 8) {
-                let mut mem = [0u64; 4104];
+                let mut mem = [0u64; 4040];
                 return plan_text::plan_in(job, at, &head, &mut mem, 8, out);
             }
-            let mut mem = [0u64; 16416];
+            let mut mem = [0u64; 16160];
             plan_text::plan_in(job, at, &head, &mut mem, 32, out)
         }
         Step::Refused(x) => Answer::Refusal(x),
@@ -99,18 +100,18 @@ pub fn check(job: &[u8], plan: &[u8]) -> Checked
     match job::read_head(job, &mut head) {
         Step::Next(at) => {
             if job::fits(&head, 1) {
-                let mut mem = [0u64; 513];
+                let mut mem = [0u64; 505];
                 return checker::check_in(job, at, &head, plan, &mut mem, 1);
             }
             if job::fits(&head, 2) {
-                let mut mem = [0u64; 1026];
+                let mut mem = [0u64; 1010];
                 return checker::check_in(job, at, &head, plan, &mut mem, 2);
             }
             if job::fits(&head, 8) {
-                let mut mem = [0u64; 4104];
+                let mut mem = [0u64; 4040];
                 return checker::check_in(job, at, &head, plan, &mut mem, 8);
             }
-            let mut mem = [0u64; 16416];
+            let mut mem = [0u64; 16160];
             checker::check_in(job, at, &head, plan, &mut mem, 32)
         }
         Step::Refused(x) => Checked::Refused(x),
@@ -127,18 +128,18 @@ pub fn replay(job: &[u8], plan: &[u8], stops: &[u8], out: &mut [u8]) -> Answer
     match job::read_head(job, &mut head) {
         Step::Next(at) => {
             if job::fits(&head, 1) {
-                let mut mem = [0u64; 513];
+                let mut mem = [0u64; 505];
                 return results::replay_in(job, at, &head, plan, stops, &mut mem, 1, out);
             }
             if job::fits(&head, 2) {
-                let mut mem = [0u64; 1026];
+                let mut mem = [0u64; 1010];
                 return results::replay_in(job, at, &head, plan, stops, &mut mem, 2, out);
             }
             if job::fits(&head, 8) {
-                let mut mem = [0u64; 4104];
+                let mut mem = [0u64; 4040];
                 return results::replay_in(job, at, &head, plan, stops, &mut mem, 8, out);
             }
-            let mut mem = [0u64; 16416];
+            let mut mem = [0u64; 16160];
             results::replay_in(job, at, &head, plan, stops, &mut mem, 32, out)
         }
         Step::Refused(x) => Answer::Refusal(x),

@@ -38,7 +38,7 @@ cast-t c = let s = sizes (c .before .before .before .before .before .pre .0 .sta
 returns : tie.Need-returns
 returns c =
     let m = c .before .before .before .before .before .args .mem .now in
-    answer-doubled (jobIn m) (planIn (c .before .before .before .before .before .args .rooms) m) (nth m (297 * c .before .before .before .before .before .args .rooms + c .before .before .before .doubled-line .result * 25)) (some-doubled (c .before .before .before .before .before .args .rooms) m (c .before .before .before .doubled-line .result) (c .before .before .before .doubled-line .ensures) (c .before .if1 .taken))
+    answer-doubled (jobIn m) (planIn (c .before .before .before .before .before .args .rooms) m) (nth m (289 * c .before .before .before .before .before .args .rooms + c .before .before .before .doubled-line .result * 25)) (some-doubled (c .before .before .before .before .before .args .rooms) m (c .before .before .before .doubled-line .result) (c .before .before .before .doubled-line .ensures) (c .before .if1 .taken))
 
 ticks-agree-requires : tie.Need-ticks-agree-requires
 ticks-agree-requires c κs = (c .before .before .before .before .pre .0, none-doubled (c .before .before .before .before .args .rooms) (c .before .before .before .before .args .mem .now) (c .before .before .doubled-line .result) (c .before .before .doubled-line .ensures) (c .if1 .left))

@@ -5,7 +5,7 @@ use borrow.Author.Tests.{lt-ltb, le-ltb}
 use lib.ListN.{length, drop, drop-of-length-le}
 use Rattle.definitions.specs.Lists.{all}
 use Rattle.mirguneth.specs.Memory.{rises}
-use Rattle.mirguneth.proofs.MarkLaws.{all-drop}
+use Rattle.mirguneth.proofs.ListLaws.{all-drop}
 use Rattle.mirguneth.proofs.circle.all_rise.Statement.{statement}
 use Rattle.mirguneth.proofs.circle.all_rise.Tie as tie
 

@@ -9,7 +9,7 @@ use Rattle.definitions.specs.Job.{jobHeadOf}
 use Rattle.text.specs.Told.{told}
 use Rattle.mirguneth.specs.Memory.{edgeIn}
 use Rattle.mirguneth.proofs.CellLaws.{rows-most, edges-fit, edges-part, edges-in}
-use Rattle.mirguneth.proofs.StageLaws.{edges-no, edges-left, edges-circle, edges-end}
+use Rattle.mirguneth.proofs.StageLaws.{edges-within, edges-no, edges-left, edges-circle, edges-end}
 use Rattle.mirguneth.proofs.job.load_edges.Statement.{statement}
 use Rattle.mirguneth.proofs.job.load_edges.Tie as tie
 
@@ -83,7 +83,17 @@ part-has-circle-end : tie.Need-part-has-circle-end
 part-has-circle-end c = edges-fit (c .before .before .before .before .before .before .before .before .before .before .before .before .before .before .before .before .before .before .args .mem .now) _ (c .before .before .before .before .before .before .before .before .before .read-edges .last .1 .1 .1 .1 .0) (c .before .before .before .before .before .before .before .before .before .before .before .before .before .before .before .before .before .before .pre .0) refl (c .before .before .before .before .before .before .before .before .before .read-edges .kept .1 .1 .1 .1 .0)
 
 has-circle-requires : tie.Need-has-circle-requires
-has-circle-requires c κs = search needs
+has-circle-requires c κs =
+    let s = c .before .before .before .before .before .before .before .before .before .before .before .before .before .before .before .before .before .before .before .args .s .now in
+    let d = c .before .before .before .before .before .before .before .before .before .before .before .before .before .before .before .before .before .before .before .args .mem .now in
+    let ys = c .before .before .before .before .before .before .before .before .before .before .read-edges .last .1 .1 .1 .1 .0 in
+    let es = map edgeIn (take (nth d 2) ys) in
+    let w = c .before .before .before .before .before .before .before .before .before .before .before .before .before .before .before .before .before .before .before .pre .0 in
+    let q = edges-part d _ ys w refl (c .before .before .before .before .before .before .before .before .before .before .read-edges .kept .1 .1 .1 .1 .0) in (
+      w .tasks-most,
+      simp length-take (omega arith),
+      rw q (edges-within (nth d 0) (nth d 2) _ es _ (sym (c .before .before .before .before .before .before .before .before .before .before .read-edges .ensures) ∙ ap (told s es) (c .before .before .before .before .p .given .1))),
+    )
 
 same-length-3 : tie.Need-same-length-3
 same-length-3 c = search needs

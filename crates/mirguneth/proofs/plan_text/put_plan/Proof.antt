@@ -32,7 +32,7 @@ mul-mem-2 : tie.Need-mul-mem-2
 mul-mem-2 c = search needs
 
 slice-write-mem-2 : tie.Need-slice-write-mem-2
-slice-write-mem-2 c = let w = c .before .before .before .before .before .before .draw-plan in omega (arith, length-set (w .last .0) (281 * c .before .before .before .before .before .before .before .before .before .before .args .rooms) (c .before .before .end-of .result), w .ensures .0 .size, c .before .before .before .before .before .before .before .before .before .before .pre .size)
+slice-write-mem-2 c = let w = c .before .before .before .before .before .before .draw-plan in omega (arith, length-set (w .last .0) (273 * c .before .before .before .before .before .before .before .before .before .before .args .rooms) (c .before .before .end-of .result), w .ensures .0 .size, c .before .before .before .before .before .before .before .before .before .before .pre .size)
 
 plan-length-requires : tie.Need-plan-length-requires
 plan-length-requires c κs =

@@ -12,7 +12,7 @@ use Rattle.mirguneth.proofs.planner.place_task.Statement.{statement}
 use Rattle.mirguneth.proofs.planner.place_task.Tie as tie
 
 -- The line and the task are within their tables.
-small : (c : tie.Start) → (c .args .k < 8 * c .args .rooms) × (c .args .t < 8 * c .args .rooms) × (length (c .args .mem .now) ≡ 513 * c .args .rooms)
+small : (c : tie.Start) → (c .args .k < 8 * c .args .rooms) × (c .args .t < 8 * c .args .rooms) × (length (c .args .mem .now) ≡ 505 * c .args .rooms)
 small c =
     let p = c .pre in
     let w = sizes (p .1 .standing .job) in

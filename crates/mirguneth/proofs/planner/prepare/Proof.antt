@@ -10,7 +10,7 @@ link-edges-requires : tie.Need-link-edges-requires
 link-edges-requires c κs = search needs
 
 settle-levels-requires : tie.Need-settle-levels-requires
-settle-levels-requires c κs = held-kept (c .before .before .before .before .before .before .pre) (c .before .before .before .link-edges .ensures .0) (omega arith)
+settle-levels-requires c κs = let e = c .before .before .before .link-edges .ensures in (held-kept (c .before .before .before .before .before .before .pre) (e .0) (omega arith), e .2)
 
 fill-far-requires : tie.Need-fill-far-requires
 fill-far-requires c κs = held-kept (held-kept (c .before .before .before .before .before .before .before .before .before .before .pre) (c .before .before .before .before .before .before .before .link-edges .ensures .0) (omega arith)) (c .before .before .before .settle-levels .ensures .0) (omega arith)

@@ -144,7 +144,7 @@ mul-mem-2 : tie.Need-mul-mem-2 Inv-loop μ-loop
 mul-mem-2 c = search needs
 
 slice-read-mem : tie.Need-slice-read-mem Inv-loop μ-loop
-slice-read-mem c = simp length-set (omega arith)
+slice-read-mem c = let (i, s, r) = c .before .before .before .before .before .before .before .loop .inv .1 in simp length-set (omega (arith, release-within s r (c .before .before .before .before .before .before .loop-test .taken), r .kept .size, c .before .before .before .before .before .before .before .loop .inv .0 .size))
 
 add-mem-3 : tie.Need-add-mem-3 Inv-loop μ-loop
 add-mem-3 c = let (i, s, r) = c .before .before .before .before .before .before .before .loop .inv .1 in omega (arith, release-level s r (c .before .before .before .before .before .before .loop-test .taken) (c .before .before .before .if1 .taken), c .before .top-level .ensures .1)

@@ -90,8 +90,8 @@ loop-again : tie.Need-loop-again Inv-loop μ-loop
 loop-again c =
     let l = c .before .before .before .loop in
     let d = c .before .before .before .before .before .before .args .mem .now in
-    let x = getD d (297 * c .before .before .before .before .before .before .args .rooms + (getD d (273 * c .before .before .before .before .before .before .args .rooms + c .before .before .before .before .before .before .args .t) 0 - 1) * 25 + (2 + 3 * l .c)) 0 in
-    let m : x ≤ neverCell = omega (arith, c .before .shared-slice-known3 .given (297 * c .before .before .before .before .before .before .args .rooms + (getD d (273 * c .before .before .before .before .before .before .args .rooms + c .before .before .before .before .before .before .args .t) 0 - 1) * 25 + (2 + 3 * l .c))) in (
+    let x = getD d (289 * c .before .before .before .before .before .before .args .rooms + (getD d (265 * c .before .before .before .before .before .before .args .rooms + c .before .before .before .before .before .before .args .t) 0 - 1) * 25 + (2 + 3 * l .c)) 0 in
+    let m : x ≤ neverCell = omega (arith, c .before .shared-slice-known3 .given (289 * c .before .before .before .before .before .before .args .rooms + (getD d (265 * c .before .before .before .before .before .before .args .rooms + c .before .before .before .before .before .before .args .t) 0 - 1) * 25 + (2 + 3 * l .c))) in (
       search needs,
       ⊎-elim (λ w. rw (w .2) m) (λ w. rw (w .1) (l .inv .1)) (c .if1 .came),
       ⊎-elim
