@@ -1,11 +1,13 @@
 //! Times planning, checking and replaying in both implementations, in one run:
-//! they take turns, and of several repetitions the best counts.
+//! they take turns, and of several repetitions the best counts. In the jobs
+//! that are called mixed the tasks are numbered at random; in the others every
+//! edge leads to a task of a greater number.
 //!
 //!     cargo run --release -p bench
 
 mod plain;
 
-use compare::jobs::{self, Job};
+use compare::jobs::{self, Edge, Job};
 use compare::plans::Plan;
 use compare::rng::Rng;
 use compare::stops;
@@ -44,7 +46,7 @@ struct Texts {
 
 fn main() {
     let tools = tools();
-    print!("{:<42}{:<9}", "job", "");
+    print!("{:<48}{:<9}", "job", "");
     for (name, _) in &tools {
         print!("{:>12}", format!("{name}, us"));
     }
@@ -58,9 +60,16 @@ fn main() {
     );
     let mut rng = Rng::new(1);
     let mut all = vec![texts("small house".into(), SMALL_HOUSE.to_vec(), &mut rng)];
+    let mut mixed = Vec::new();
     for (tasks, boxes, edges, losses) in SIZES {
         let job = jobs::of_size(&mut rng, tasks, boxes, edges, losses);
         all.push(texts(name(&job), job.to_text(), &mut rng));
+        mixed.push(job);
+    }
+    mixed.push(chain(&mut rng));
+    for job in &mixed {
+        let job = jobs::renumbered(&mut rng, job);
+        all.push(texts(name(&job) + ", mixed", job.to_text(), &mut rng));
     }
     for texts in &all {
         let mut out = vec![0; 65_536];
@@ -88,7 +97,7 @@ fn main() {
         let mut label = texts.name.as_str();
         for (function, call) in calls {
             let best = race(&tools, call);
-            print!("{label:<42}{function:<9}");
+            print!("{label:<48}{function:<9}");
             for time in &best {
                 print!("{:>12.2}", time * 1e6);
             }
@@ -99,7 +108,7 @@ fn main() {
             if function == "plan" {
                 let plain = plain_plan(texts);
                 println!(
-                    "{:<42}{:<9}{:>12}{:>12.2}{:>16.2}",
+                    "{:<48}{:<9}{:>12}{:>12.2}{:>16.2}",
                     "",
                     "  plain",
                     "",
@@ -110,6 +119,19 @@ fn main() {
             label = "";
         }
     }
+}
+
+/// As many tasks as may be, one after the other.
+fn chain(rng: &mut Rng) -> Job {
+    let mut job = jobs::of_size(rng, 255, 16, 0, 7);
+    job.edges = (1..255)
+        .map(|to| Edge {
+            from: to - 1,
+            to,
+            volume: rng.within(0..=400),
+        })
+        .collect();
+    job
 }
 
 fn name(job: &Job) -> String {

@@ -236,6 +236,27 @@ pub fn of_size(
     }
 }
 
+/// The same job with its tasks numbered at random.
+pub fn renumbered(rng: &mut Rng, job: &Job) -> Job {
+    let mut numbers: Vec<usize> = (0..job.tasks()).collect();
+    rng.shuffle(&mut numbers);
+    let mut run_times = job.run_times.clone();
+    for (task, row) in job.run_times.iter().enumerate() {
+        run_times[numbers[task]].clone_from(row);
+    }
+    let edge = |edge: &Edge| Edge {
+        from: numbers[edge.from],
+        to: numbers[edge.to],
+        volume: edge.volume,
+    };
+    Job {
+        failures: job.failures,
+        run_times,
+        delays: job.delays.clone(),
+        edges: job.edges.iter().map(edge).collect(),
+    }
+}
+
 /// A chain with every number as large as may be, or some chains side by side
 /// with numbers that are nearly so.
 pub fn heaviest(rng: &mut Rng) -> Job {
