@@ -424,13 +424,6 @@ module _ {rooms k : ℕ} {mem : List ℕ} (s : Drawn rooms k mem) (h : k < nth m
       let n = length-map (freeTasks (jobIn mem) (earliesIn rooms k mem) (waitingIn rooms mem)) (ranked (jobIn mem) (earliesIn rooms k mem)) in
       rw (← free-ranked s r, n) some
 
-  pub listed-some : Ranked rooms [] mem → (cells : List ℕ) (n : ℕ) → FreeList rooms cells n mem → 0 < n
-  unfolding freeIn
-  listed-some r cells zero f =
-      let none : length (freeIn rooms mem) ≡ 0 = length-map (keep (isFree rooms mem) (below (nth mem 0))) (λ t. (t, nth mem (priorityAt rooms + t))) ∙ ap length (sym (f .listed)) in
-      absurd (omega (arith, frees r))
-  listed-some r cells (suc n) f = omega arith
-
   -- The task that is chosen.
   module _ (r : Ranked rooms [] mem) (t : ℕ) (e : t ≡ bestOf (nth mem 0) (freeIn rooms mem)) where
     free : In t (keep (isFree rooms mem) (below (nth mem 0)))
@@ -450,6 +443,13 @@ module _ {rooms k : ℕ} {mem : List ℕ} (s : Drawn rooms k mem) (h : k < nth m
 
     pub task-fed : FedIn rooms t mem
     task-fed = free-fed s r t task-below (in-keep (isFree rooms mem) t (below (nth mem 0)) free .1)
+
+  -- The list of free tasks is not empty.
+  pub listed-some : Ranked rooms [] mem → (cells : List ℕ) (n : ℕ) → FreeList rooms cells n mem → 0 < n
+  listed-some r cells n f =
+      let t = bestOf (nth mem 0) (freeIn rooms mem) in
+      let (k, l, e) = f .tasks .every t (task-below r t refl) (in-keep (isFree rooms mem) t (below (nth mem 0)) (free r t refl) .1) in
+      omega arith
 
 -- With a line for each task the lines are the plan's.
 pub drawn-lines : {rooms : ℕ} {mem : List ℕ} → Drawn rooms (nth mem 0) mem → linesIn rooms (nth mem 3 + 1) (nth mem 0) mem ≡ planFor (jobIn mem) (nth mem 3) .lines

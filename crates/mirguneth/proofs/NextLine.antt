@@ -111,7 +111,7 @@ module _ {rooms k : ℕ} {d : List ℕ} (s : Drawn rooms k d) (h : k < nth d 0) 
         late-finishes = λ p l. f .late-finish p l ∙ finish-at (s .standing) (omega arith) true t p (nth (clocks .late) p) (fed-all (s .standing) t fed) (c .late-ready p (rw (processors-in d) l));
       }
 
-  -- Of the lines and the counts only t's line changed.
+  -- Of the lines, the counts and the priorities only t's line changed.
   pub taken : {e : List ℕ} → Laid rooms k t d e → Taken rooms t d e
   taken {e} x =
       let m : t < 8 * rooms = few in
@@ -119,6 +119,7 @@ module _ {rooms k : ℕ} {d : List ℕ} (s : Drawn rooms k d) (h : k < nth d 0) 
         line-new = rw (x .line) (omega arith);
         line-kept = λ u l n. x .other (lineAt rooms + u) (λ f. n (omega arith)) (inl (omega (arith, w .tasks-most)));
         blocked-kept = λ u l. x .other (blockedAt rooms + u) (λ f. omega arith) (inl (omega (arith, w .tasks-most)));
+        priority-kept = λ u l. x .other (priorityAt rooms + u) (λ f. omega arith) (inl (omega (arith, w .tasks-most)));
       }
 
   module _ {e : List ℕ} (x : Laid rooms k t d e) where

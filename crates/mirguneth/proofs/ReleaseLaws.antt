@@ -6,7 +6,7 @@ use Prim.Native.Nat.{ℕ, suc, _+_, _*_, _-_, _/_, _%_, _<_, _≤_}
 use native.Mathlib.Omega.{arith}
 use borrow.Author.Tests.{eqb-true, eqb-false, eq-eqb}
 use lib.Dec.{eqb}
-use lib.ListN.{length, take, set, length-set}
+use lib.ListN.{length, set, length-set}
 use lib.Seq.{getD-set-same, getD-set-other}
 use Rattle.definitions.specs.Lists.{if_then_else_, nth, keep}
 use Rattle.definitions.specs.Limits.{document01}
@@ -16,13 +16,13 @@ use Rattle.definitions.proofs.Lists.{both, both-true}
 use Rattle.definitions.proofs.Tasks.{in-incoming}
 use Rattle.mirguneth.specs.Layout.{memorySize, outHeadAt, outNextAt, levelAt, lineAt, blockedAt, priorityAt, rowAt}
 use Rattle.mirguneth.specs.Memory.{edgeIn}
-use Rattle.mirguneth.specs.Schedule.{edgeAt, jobIn, topIn, chain, KeptOutside, Standing, FedIn, FarFilled}
-use Rattle.mirguneth.specs.Planning.{earliesIn, FreeList, inserted, Drawn, Ranked}
+use Rattle.mirguneth.specs.Schedule.{edgeAt, jobIn, topIn, chain, KeptOutside, JobHeld, Standing, FedIn, FarFilled}
+use Rattle.mirguneth.specs.Planning.{earliesIn, FreeList, PutIn, Drawn, Ranked}
 use Rattle.mirguneth.specs.Levels.{levelMost}
 use Rattle.mirguneth.proofs.Held.{tasks-in, to-below, edge-below, same-behind, Sizes, sizes, job-kept, placed-same, chain-step, chain-end, kept-all, kept-set}
 use Rattle.mirguneth.proofs.LevelLaws.{level-most}
 use Rattle.mirguneth.proofs.ListLaws.{keep-same}
-use Rattle.mirguneth.proofs.FreeLaws.{Recounted, free-in, free-same}
+use Rattle.mirguneth.proofs.FreeLaws.{Recounted, free-few, free-in, free-same}
 use Rattle.mirguneth.proofs.Drawing.{drawn-choice, top-here, fed-none, short-most}
 
 -- How many edges to u come from tasks that are not placed.
@@ -98,6 +98,9 @@ module _ {rooms n : ℕ} {d : List ℕ} (s : Drawn rooms n d) where
 
     few-released : (nth mem 0 ≤ 255) × (nth mem 0 ≤ 8 * rooms)
     few-released = rw (r .kept .before 0 (omega arith)) (w .tasks-most)
+
+    pub list-few : {cells : List ℕ} {i : ℕ} → FreeList rooms cells i mem → i ≤ 255
+    list-few l = omega (arith, free-few (l .tasks), few-released)
 
     -- The edge at hand.
     module _ (h : 0 < k) where
@@ -180,6 +183,7 @@ module _ {rooms n : ℕ} {d : List ℕ} (s : Drawn rooms n d) where
         tasks = getD-set-other mem (blockedAt rooms + goes) 0 count 0 (λ q. omega arith);
         lines = λ x i. getD-set-other mem (blockedAt rooms + goes) (lineAt rooms + x) count 0 (λ q. omega (arith, few-released));
         others = λ x i o. lowered-other x o;
+        priorities = λ x i o. getD-set-other mem (blockedAt rooms + goes) (priorityAt rooms + x) count 0 (λ q. omega (arith, goes-below, few-released));
       }
 
       ranked-count : (y : ℕ) → Recounted rooms goes mem (set lowered (priorityAt rooms + goes) y)
@@ -189,18 +193,19 @@ module _ {rooms n : ℕ} {d : List ℕ} (s : Drawn rooms n d) where
             tasks = getD-set-other lowered (priorityAt rooms + goes) 0 y 0 (λ q. omega arith) ∙ lowered-count .tasks;
             lines = λ x i. getD-set-other lowered (priorityAt rooms + goes) (lineAt rooms + x) y 0 (λ q. omega arith) ∙ lowered-count .lines x i;
             others = λ x i o. getD-set-other lowered (priorityAt rooms + goes) (blockedAt rooms + x) y 0 (λ q. omega arith) ∙ lowered-count .others x i o;
+            priorities = λ x i o. getD-set-other lowered (priorityAt rooms + goes) (priorityAt rooms + x) y 0 (λ q. o (omega arith)) ∙ lowered-count .priorities x i o;
           }
 
       -- The list of free tasks, when other tasks block it still, and when it is free.
       pub list-held : {cells : List ℕ} {i : ℕ} → FreeList rooms cells i mem → (count ≡ 0 → ⊥) → FreeList rooms cells i lowered
       list-held l o = free-same l lowered-count goes-below release-some (rw lowered-here (omega (arith, o)))
 
-      pub list-free : {cells after : List ℕ} {i : ℕ} → FreeList rooms cells i mem → count ≡ 0 → (y : ℕ) → length after ≡ 256 → take (i + 1) after ≡ inserted goes (take i cells)
+      pub list-free : {cells after : List ℕ} {i a : ℕ} → FreeList rooms cells i mem → count ≡ 0 → (y : ℕ) → length after ≡ 256 → PutIn rooms (set lowered (priorityAt rooms + goes) y) goes i a cells after
           → FreeList rooms after (i + 1) (set lowered (priorityAt rooms + goes) y)
       list-free l o y z p =
           let few = few-released .0 in
           let b = goes-below in
-          free-in l (ranked-count y) b release-some few (getD-set-other lowered (priorityAt rooms + goes) (blockedAt rooms + goes) y 0 (λ q. omega arith) ∙ lowered-here ∙ o) z p
+          free-in l (ranked-count y) b release-some (getD-set-other lowered (priorityAt rooms + goes) (blockedAt rooms + goes) y 0 (λ q. omega (arith, few-released)) ∙ lowered-here ∙ o) z p
 
       -- Other tasks block it still.
       pub release-held : (count ≡ 0 → ⊥) → Releasing rooms n next d lowered
@@ -255,3 +260,13 @@ module _ {rooms n : ℕ} {d : List ℕ} (s : Drawn rooms n d) where
                 getD-set-other lowered (priorityAt rooms + goes) (priorityAt rooms + u) (x + nth lowered (levelAt rooms + goes)) 0 (λ o. q (omega arith))
                 ∙ getD-set-other mem (blockedAt rooms + goes) (priorityAt rooms + u) count 0 (λ o. omega (arith, release-below, w .tasks-most))
                 ∙ r .priorities u l i (sym (lowered-other u q) ∙ b)
+
+        -- The list can take it.
+        pub release-puts : {cells : List ℕ} {i : ℕ} → FreeList rooms cells i mem → (x : ℕ) → x ≡ tickOf (topIn rooms goes lowered) * scale (jobIn lowered)
+            → let e = set lowered (priorityAt rooms + goes) (x + nth lowered (levelAt rooms + goes)) in
+            JobHeld rooms e × (length cells ≡ 256) × (i ≤ 255) × (goes < nth e 0) × ((k : ℕ) → k < i → nth cells k < nth e 0)
+        release-puts l x e =
+            let a = release-free x e .kept in
+            let v = a .before 0 (omega arith) in
+            let z = r .kept .before 0 (omega arith) in
+            (drawn-choice a s (omega arith) (omega arith) .standing .job, l .tasks .size, list-few l, rw v release-below, λ k h. rw (v, ← z) (l .tasks .task-of k h))

@@ -1,11 +1,12 @@
 -- What the memory holds while a plan is drawn up.
 use mathlib.Core.Path.{_≡_}
+use mathlib.Core.Logic.{_⊎_}
 use mathlib.Core.List.{List, [], _∷_, _++_, map, reverseAux}
 use mathlib.Core.Bool.{Bool, true, false, _&&_}
-use Prim.Native.Nat.{ℕ, _+_, _*_, _-_, _<_, _≤_}
-use lib.Dec.{eqb, ltb}
-use lib.ListN.{length, take}
-use Rattle.definitions.specs.Lists.{if_then_else_, nth, below, keep, any}
+use Prim.Native.Nat.{ℕ, suc, _+_, _*_, _-_, _<_, _≤_}
+use lib.Dec.{eqb}
+use lib.ListN.{length}
+use Rattle.definitions.specs.Lists.{nth, below, keep}
 use Rattle.definitions.specs.Limits.{document01}
 use Rattle.definitions.specs.Job.{Edge, Job, incoming}
 use Rattle.definitions.specs.Plan.{Replica}
@@ -31,23 +32,40 @@ abbrev pub bestOf : ℕ → List (ℕ × ℕ) → ℕ
 bestOf d [] = d
 bestOf d (x ∷ xs) = greatestOf x xs
 
--- The first n cells list the free tasks, ascending; and a task that is blocked has no line.
-pub record FreeList (rooms : ℕ) (cells : List ℕ) (n : ℕ) (mem : List ℕ) : Type 0 where
+-- Of two free tasks t is chosen before u: its priority is greater, or as great and its number is lower.
+abbrev pub Sooner : ℕ → List ℕ → ℕ → ℕ → Type 0
+Sooner rooms mem t u =
+    (nth mem (priorityAt rooms + u) < nth mem (priorityAt rooms + t)) ⊎ ((nth mem (priorityAt rooms + t) ≡ nth mem (priorityAt rooms + u)) × (t < u))
+
+-- The first n cells list the free ones of the first v tasks, each once, so that of two the later is chosen first.
+pub record FreeBelow (rooms v : ℕ) (cells : List ℕ) (n : ℕ) (mem : List ℕ) : Type 0 where
   pub size : length cells ≡ 256
-  pub few : n ≤ 255
-  pub listed : take n cells ≡ keep (isFree rooms mem) (below (nth mem 0))
+  pub task-of : (k : ℕ) → k < n → nth cells k < v
+  pub free-of : (k : ℕ) → k < n → isFree rooms mem (nth cells k) ≡ true
+  pub every : (t : ℕ) → t < v → isFree rooms mem t ≡ true → (k : ℕ) × (k < n) × (nth cells k ≡ t)
+  pub sorted : (j k : ℕ) → j < k → k < n → Sooner rooms mem (nth cells k) (nth cells j)
+
+-- The first n cells list the free tasks; and a task that is blocked has no line.
+pub record FreeList (rooms : ℕ) (cells : List ℕ) (n : ℕ) (mem : List ℕ) : Type 0 where
+  pub tasks : FreeBelow rooms (nth mem 0) cells n mem
   pub waits : (u : ℕ) → u < nth mem 0 → 0 < nth mem (blockedAt rooms + u) → nth mem (lineAt rooms + u) ≡ 0
 
--- Task t got a line, and no other; what blocks the tasks is the same.
+-- Task u was put into place i of a list of n tasks: those before it are as they were, those from i on stand one place higher. They
+-- are chosen before u, and the one before u isn't.
+pub record PutIn (rooms : ℕ) (mem : List ℕ) (u n i : ℕ) (d e : List ℕ) : Type 0 where
+  pub within : i ≤ n
+  pub before : (j : ℕ) → j < i → nth e j ≡ nth d j
+  pub here : nth e i ≡ u
+  pub behind : (j : ℕ) → i ≤ j → j < n → nth e (j + 1) ≡ nth d j
+  pub sooner : (j : ℕ) → i ≤ j → j < n → Sooner rooms mem (nth d j) u
+  pub later : (j : ℕ) → suc j ≡ i → Sooner rooms mem (nth d j) u → ⊥
+
+-- Task t got a line, and no other; what blocks the tasks is the same, and so are their priorities.
 pub record Taken (rooms t : ℕ) (d e : List ℕ) : Type 0 where
   pub line-new : 0 < nth e (lineAt rooms + t)
   pub line-kept : (u : ℕ) → u < nth d 0 → (u ≡ t → ⊥) → nth e (lineAt rooms + u) ≡ nth d (lineAt rooms + u)
   pub blocked-kept : (u : ℕ) → u < nth d 0 → nth e (blockedAt rooms + u) ≡ nth d (blockedAt rooms + u)
-
--- u put into a list, behind the last member that is less.
-unfoldable pub inserted : ℕ → List ℕ → List ℕ
-inserted u [] = u ∷ []
-inserted u (x ∷ xs) = if any (λ y. ltb y u) (x ∷ xs) then x ∷ inserted u xs else u ∷ x ∷ xs
+  pub priority-kept : (u : ℕ) → u < nth d 0 → nth e (priorityAt rooms + u) ≡ nth d (priorityAt rooms + u)
 
 -- The tasks that wait, with their bottom levels.
 unfoldable pub waitingIn : ℕ → List ℕ → List Waiting

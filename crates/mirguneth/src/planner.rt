@@ -150,7 +150,7 @@ fn release(mem: &mut [u64], rooms: usize, t: usize, free: &mut [u8], count: usiz
         if b == 0 {
             let x = priority::top_level(&mem[..], rooms, u);
             mem[priorities + u] = x + mem[level + u];
-            free::put_in(free, n, u as u8);
+            free::put_in(&mem[..], rooms, free, n, u as u8);
             n += 1;
         }
         k = mem[out_next + (k - 1)] as usize;
@@ -183,9 +183,7 @@ pub fn draw_plan(mem: &mut [u64], rooms: usize)
     let mut n = free::list_free(&mem[..], rooms, &mut free);
     let mut k = 0;
     while k < v {
-        let at = free::critical(&mem[..], rooms, &free, n);
-        let t = free[at] as usize;
-        free::take_out(&mut free, n, at);
+        let t = free[n - 1] as usize;
         let after = place_task(mem, rooms, &delays, k, t, clocks);
         clocks = after;
         let count = release(mem, rooms, t, &mut free, n - 1);

@@ -11,21 +11,11 @@ use Rattle.mirguneth.specs.Schedule.{jobIn, placedIn, KeptOutside}
 use Rattle.mirguneth.specs.Planning.{earliesIn, latesIn, FreeList, ClocksHeld, Drawn, Ranked}
 use Rattle.mirguneth.proofs.Held.{processors-in, same-before, sizes, kept-all, kept-then, kept-wider}
 use Rattle.mirguneth.proofs.ShortLaws.{delays-kept}
-use Rattle.mirguneth.proofs.FreeLaws.{cell-below, free-out}
-use Rattle.mirguneth.proofs.Drawing.{drawn-choice, clocks-choice, task-below, listed-some}
+use Rattle.mirguneth.proofs.FreeLaws.{free-few, last-best, free-out}
+use Rattle.mirguneth.proofs.Drawing.{drawn-choice, clocks-choice, listed-some}
 use Rattle.mirguneth.proofs.OutsetLaws.{outset-clocks}
 use Rattle.mirguneth.proofs.planner.draw_plan.Statement.{statement}
 use Rattle.mirguneth.proofs.planner.draw_plan.Tie as tie
-use Rattle.mirguneth.proofs.planner.draw_plan.Reads as reads
-use Rattle.mirguneth.proofs.planner.draw_plan.Lts as lts
-use Rattle.mirguneth.proofs.clocks.Clocks.new.Reads as new-reads
-use Rattle.mirguneth.proofs.free.critical.Reads as critical-reads
-use Rattle.mirguneth.proofs.free.list_free.Reads as list-free-reads
-use Rattle.mirguneth.proofs.free.take_out.Reads as take-out-reads
-use Rattle.mirguneth.proofs.planner.place_task.Reads as place-task-reads
-use Rattle.mirguneth.proofs.planner.prepare.Reads as prepare-reads
-use Rattle.mirguneth.proofs.planner.release.Reads as release-reads
-use Rattle.mirguneth.proofs.times.delay_table.Reads as delay-table-reads
 
 abbrev Inv-loop : tie.InvT-loop
 Inv-loop mem₀ rooms v delays clocks₀ free₀ n₀ k₀ mem clocks free n k =
@@ -60,63 +50,55 @@ loop-holds c =
     let s = c .before .before .before .before .before .before .before .before .before .before .prepare .ensures in
     (search needs, refl, kept-all, s .1, s .2, outset-clocks (rw (processors-in (c .before .before .before .before .before .before .before .before .before .before .prepare .last .0)) (sizes (s .1 .standing .job) .processors-most)) (c .before .before .before .before .new .ensures .0) (c .before .before .before .before .new .ensures .1), c .before .list-free .ensures)
 
-slice-aggregate-critical : tie.Need-slice-aggregate-critical Inv-loop μ-loop
-slice-aggregate-critical c = search needs
-
-critical-requires : tie.Need-critical-requires Inv-loop μ-loop
-critical-requires c κs =
-    let l = c .before .before .before .loop in
-    (l .inv .3 .standing .job, l .inv .6, listed-some (l .inv .3) (omega arith) (l .inv .4) (l .free) (l .n) (l .inv .6))
+sub-t : tie.Need-sub-t Inv-loop μ-loop
+sub-t c = let l = c .before .loop in omega (arith, listed-some (l .inv .3) (omega arith) (l .inv .4) (l .free) (l .n) (l .inv .6))
 
 array-read-t : tie.Need-array-read-t Inv-loop μ-loop
-array-read-t c = omega (arith, c .before .before .before .before .loop .inv .6 .few, c .critical .ensures .0)
+array-read-t c =
+    let l = c .before .loop in
+    omega (arith, l .inv .6 .tasks .size, free-few (l .inv .6 .tasks), sizes (l .inv .3 .standing .job) .tasks-most, listed-some (l .inv .3) (omega arith) (l .inv .4) (l .free) (l .n) (l .inv .6))
 
 cast-t : tie.Need-cast-t Inv-loop μ-loop
 cast-t c =
-    let l = c .before .before .before .before .loop in
-    omega (arith, cell-below (l .inv .6) (c .critical .result) (c .critical .ensures .0), sizes (l .inv .3 .standing .job) .tasks-most)
-
-slice-aggregate-take-out : tie.Need-slice-aggregate-take-out Inv-loop μ-loop
-slice-aggregate-take-out c = search needs
-
-take-out-requires : tie.Need-take-out-requires Inv-loop μ-loop
-take-out-requires c κs = let l = c .before .before .before .before .before .loop in (l .inv .6 .size, l .inv .6 .few, c .before .critical .ensures .0)
+    let l = c .before .loop in
+    let some = listed-some (l .inv .3) (omega arith) (l .inv .4) (l .free) (l .n) (l .inv .6) in
+    omega (arith, l .inv .6 .tasks .task-of (l .n - 1) (omega arith), sizes (l .inv .3 .standing .job) .tasks-most)
 
 slice-aggregate-place-task : tie.Need-slice-aggregate-place-task Inv-loop μ-loop
 slice-aggregate-place-task c = search needs
 
 place-task-requires : tie.Need-place-task-requires Inv-loop μ-loop
 place-task-requires c κs =
-    let l = c .before .before .before .before .before .before .before .before .before .loop in
-    (delays-kept (c .before .before .before .before .before .before .before .before .before .before .before .before .before .before .before .before .before .before .before .before .prepare .ensures .1 .standing .job) (same-before 0 (jobSize _) (l .inv .2) (omega arith)) (c .before .before .before .before .before .before .before .before .before .before .before .before .before .before .before .delay-table .ensures), l .inv .3, l .inv .4, omega arith, c .before .before .before .before .before .critical .ensures .1, l .inv .5)
+    let l = c .before .before .before .loop in
+    let some = listed-some (l .inv .3) (omega arith) (l .inv .4) (l .free) (l .n) (l .inv .6) in
+    (delays-kept (c .before .before .before .before .before .before .before .before .before .before .before .before .before .before .prepare .ensures .1 .standing .job) (same-before 0 (jobSize _) (l .inv .2) (omega arith)) (c .before .before .before .before .before .before .before .before .before .delay-table .ensures), l .inv .3, l .inv .4, omega arith, last-best (l .inv .6) some, l .inv .5)
 
 slice-aggregate-release : tie.Need-slice-aggregate-release Inv-loop μ-loop
 slice-aggregate-release c = search needs
 
 sub-release : tie.Need-sub-release Inv-loop μ-loop
-sub-release c = omega (arith, c .before .before .before .before .before .before .before .before .before .before .critical .ensures .0)
+sub-release c = let l = c .before .before .before .before .before .before .before .before .loop in omega (arith, listed-some (l .inv .3) (omega arith) (l .inv .4) (l .free) (l .n) (l .inv .6))
 
 release-requires : tie.Need-release-requires Inv-loop μ-loop
 release-requires c κs =
-    let l = c .before .before .before .before .before .before .before .before .before .before .before .before .before .before .loop in
+    let l = c .before .before .before .before .before .before .before .before .loop in
     let p = c .before .before .before .before .place-task .ensures in
-    let o = c .before .before .before .before .before .before .before .before .take-out .ensures in
-    let t = nth (l .free) (c .before .before .before .before .before .before .before .before .before .before .critical .result) in
+    let some = listed-some (l .inv .3) (omega arith) (l .inv .4) (l .free) (l .n) (l .inv .6) in
     let z : nth (c .before .before .before .before .place-task .last .0) 0 ≡ nth (l .mem) 0 = p .0 .before 0 (omega arith) in
-    ((l .k + 1, p .1), p .2, free-out (l .inv .6) (c .before .before .before .before .before .before .before .before .before .before .critical .result) t (c .before .before .before .before .before .before .before .before .before .before .critical .ensures .0) refl (p .4) z (o .0) (o .1), rw z (task-below (l .inv .3) (omega arith) (l .inv .4) t (c .before .before .before .before .before .before .before .before .before .before .critical .ensures .1)))
+    ((l .k + 1, p .1), p .2, free-out (l .inv .6) some (p .4) z, rw z (l .inv .6 .tasks .task-of (l .n - 1) (omega arith)))
 
 add-k : tie.Need-add-k Inv-loop μ-loop
-add-k c = omega (arith, sizes (c .before .before .before .before .before .before .before .before .before .before .before .before .before .before .before .before .before .before .loop .inv .3 .standing .job))
+add-k c = omega (arith, sizes (c .before .before .before .before .before .before .before .before .before .before .before .before .loop .inv .3 .standing .job))
 
 loop-less : tie.Need-loop-less Inv-loop μ-loop
 loop-less c = search needs
 
 loop-again : tie.Need-loop-again Inv-loop μ-loop
 loop-again c =
-    let l = c .before .before .before .before .before .before .before .before .before .before .before .before .before .before .before .before .before .before .loop in
+    let l = c .before .before .before .before .before .before .before .before .before .before .before .before .loop in
     let p = c .before .before .before .before .before .before .before .before .place-task .ensures in
     let q = c .before .before .before .release .ensures in (
-      omega (arith, c .before .before .before .before .before .before .before .before .before .before .before .before .before .before .before .before .before .loop-test .taken),
+      omega (arith, c .before .before .before .before .before .before .before .before .before .before .before .loop-test .taken),
       l .inv .1 ∙ sym (q .0 .before 0 (omega arith) ∙ p .0 .before 0 (omega arith)),
       kept-then (l .inv .2) (kept-then (kept-wider (inHeadAt _) (memorySize _) (p .0) (omega arith) (omega arith)) (kept-wider (inHeadAt _) (memorySize _) (q .0) (omega arith) (omega arith))),
       drawn-choice (q .0) (p .1) (omega arith) (omega arith),
@@ -148,12 +130,9 @@ draw-plan-spec =
     slice-aggregate-list-free
     list-free-requires
     loop-holds
-    slice-aggregate-critical
-    critical-requires
+    sub-t
     array-read-t
     cast-t
-    slice-aggregate-take-out
-    take-out-requires
     slice-aggregate-place-task
     place-task-requires
     slice-aggregate-release

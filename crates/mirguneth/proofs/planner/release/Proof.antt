@@ -9,7 +9,7 @@ use Rattle.definitions.specs.Lists.{nth}
 use Rattle.mirguneth.specs.Layout.{outNextAt}
 use Rattle.mirguneth.specs.Planning.{FreeList, Drawn}
 use Rattle.mirguneth.proofs.Held.{Sizes, sizes}
-use Rattle.mirguneth.proofs.ReleaseLaws.{Releasing, release-first, release-done, release-within, release-falls, release-some, release-held, release-asks, release-level, release-free, list-held, list-free}
+use Rattle.mirguneth.proofs.ReleaseLaws.{Releasing, release-first, release-done, release-within, release-falls, release-some, release-held, release-asks, release-level, release-free, release-puts, list-few, list-held, list-free}
 use Rattle.mirguneth.proofs.planner.release.Statement.{statement}
 use Rattle.mirguneth.proofs.planner.release.Tie as tie
 
@@ -32,7 +32,7 @@ turned c =
     let (i, s, r) = l .inv .1 in
     let h = c .before .before .before .loop-test .taken in
     ⊎-elim
-    (λ w. rw (w .8) (release-free s r h (w .0 .taken) (w .2 .result) (w .2 .ensures .0)))
+    (λ w. rw (w .9) (release-free s r h (w .0 .taken) (w .2 .result) (w .2 .ensures .0)))
     (λ w. rw (w .1) (release-held s r h (w .0 .left)))
     (c .if1 .came)
 
@@ -43,7 +43,7 @@ listed c =
     let (i, s, r) = l .inv .1 in
     let h = c .before .before .before .loop-test .taken in
     ⊎-elim
-    (λ w. rw (w .8, w .9, w .10) (list-free s r h (l .inv .2) (w .0 .taken) _ (w .5 .ensures .0) (w .5 .ensures .1)))
+    (λ w. rw (w .9, w .10, w .11) (list-free s r h (l .inv .2) (w .0 .taken) _ (w .6 .ensures .0) (w .6 .ensures .1 .1)))
     (λ w. rw (w .1, w .2, w .3) (list-held s r h (l .inv .2) (w .0 .left)))
     (c .if1 .came)
 
@@ -162,10 +162,13 @@ cast-put-in : tie.Need-cast-put-in Inv-loop μ-loop
 cast-put-in c = search needs
 
 put-in-requires : tie.Need-put-in-requires Inv-loop μ-loop
-put-in-requires c κs = let l = c .before .before .before .before .before .before .before .before .loop .inv .2 in (l .size, l .few)
+put-in-requires c κs =
+    let l = c .before .before .before .before .before .before .before .before .before .loop in
+    let (i, s, r) = l .inv .1 in
+    release-puts s r (c .before .before .before .before .before .before .before .before .loop-test .taken) (c .before .before .before .before .before .if1 .taken) (l .inv .2) (c .before .before .before .top-level .result) (c .before .before .before .top-level .ensures .0)
 
 add-n : tie.Need-add-n Inv-loop μ-loop
-add-n c = let l = c .before .before .before .before .before .before .before .before .before .before .before .loop .inv .2 in omega (arith, l .few)
+add-n c = let l = c .before .before .before .before .before .before .before .before .before .before .before .before .loop in let (i, s, r) = l .inv .1 in omega (arith, list-few s r (l .inv .2))
 
 sub-k : tie.Need-sub-k Inv-loop μ-loop
 sub-k c = search needs
@@ -189,7 +192,7 @@ same-length : tie.Need-same-length Inv-loop μ-loop
 same-length c = c .before .loop .inv .1 .2 .kept .size
 
 same-length-2 : tie.Need-same-length-2 Inv-loop μ-loop
-same-length-2 c = c .before .loop .inv .2 .size ∙ sym (c .before .before .before .before .before .before .before .pre .2 .size)
+same-length-2 c = c .before .loop .inv .2 .tasks .size ∙ sym (c .before .before .before .before .before .before .before .pre .2 .tasks .size)
 
 returns : tie.Need-returns Inv-loop μ-loop
 returns c = let (i, s, r) = c .before .loop .inv .1 in (r .kept, release-done s r (omega arith), c .before .loop .inv .2)
