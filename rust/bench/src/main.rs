@@ -4,10 +4,11 @@
 //! edge leads to a task of a greater number.
 //!
 //!     cargo run --release -p bench
+//!     cargo run --release -p bench shapes
 
 mod plain;
 
-use compare::jobs::{self, Edge, Job};
+use compare::jobs::{self, Edge, Job, Size};
 use compare::plans::Plan;
 use compare::rng::Rng;
 use compare::stops;
@@ -34,6 +35,9 @@ const SIZES: [(usize, usize, usize, usize); 7] = [
     (255, 16, 1_024, 7),
 ];
 
+/// How many jobs of each size have a random shape.
+const SHAPED: usize = 40;
+
 /// One call of one of the functions.
 type Call<'a> = &'a mut dyn FnMut(&dyn Tool);
 
@@ -46,8 +50,18 @@ struct Texts {
 
 fn main() {
     let tools = tools();
+    let mut rng = Rng::new(1);
+    match std::env::args().nth(1).as_deref() {
+        None => table(&tools, &mut rng),
+        Some("shapes") => shapes(&tools, &mut rng),
+        Some(other) => panic!("no such table: {other}"),
+    }
+}
+
+/// The small house, the scale of sizes, and the same sizes with mixed numbers.
+fn table(tools: &[(&str, &dyn Tool)], rng: &mut Rng) {
     print!("{:<48}{:<9}", "job", "");
-    for (name, _) in &tools {
+    for (name, _) in tools {
         print!("{:>12}", format!("{name}, us"));
     }
     println!(
@@ -58,45 +72,21 @@ fn main() {
             ""
         }
     );
-    let mut rng = Rng::new(1);
-    let mut all = vec![texts("small house".into(), SMALL_HOUSE.to_vec(), &mut rng)];
+    let mut all = vec![texts("small house".into(), SMALL_HOUSE.to_vec(), rng)];
     let mut mixed = Vec::new();
     for (tasks, boxes, edges, losses) in SIZES {
-        let job = jobs::of_size(&mut rng, tasks, boxes, edges, losses);
-        all.push(texts(name(&job), job.to_text(), &mut rng));
+        let job = jobs::of_size(rng, tasks, boxes, edges, losses);
+        all.push(texts(name(&job), job.to_text(), rng));
         mixed.push(job);
     }
-    mixed.push(chain(&mut rng));
+    mixed.push(chain(rng));
     for job in &mixed {
-        let job = jobs::renumbered(&mut rng, job);
-        all.push(texts(name(&job) + ", mixed", job.to_text(), &mut rng));
+        let job = jobs::renumbered(rng, job);
+        all.push(texts(name(&job) + ", mixed", job.to_text(), rng));
     }
     for texts in &all {
-        let mut out = vec![0; 65_536];
-        let calls: [(&str, Call); 3] = [
-            ("plan", &mut |tool| {
-                let mut written = 0;
-                let number = tool.plan(black_box(&texts.job), &mut out, &mut written);
-                assert_eq!(black_box(number), 0);
-            }),
-            ("check", &mut |tool| {
-                let mut task = 0;
-                let number = tool.check(black_box(&texts.job), &texts.plan, &mut task);
-                assert_eq!(black_box(number), 0);
-            }),
-            ("replay", &mut |tool| {
-                let mut written = 0;
-                let mut out = [0; 8_192];
-                let Texts {
-                    job, plan, stops, ..
-                } = black_box(texts);
-                let number = tool.replay(job, plan, stops, &mut out, &mut written);
-                assert_eq!(black_box(number), 0);
-            }),
-        ];
         let mut label = texts.name.as_str();
-        for (function, call) in calls {
-            let best = race(&tools, call);
+        for (function, best) in times(tools, texts) {
             print!("{label:<48}{function:<9}");
             for time in &best {
                 print!("{:>12.2}", time * 1e6);
@@ -119,6 +109,54 @@ fn main() {
             label = "";
         }
     }
+}
+
+/// Random jobs of all shapes: of each size how many take longer than in the
+/// second implementation, the middle ratio, and the three greatest.
+fn shapes(tools: &[(&str, &dyn Tool)], rng: &mut Rng) {
+    for size in [Size::Tiny, Size::Small, Size::Medium, Size::Large] {
+        let mut ratios = Vec::new();
+        for _ in 0..SHAPED {
+            let (job, shape) = jobs::random(rng, size);
+            let texts = texts(format!("{}, {shape}", name(&job)), job.to_text(), rng);
+            for (function, best) in times(tools, &texts) {
+                let ratio = best[0] / best[best.len() - 1];
+                ratios.push((ratio, format!("{function} {}", texts.name)));
+            }
+        }
+        ratios.sort_by(|a, b| b.0.total_cmp(&a.0));
+        let longer = ratios.iter().filter(|(ratio, _)| *ratio > 1.0).count();
+        let (middle, _) = ratios[ratios.len() / 2];
+        println!("{size:?}: {longer} of {}, middle {middle:.2}", ratios.len());
+        for (ratio, what) in &ratios[..3] {
+            println!("    {ratio:.2} {what}");
+        }
+    }
+}
+
+/// For each function the least seconds of one call, for each implementation.
+fn times(tools: &[(&str, &dyn Tool)], texts: &Texts) -> [(&'static str, Vec<f64>); 3] {
+    let mut out = vec![0; 65_536];
+    let plan = race(tools, &mut |tool| {
+        let mut written = 0;
+        let number = tool.plan(black_box(&texts.job), &mut out, &mut written);
+        assert_eq!(black_box(number), 0);
+    });
+    let check = race(tools, &mut |tool| {
+        let mut task = 0;
+        let number = tool.check(black_box(&texts.job), &texts.plan, &mut task);
+        assert_eq!(black_box(number), 0);
+    });
+    let replay = race(tools, &mut |tool| {
+        let mut written = 0;
+        let mut out = [0; 8_192];
+        let Texts {
+            job, plan, stops, ..
+        } = black_box(texts);
+        let number = tool.replay(job, plan, stops, &mut out, &mut written);
+        assert_eq!(black_box(number), 0);
+    });
+    [("plan", plan), ("check", check), ("replay", replay)]
 }
 
 /// As many tasks as may be, one after the other.
