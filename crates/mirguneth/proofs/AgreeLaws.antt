@@ -3,10 +3,9 @@ use mathlib.Core.Path.{_≡_, refl, ap, _∙_, sym}
 use mathlib.Core.Logic.{inl, inr, ⊎-elim}
 use mathlib.Core.List.{List, [], _∷_, _++_, map, map-append, map-map, append-assoc, append-nil, reverse, reverseAux, reverse-append, reverse-reverse}
 use mathlib.Core.Bool.{Bool, true, false}
-use Prim.Native.Nat.{ℕ, zero, suc, _+_, _*_, _-_, _<_, _≤_}
+use Prim.Native.Nat.{ℕ, zero, suc, _+_, _*_, _<_, _≤_}
 use native.Mathlib.Omega.{arith}
-use native.Mathlib.Numerals.{add-one}
-use lib.ListN.{length, length-append, length-map, take, drop, set, length-set, replicate}
+use lib.ListN.{length, length-append, length-map, take, drop, replicate}
 use lib.Seq.{take-at, drop-at}
 use Rattle.definitions.specs.Lists.{if_then_else_, nth, In, distinct}
 use Rattle.definitions.specs.Limits.{document01}
@@ -22,7 +21,7 @@ use Rattle.definitions.proofs.Guarantee.{same-times, times-same}
 use Rattle.mirguneth.specs.Layout.{lineAt, rowAt}
 use Rattle.mirguneth.specs.Schedule.{jobIn, timeIn, choiceOf, rowOutcomes, placedIn, rowReplicas, linesIn, dataIn, JobHeld, Standing, lineTicks, ShortTo}
 use Rattle.mirguneth.specs.Arrivals.{DelayTable, BothFed, ShortClocks, BothFinish}
-use Rattle.mirguneth.specs.Planning.{ClocksHeld, finishOn}
+use Rattle.mirguneth.specs.Planning.{finishOn}
 use Rattle.mirguneth.specs.Loading.{lineIn, planIn}
 use Rattle.mirguneth.specs.Checking.{PlanHeld, ClocksAfter, finishIn, AgreesTo, LineAgrees}
 use Rattle.mirguneth.specs.declared.clocks.Clocks.{Clocks}
@@ -30,7 +29,7 @@ use Rattle.mirguneth.proofs.Held.{last-or-before, tasks-in, processors-
 use Rattle.mirguneth.proofs.TimeLaws.{time-tick}
 use Rattle.mirguneth.proofs.Placed.{FedBy}
 use Rattle.mirguneth.proofs.DrawLaws.{outcomeOn, walk-apart}
-use Rattle.mirguneth.proofs.Drawing.{replicaAt, in-replicas, outcomeOf, outcomes-row, row-on, clock-more, finish-at, all-come, clocks-short, fed-short}
+use Rattle.mirguneth.proofs.Drawing.{replicaAt, in-replicas, outcomeOf, outcomes-row, row-on, finish-at, all-come, clocks-short, fed-short}
 use Rattle.mirguneth.proofs.OutsetLaws.{outset-clocks}
 use Rattle.mirguneth.proofs.CheckLaws.{line-among, line-facts, doubled-in}
 
@@ -146,40 +145,6 @@ pub clocks-new : {rooms : ℕ} (clocks : Clocks) (mem : List ℕ) → JobHeld ro
     → ClocksAfter rooms 0 mem clocks
 unfolding placedIn
 clocks-new clocks mem h e f = outset-clocks (h .facts .processors-most) e f
-
-module _ {rooms : ℕ} {mem : List ℕ} (h : PlanHeld rooms mem) (k : ℕ) (l : k < nth mem 0) where
-  abbrev after-row : Bool → ℕ → List Outcome
-  after-row late c = rowOutcomes late (rowAt rooms k) c mem ++ placedIn rooms late (nth mem 3 + 1) k mem
-
-  pub clocks-first : (clocks : Clocks) → ClocksAfter rooms k mem clocks
-      → ClocksHeld clocks (jobIn mem) (after-row false 0) (after-row true 0)
-  unfolding rowOutcomes
-  clocks-first clocks s = s
-
-  pub clocks-next : (clocks next : Clocks) (c : ℕ) → c < nth mem 3 + 1
-      → next .early ≡ set (clocks .early) (nth mem (rowAt rooms k + (1 + 3 * c))) (nth mem (rowAt rooms k + (2 + 3 * c)))
-      → next .late ≡ set (clocks .late) (nth mem (rowAt rooms k + (1 + 3 * c))) (nth mem (rowAt rooms k + (3 + 3 * c)))
-      → ClocksHeld clocks (jobIn mem) (after-row false c) (after-row true c)
-      → ClocksHeld next (jobIn mem) (after-row false (c + 1)) (after-row true (c + 1))
-  unfolding rowOutcomes
-  clocks-next clocks next c g e f s =
-      let p = nth mem (rowAt rooms k + (1 + 3 * c)) in
-      let x = nth mem (rowAt rooms k + (2 + 3 * c)) in
-      let y = nth mem (rowAt rooms k + (3 + 3 * c)) in
-      let b = h .standing .row k l .processor-of c g in
-      let m = sizes (h .standing .job) .processors-most in
-      rw (add-one c)
-      (record {
-        early-size = ap length e ∙ length-set (clocks .early) p x ∙ s .early-size;
-        late-size = ap length f ∙ length-set (clocks .late) p y ∙ s .late-size;
-        early-ready = λ q o. rw e (clock-more (jobIn mem) (clocks .early) (after-row false c) _ x (s .early-size) (omega arith) (tick-in h k l false c g) q (s .early-ready q o));
-        late-ready = λ q o. rw f (clock-more (jobIn mem) (clocks .late) (after-row true c) _ y (s .late-size) (omega arith) (tick-in h k l true c g) q (s .late-ready q o));
-      })
-
-  pub clocks-done : (clocks : Clocks) (c : ℕ) → c ≡ nth mem 3 + 1 → ClocksHeld clocks (jobIn mem) (after-row false c) (after-row true c)
-      → ClocksAfter rooms (k + 1) mem clocks
-  unfolding placedIn
-  clocks-done clocks c e s = rw (add-one k) (rw e at s)
 
 -- The ticks of a line -----------------------------------------------------------------------------------------------
 

@@ -1,7 +1,7 @@
 -- The memory while a plan is drawn up: its ticks, a line more, and what a change elsewhere leaves as it was.
 use mathlib.Core.Path.{_≡_, refl, ap, _∙_, sym}
 use mathlib.Core.Logic.{inl, inr, ⊎-elim}
-use mathlib.Core.List.{List, [], _∷_, _++_, map, map-map, map-append, reverse, reverseAux, reverseAux-append, append-nil}
+use mathlib.Core.List.{List, [], _∷_, _++_, map, map-map, map-append, reverse, reverseAux-append, append-nil}
 use mathlib.Core.Bool.{Bool, true, false, not, _&&_}
 use Prim.Native.Nat.{ℕ, zero, suc, _+_, _*_, _-_, _<_, _≤_}
 use native.Mathlib.Omega.{arith}
@@ -24,7 +24,7 @@ use Rattle.mirguneth.specs.Layout.{memorySize, jobSize, levelAt, lineAt,
 use Rattle.mirguneth.specs.Schedule.{jobIn, neverCell, timeIn, choiceOf, rowOutcomes, placedIn, rowReplicas, linesIn, rowOf, dataIn, topIn, KeptOutside, FedIn, lineTicks, Standing, ShortTo}
 use Rattle.mirguneth.specs.Arrivals.{lastShort, BothFed, ShortClocks}
 use Rattle.mirguneth.specs.declared.clocks.Clocks.{Clocks}
-use Rattle.mirguneth.specs.Planning.{isFree, freeIn, bestOf, FreeList, waitingIn, earliesIn, latesIn, finishOn, replicaOn, earlyOutcome, lateOutcome, ClocksHeld, Drawn, Ranked, Tried, boxesFor, Wrote, Begun}
+use Rattle.mirguneth.specs.Planning.{isFree, freeIn, bestOf, FreeList, waitingIn, earliesIn, latesIn, finishOn, replicaOn, ClocksHeld, Drawn, Ranked, Tried, boxesFor, Wrote, Begun}
 use Rattle.mirguneth.proofs.Held.{zero-or-more, tasks-in, processors-in, Same, same-part, same-before, same-behind, Sizes, sizes, job-same, placed-same, replicas-same, lines-same, standing-same, linked-out-same, levels-same, far-same, kept-all, kept-set, kept-then, kept-wider}
 use Rattle.mirguneth.proofs.Upward.{below-more, keep-yes, keep-no}
 use Rattle.mirguneth.proofs.TimeLaws.{time-tick}
@@ -262,47 +262,27 @@ wrote a c p early late d h =
       late-finish = getD-set-same two (a + (3 + 3 * c)) late 0 (omega arith);
     }
 
--- A clock that is set.
-pub clock-more : (j : Job) (ticks : List ℕ) (ds : List Outcome) (o : Outcome) (x : ℕ) → length ticks ≡ 16 → o .processor < 16 → o .time ≡ tick x
-    → (q : ℕ) → tick (nth ticks q) ≡ ready j q ds → tick (nth (set ticks (o .processor) x) q) ≡ ready j q (o ∷ ds)
-unfolding ready
-clock-more j ticks ds o x z h e q g = by (eqb (o .processor) q) refl
-  where
-    by : (b : Bool) → eqb (o .processor) q ≡ b → tick (nth (set ticks (o .processor) x) q) ≡ (if b then o .time else ready j q ds)
-    by true f = rw (← eqb-true (o .processor) q f) (ap tick (getD-set-same ticks (o .processor) x 0 (omega arith)) ∙ sym e)
-    by false f = let n = eqb-false (o .processor) q f in ap tick (getD-set-other ticks (o .processor) q x 0 (λ m. n (sym m))) ∙ g
-
-module _ {k t : ℕ} {d : List ℕ} {clocks : Clocks} where
-  pub begun-none : {rooms : ℕ} → ClocksHeld clocks (jobIn d) (earliesIn rooms k d) (latesIn rooms k d) → Begun rooms k t [] clocks d d
+module _ {k t : ℕ} {d : List ℕ} where
+  pub begun-none : {rooms : ℕ} → Begun rooms k t [] d d
   unfolding rowReplicas
-  begun-none c = record { kept = kept-all; replicas = refl; clocks-after = c }
+  begun-none = record { kept = kept-all; replicas = refl }
 
   -- One replica more.
-  module _ {rooms : ℕ} {ps : List ℕ} {mem e : List ℕ} (b : Begun rooms k t ps clocks d mem) (p x y : ℕ) (f : Wrote (rowAt rooms k) (length ps) p x y mem e)
-      (early : tick x ≡ finishOn rooms false k d t p) (late : tick y ≡ finishOn rooms true k d t p) where
-    begun-more : k < 8 * rooms → length ps < 8 → p < 16 → (next : Clocks) → next .early ≡ set (clocks .early) p x → next .late ≡ set (clocks .late) p y → Begun rooms k t (ps ++ p ∷ []) next d e
-    unfolding rowReplicas
-    begun-more hk few hp next g h =
-        let a = rowAt rooms k in
-        let c = length ps in
-        let n : length (ps ++ p ∷ []) ≡ suc c = length-append ps (p ∷ []) ∙ add-one c in
-        let cs = b .clocks-after in
-        let r : replicaAt a c e ≡ replicaOn rooms k d t p = rw (f .processor, f .early-finish, f .late-finish, ← early, ← late) in
-        let more : (o : ℕ → Outcome) (ds : List Outcome) → reverseAux (map o (ps ++ p ∷ [])) ds ≡ o p ∷ reverseAux (map o ps) ds =
-        λ o ds. rw (map-append o ps (p ∷ [])) (reverseAux-append (map o ps) (o p ∷ []) ds) in
-        record {
-          kept = kept-then (b .kept) (kept-wider (rowAt rooms k) (farAt rooms) (f .kept) (omega arith) (omega arith));
-          replicas = rw (n, replicas-same mem e a c (same-before a (a + (1 + 3 * c)) (f .kept) (omega arith)), r, b .replicas) (sym (map-append (replicaOn rooms k d t) ps (p ∷ [])));
-          clocks-after = record {
-            early-size = rw (g, length-set (clocks .early) p x) (cs .early-size);
-            late-size = rw (h, length-set (clocks .late) p y) (cs .late-size);
-            early-ready = λ q l. rw (g, more (earlyOutcome rooms k d t) (earliesIn rooms k d)) (clock-more (jobIn d) (clocks .early) (reverseAux (map (earlyOutcome rooms k d t) ps) (earliesIn rooms k d)) (earlyOutcome rooms k d t p) x (cs .early-size) hp (sym early) q (cs .early-ready q l));
-            late-ready = λ q l. rw (h, more (lateOutcome rooms k d t) (latesIn rooms k d)) (clock-more (jobIn d) (clocks .late) (reverseAux (map (lateOutcome rooms k d t) ps) (latesIn rooms k d)) (lateOutcome rooms k d t p) y (cs .late-size) hp (sym late) q (cs .late-ready q l));
-          };
-        }
+  begun-more : {rooms : ℕ} {ps : List ℕ} {mem e : List ℕ} → Begun rooms k t ps d mem → (p x y : ℕ) → Wrote (rowAt rooms k) (length ps) p x y mem e
+      → tick x ≡ finishOn rooms false k d t p → tick y ≡ finishOn rooms true k d t p → k < 8 * rooms → length ps < 8 → Begun rooms k t (ps ++ p ∷ []) d e
+  unfolding rowReplicas
+  begun-more {rooms} {ps} {mem} {e} b p x y f early late hk few =
+      let a = rowAt rooms k in
+      let c = length ps in
+      let n : length (ps ++ p ∷ []) ≡ suc c = length-append ps (p ∷ []) ∙ add-one c in
+      let r : replicaAt a c e ≡ replicaOn rooms k d t p = rw (f .processor, f .early-finish, f .late-finish, ← early, ← late) in
+      record {
+        kept = kept-then (b .kept) (kept-wider (rowAt rooms k) (farAt rooms) (f .kept) (omega arith) (omega arith));
+        replicas = rw (n, replicas-same mem e a c (same-before a (a + (1 + 3 * c)) (f .kept) (omega arith)), r, b .replicas) (sym (map-append (replicaOn rooms k d t) ps (p ∷ [])));
+      }
 
 -- Processor by processor.
-module _ {rooms k t : ℕ} {early late : List ℕ} {clocks : Clocks} {d : List ℕ} (o : Tried rooms k t early late clocks d) where
+module _ {rooms k t : ℕ} {early late : List ℕ} {d : List ℕ} (o : Tried rooms k t early late d) where
   -- The processors that are chosen.
   abbrev takes : ℕ → Bool
   takes = isChosen early (nth d 1) (nth d 3 + 1)
@@ -310,8 +290,8 @@ module _ {rooms k t : ℕ} {early late : List ℕ} {clocks : Clocks} {d : List �
   few-tasks : k < 8 * rooms
   few-tasks = omega (arith, o .more, sizes (o .drawn .standing .job) .tasks-most)
 
-  module _ {p c : ℕ} {after : Clocks} {mem : List ℕ} (l : p < nth d 1) (n : c ≡ length (keep takes (below p))) (b : Begun rooms k t (keep takes (below p)) after d mem) where
-    pub pass-box : takes p ≡ false → (c ≡ length (keep takes (below (p + 1)))) × Begun rooms k t (keep takes (below (p + 1))) after d mem
+  module _ {p c : ℕ} {mem : List ℕ} (l : p < nth d 1) (n : c ≡ length (keep takes (below p))) (b : Begun rooms k t (keep takes (below p)) d mem) where
+    pub pass-box : takes p ≡ false → (c ≡ length (keep takes (below (p + 1)))) × Begun rooms k t (keep takes (below (p + 1))) d mem
     pass-box f = rw (below-more p, keep-no takes (below p) p f) (n, b)
 
     module _ (f : takes p ≡ true) where
@@ -322,21 +302,20 @@ module _ {rooms k t : ℕ} {early late : List ℕ} {clocks : Clocks} {d : List �
       pub box-within : rowAt rooms k + (4 + 3 * c) ≤ length mem
       box-within = omega (arith, few-tasks, box-room, b .kept .size, o .drawn .standing .job .size)
 
-      pub take-box : {e : List ℕ} (next : Clocks) → Wrote (rowAt rooms k) c p (nth early p) (nth late p) mem e
-          → next .early ≡ set (after .early) p (nth early p) → next .late ≡ set (after .late) p (nth late p)
-          → (c + 1 ≡ length (keep takes (below (p + 1)))) × Begun rooms k t (keep takes (below (p + 1))) next d e
-      take-box next a g h =
+      pub take-box : {e : List ℕ} → Wrote (rowAt rooms k) c p (nth early p) (nth late p) mem e
+          → (c + 1 ≡ length (keep takes (below (p + 1)))) × Begun rooms k t (keep takes (below (p + 1))) d e
+      take-box a =
           let ps = keep takes (below p) in
           let m : length ps < 8 = omega (arith, box-room) in
           rw (below-more p, keep-yes takes (below p) p f) (
             ap (λ (i : ℕ). i + 1) n ∙ sym (length-append ps (p ∷ [])),
-            begun-more b p (nth early p) (nth late p) (rw n at a) (o .early-finishes p l) (o .late-finishes p l) few-tasks m (omega (arith, sizes (o .drawn .standing .job) .processors-most)) next g h,
+            begun-more b p (nth early p) (nth late p) (rw n at a) (o .early-finishes p l) (o .late-finishes p l) few-tasks m,
           )
 
   -- All processors have been asked.
-  pub boxes-taken : {p : ℕ} {after : Clocks} {mem : List ℕ} → p ≡ nth d 1 → Begun rooms k t (keep takes (below p)) after d mem → Begun rooms k t (boxesFor rooms k t d) after d mem
+  pub boxes-taken : {p : ℕ} {mem : List ℕ} → p ≡ nth d 1 → Begun rooms k t (keep takes (below p)) d mem → Begun rooms k t (boxesFor rooms k t d) d mem
   unfolding jobIn finishOn
-  boxes-taken {p} {after} {mem} e b =
+  boxes-taken {p} {mem} e b =
       let same = chosen-same (jobIn d) (nth d 3 + 1) early (trial (jobIn d) (earliesIn rooms k d) t) (λ q l. ap tickOf (o .early-finishes q l) ∙ sym (trial-nth (jobIn d) (earliesIn rooms k d) t q l)) in
       rw (← same) (rw e at b)
 

@@ -22,6 +22,7 @@ pub mod RowSums
 pub mod OrderLaws
 pub mod SortLaws
 pub mod CircleLaws
+pub mod ClockLaws
 pub mod LevelLaws
 pub mod ChoiceLaws
 pub mod WriteLaws

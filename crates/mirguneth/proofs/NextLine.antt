@@ -73,8 +73,8 @@ module _ {rooms k : ℕ} {d : List ℕ} (s : Drawn rooms k d) (h : k < nth d 0) 
   box-below : (p : ℕ) → In p (boxesFor rooms k t d) → p < nth d 1
   box-below p i = rw (processors-in d) at (chosen-below (jobIn d) (trial (jobIn d) (earliesIn rooms k d) t) (nth d 3 + 1) p i)
 
-  pub laid : (clocks : Clocks) (mem : List ℕ) → Begun rooms k t (boxesFor rooms k t d) clocks d mem → Laid rooms k t d (set (set mem (rowAt rooms k) t) (lineAt rooms + t) (k + 1))
-  laid clocks mem b =
+  pub laid : (mem : List ℕ) → Begun rooms k t (boxesFor rooms k t d) d mem → Laid rooms k t d (set (set mem (rowAt rooms k) t) (lineAt rooms + t) (k + 1))
+  laid mem b =
       let one = set mem (rowAt rooms k) t in
       let e = set one (lineAt rooms + t) (k + 1) in
       let n = boxes-count in
@@ -92,19 +92,18 @@ module _ {rooms k : ℕ} {d : List ℕ} (s : Drawn rooms k d) (h : k < nth d 0) 
             ∙ b .replicas;
       }
 
-  pub laid-kept : (clocks : Clocks) (mem : List ℕ) → Begun rooms k t (boxesFor rooms k t d) clocks d mem → KeptOutside (lineAt rooms) (farAt rooms) d (set (set mem (rowAt rooms k) t) (lineAt rooms + t) (k + 1))
-  laid-kept clocks mem b =
+  pub laid-kept : (mem : List ℕ) → Begun rooms k t (boxesFor rooms k t d) d mem → KeptOutside (lineAt rooms) (farAt rooms) d (set (set mem (rowAt rooms k) t) (lineAt rooms + t) (k + 1))
+  laid-kept mem b =
       let m : t < 8 * rooms = few in
       kept-set (lineAt rooms + t) (k + 1) (kept-set (rowAt rooms k) t (kept-wider (lineAt rooms) (farAt rooms) (b .kept) (omega arith) (omega arith)) (omega arith) (omega (arith, w .tasks-most))) (omega arith) (omega arith)
 
   -- The finishes that the code computes are the task's.
-  pub tried : {clocks : Clocks} {early late : List ℕ} → ClocksHeld clocks (jobIn d) (earliesIn rooms k d) (latesIn rooms k d) → BothFinish rooms t clocks d early late → Tried rooms k t early late clocks d
+  pub tried : {clocks : Clocks} {early late : List ℕ} → ClocksHeld clocks (jobIn d) (earliesIn rooms k d) (latesIn rooms k d) → BothFinish rooms t clocks d early late → Tried rooms k t early late d
   unfolding finishOn
   tried {clocks} c f =
       record {
         drawn = s;
         more = h;
-        clocks-now = c;
         early-size = f .early-size;
         late-size = f .late-size;
         early-finishes = λ p l. f .early-finish p l ∙ finish-at (s .standing) (omega arith) false t p (nth (clocks .early) p) (fed-all (s .standing) t fed) (c .early-ready p (rw (processors-in d) l));
@@ -379,10 +378,6 @@ module _ {rooms k : ℕ} {d : List ℕ} (s : Drawn rooms k d) (h : k < nth d 0) 
               rw (before-row .cell (priorityAt rooms + u) (omega arith) (omega arith), job-laid, top-same u (free-fed s r u g free), before-lines .cell (levelAt rooms + u) (omega arith) (omega arith)) (r .priorities u g free);
         }
 
-    -- The clocks after the line.
-    pub clocks-next : (clocks : Clocks) (mem : List ℕ) → Begun rooms k t (boxesFor rooms k t d) clocks d mem → ClocksHeld clocks (jobIn e) (earliesIn rooms (k + 1) e) (latesIn rooms (k + 1) e)
-    unfolding finishOn
-    clocks-next clocks mem b =
-        let ps = boxesFor rooms k t d in
-        let one = chosen-distinct (jobIn d) (trial (jobIn d) (earliesIn rooms k d) t) (nth d 3 + 1) in
-        rw (add-one k, placed-next false, placed-next true, job-laid, walk-apart (jobIn d) least t apart ps one (earliesIn rooms k d), walk-apart (jobIn d) largest t apart ps one (latesIn rooms k d)) (b .clocks-after)
+    -- The clocks before the line, which the line leaves as they were.
+    pub clocks-kept : {clocks : Clocks} → ClocksHeld clocks (jobIn d) (earliesIn rooms k d) (latesIn rooms k d) → ClocksHeld clocks (jobIn e) (earliesIn rooms k e) (latesIn rooms k e)
+    clocks-kept c = rw (job-laid, losses-same, placed-old false, placed-old true) c

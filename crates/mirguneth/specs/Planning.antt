@@ -1,7 +1,7 @@
 -- What the memory holds while a plan is drawn up.
 use mathlib.Core.Path.{_≡_}
 use mathlib.Core.Logic.{_⊎_}
-use mathlib.Core.List.{List, [], _∷_, _++_, map, reverseAux}
+use mathlib.Core.List.{List, [], _∷_, _++_, map}
 use mathlib.Core.Bool.{Bool, true, false, _&&_}
 use Prim.Native.Nat.{ℕ, suc, _+_, _*_, _-_, _<_, _≤_}
 use lib.Dec.{eqb}
@@ -14,7 +14,7 @@ use Rattle.definitions.specs.Times.{Time, tick, after, least, Outcome, ready, f
 use Rattle.definitions.specs.Planner.{tickOf, greatestOf, Waiting, waitingFrom, scale, trial, chosen, place, planFor}
 use Rattle.definitions.proofs.Tasks.{copyOf}
 use Rattle.mirguneth.specs.Layout.{levelAt, lineAt, blockedAt, priorityAt, rowAt, farAt}
-use Rattle.mirguneth.specs.Schedule.{jobIn, choiceOf, rowOutcomes, placedIn, rowReplicas, linesIn, topIn, KeptOutside, RowHeld, Standing, LinkedOut, FarFilled, LevelsFilled, ShortTo}
+use Rattle.mirguneth.specs.Schedule.{jobIn, choiceOf, rowOutcomes, placedIn, rowReplicas, linesIn, topIn, KeptOutside, JobStands, RowHeld, Standing, LinkedOut, FarFilled, LevelsFilled, ShortTo}
 use Rattle.mirguneth.specs.declared.clocks.Clocks.{Clocks}
 
 -- The choice of a task ------------------------------------------------------------------------------------------
@@ -98,15 +98,9 @@ latesIn rooms k mem = placedIn rooms true (nth mem 3 + 1) k mem
 unfoldable pub finishOn : ℕ → Bool → ℕ → List ℕ → ℕ → ℕ → Time
 finishOn rooms late k mem t p = finish (jobIn mem) (choiceOf late) [] (placedIn rooms late (nth mem 3 + 1) k mem) (copyOf (jobIn mem) t p)
 
--- The replica of t on p, after the first k lines; and its outcomes.
+-- The replica of t on p, after the first k lines.
 abbrev pub replicaOn : ℕ → ℕ → List ℕ → ℕ → ℕ → Replica
 replicaOn rooms k mem t p = record { processor = p; early = tickOf (finishOn rooms false k mem t p); late = tickOf (finishOn rooms true k mem t p) }
-
-abbrev pub earlyOutcome : ℕ → ℕ → List ℕ → ℕ → ℕ → Outcome
-earlyOutcome rooms k mem t p = record { task = t; processor = p; time = finishOn rooms false k mem t p }
-
-abbrev pub lateOutcome : ℕ → ℕ → List ℕ → ℕ → ℕ → Outcome
-lateOutcome rooms k mem t p = record { task = t; processor = p; time = finishOn rooms true k mem t p }
 
 -- The clocks have the ready ticks of all processors after what is placed, with its early and its late times.
 pub record ClocksHeld (clocks : Clocks) (j : Job) (es ls : List Outcome) : Type 0 where
@@ -114,6 +108,18 @@ pub record ClocksHeld (clocks : Clocks) (j : Job) (es ls : List Outcome) : Type 
   pub late-size : length (clocks .late) ≡ 16
   pub early-ready : (p : ℕ) → p < j .processors → tick (nth (clocks .early) p) ≡ ready j p es
   pub late-ready : (p : ℕ) → p < j .processors → tick (nth (clocks .late) p) ≡ ready j p ls
+
+-- The line at a has ticks that clocks can show.
+pub record LineTimed (a : ℕ) (mem : List ℕ) : Type 0 where
+  pub job : JobStands mem
+  pub row : RowHeld a mem
+  pub within : a + 25 ≤ length mem
+  pub ticks : (c : ℕ) → c < nth mem 3 + 1 → (nth mem (a + (2 + 3 * c)) ≤ 4294967295) × (nth mem (a + (3 + 3 * c)) ≤ 4294967295)
+
+-- The clocks next are the clocks after the first c replicas of the line at a besides.
+abbrev pub Advanced : ℕ → ℕ → List ℕ → Clocks → Clocks → Type 0
+Advanced a c mem clocks next =
+    (es ls : List Outcome) → ClocksHeld clocks (jobIn mem) es ls → ClocksHeld next (jobIn mem) (rowOutcomes false a c mem ++ es) (rowOutcomes true a c mem ++ ls)
 
 -- k lines of the plan are drawn up, and what is left to place gives the rest of it.
 pub record Drawn (rooms k : ℕ) (mem : List ℕ) : Type 0 where
@@ -135,10 +141,9 @@ pub record Ranked (rooms : ℕ) (es : List Edge) (mem : List ℕ) : Type 0 where
       → nth mem (priorityAt rooms + u) ≡ tickOf (topIn rooms u mem) * scale (jobIn mem) + nth mem (levelAt rooms + u)
 
 -- Line k is to be of task t, which would finish at these ticks, early and late.
-pub record Tried (rooms k t : ℕ) (early late : List ℕ) (clocks : Clocks) (mem : List ℕ) : Type 0 where
+pub record Tried (rooms k t : ℕ) (early late : List ℕ) (mem : List ℕ) : Type 0 where
   pub drawn : Drawn rooms k mem
   pub more : k < nth mem 0
-  pub clocks-now : ClocksHeld clocks (jobIn mem) (earliesIn rooms k mem) (latesIn rooms k mem)
   pub early-size : length early ≡ 16
   pub late-size : length late ≡ 16
   pub early-finishes : (p : ℕ) → p < nth mem 1 → tick (nth early p) ≡ finishOn rooms false k mem t p
@@ -155,11 +160,10 @@ pub record Wrote (a c p early late : ℕ) (d mem : List ℕ) : Type 0 where
   pub early-finish : nth mem (a + (2 + 3 * c)) ≡ early
   pub late-finish : nth mem (a + (3 + 3 * c)) ≡ late
 
--- Line k of a memory d has its replicas, of task t on the processors ps, and the clocks are those after it.
-pub record Begun (rooms k t : ℕ) (ps : List ℕ) (clocks : Clocks) (d mem : List ℕ) : Type 0 where
+-- Line k of a memory d has its replicas, of task t on the processors ps.
+pub record Begun (rooms k t : ℕ) (ps : List ℕ) (d mem : List ℕ) : Type 0 where
   pub kept : KeptOutside (rowAt rooms k) (farAt rooms) d mem
   pub replicas : rowReplicas (rowAt rooms k) (length ps) mem ≡ map (replicaOn rooms k d t) ps
-  pub clocks-after : ClocksHeld clocks (jobIn d) (reverseAux (map (earlyOutcome rooms k d t) ps) (earliesIn rooms k d)) (reverseAux (map (lateOutcome rooms k d t) ps) (latesIn rooms k d))
 
 -- The first n tasks have no line and no edge that is counted, and their bottom levels for priorities.
 pub record Cleared (rooms n : ℕ) (mem : List ℕ) : Type 0 where

@@ -84,39 +84,19 @@ fn line_agrees(mem: &[u64], rooms: usize, delays: &[u16], k: usize, clocks: Cloc
     true
 }
 
-// The clocks after line k.
-fn clocks_after(mem: &[u64], rooms: usize, k: usize, clocks: Clocks) -> Clocks
-    requires { ⌜ PlanHeld rooms (now mem) × (k < nth (now mem) 0) × ShortTo rooms (k + 1) (now mem) × ClocksAfter rooms k (now mem) clocks ⌝ }
-    ensures { λ r. ⌜ ClocksAfter rooms (k + 1) (now (mem .entry)) r ⌝ }
-{
-    let rows = ROWS * rooms;
-    let w = mem[3] as usize + 1;
-    let a = rows + k * 25;
-    let mut after = clocks;
-    let mut c = 0;
-    while c < w {
-        let p = mem[a + (1 + 3 * c)] as usize;
-        let early = mem[a + (2 + 3 * c)] as u32;
-        let late = mem[a + (3 + 3 * c)] as u32;
-        let next = after.advance(p, early, late);
-        after = next;
-        c += 1;
-    }
-    after
-}
-
 // All ticks are the equations'.
 fn ticks_agree(mem: &[u64], rooms: usize) -> bool
     requires { ⌜ PlanHeld rooms (now mem) × (doubledTasks (planIn rooms (now mem) .lines) ≡ []) ⌝ }
     ensures { λ r. ⌜ r ≡ ticksAgree (jobIn (now (mem .entry))) (planIn rooms (now (mem .entry)) .lines) ⌝ }
 {
+    let rows = ROWS * rooms;
     let v = mem[0] as usize;
     let delays = times::delay_table(mem);
     let mut clocks = Clocks::new();
     let mut k = 0;
     while k < v {
         if line_agrees(mem, rooms, &delays, k, clocks) {
-            let next = clocks_after(mem, rooms, k, clocks);
+            let next = clocks.advance(mem, rows + k * 25);
             clocks = next;
         } else {
             return false;

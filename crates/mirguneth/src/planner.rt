@@ -72,36 +72,24 @@ fn put_replica(mem: &mut [u64], a: usize, c: usize, p: usize, early: u64, late: 
     mem[a + (3 + 3 * c)] = late;
 }
 
-// The replicas of line k: t on the processors of least early finish. The answer is the clocks after it.
-fn fill_line(
-    mem: &mut [u64],
-    rooms: usize,
-    k: usize,
-    t: usize,
-    early: [u32; 16],
-    late: [u32; 16],
-    clocks: Clocks,
-) -> Clocks
-    requires { ⌜ Tried rooms k t early late clocks (now mem) ⌝ }
-    ensures { λ r. ⌜ Begun rooms k t (boxesFor rooms k t (now (mem .entry))) r (now (mem .entry)) (now (mem .exit)) ⌝ }
+// The replicas of line k: t on the processors of least early finish.
+fn fill_line(mem: &mut [u64], rooms: usize, k: usize, t: usize, early: [u32; 16], late: [u32; 16])
+    requires { ⌜ Tried rooms k t early late (now mem) ⌝ }
+    ensures { λ _. ⌜ Begun rooms k t (boxesFor rooms k t (now (mem .entry))) (now (mem .entry)) (now (mem .exit)) ⌝ }
 {
     let rows = ROWS * rooms;
     let m = mem[1] as usize;
     let w = mem[3] as usize + 1;
     let a = rows + k * 25;
-    let mut after = clocks;
     let mut c = 0;
     let mut p = 0;
     while p < m {
         if boxes::is_chosen(&early, m, w, p) {
             put_replica(mem, a, c, p, early[p] as u64, late[p] as u64);
-            let next = after.advance(p, early[p], late[p]);
-            after = next;
             c += 1;
         }
         p += 1;
     }
-    after
 }
 
 // Line k: t on the processors of least early finish. The answer is the clocks after it.
@@ -121,9 +109,10 @@ fn place_task(
     let f = times::finishes(&mem[..], rooms, delays, t, clocks);
     let early = f.early;
     let late = f.late;
-    let after = fill_line(mem, rooms, k, t, early, late, clocks);
+    fill_line(mem, rooms, k, t, early, late);
     mem[rows + k * 25] = t as u64;
     mem[line + t] = (k + 1) as u64;
+    let after = clocks.advance(&mem[..], rows + k * 25);
     after
 }
 

@@ -7,16 +7,20 @@ use mathlib.Core.Bool.{false≢true}
 use Rattle.mirguneth.specs.Schedule.{ShortTo}
 use Rattle.mirguneth.specs.Checking.{ClocksAfter, LineAgrees}
 use Rattle.mirguneth.proofs.Held.{sizes}
+use Rattle.mirguneth.proofs.ClockLaws.{line-timed, clocks-line}
 use Rattle.mirguneth.proofs.AgreeLaws.{clocks-new, ticks-yes, ticks-no, agreed-next}
 use Rattle.mirguneth.proofs.checker.ticks_agree.Statement.{statement}
 use Rattle.mirguneth.proofs.checker.ticks_agree.Tie as tie
 
 abbrev Inv-loop : tie.InvT-loop
-Inv-loop mem rooms v delays clocks₀ k₀ clocks k =
+Inv-loop mem rooms rows v delays clocks₀ k₀ clocks k =
     (k ≤ v) × ((i : ℕ) → i < k → LineAgrees rooms i mem) × ShortTo rooms k mem × ClocksAfter rooms k mem clocks
 
 abbrev μ-loop : tie.MeasureT-loop
-μ-loop mem rooms v delays clocks₀ k₀ clocks k = v - k
+μ-loop mem rooms rows v delays clocks₀ k₀ clocks k = v - k
+
+mul-rows : tie.Need-mul-rows Inv-loop μ-loop
+mul-rows c = search needs
 
 shared-slice-read-v : tie.Need-shared-slice-read-v Inv-loop μ-loop
 shared-slice-read-v c = let s = sizes (c .before .before .pre .0 .standing .job) in omega arith
@@ -36,8 +40,14 @@ slice-aggregate-line-agrees c = search needs
 line-agrees-requires : tie.Need-line-agrees-requires Inv-loop μ-loop
 line-agrees-requires c κs = (c .before .before .before .before .before .before .before .pre .0, c .before .before .before .before .delay-table .ensures, c .before .loop-test .taken, c .before .before .loop .inv .2, c .before .before .loop .inv .3)
 
-clocks-after-requires : tie.Need-clocks-after-requires Inv-loop μ-loop
-clocks-after-requires c κs = (c .before .before .before .before .before .before .before .before .before .pre .0, c .before .before .before .loop-test .taken, c .before .line-agrees .ensures .0 (c .if1 .taken) .1, c .before .before .before .before .loop .inv .3)
+mul-advance : tie.Need-mul-advance Inv-loop μ-loop
+mul-advance c = let s = sizes (c .before .before .before .before .before .before .before .before .before .pre .0 .standing .job) in omega arith
+
+add-advance : tie.Need-add-advance Inv-loop μ-loop
+add-advance c = let s = sizes (c .before .before .before .before .before .before .before .before .before .pre .0 .standing .job) in omega arith
+
+advance-requires : tie.Need-advance-requires Inv-loop μ-loop
+advance-requires c κs = (line-timed (c .before .before .before .before .before .before .before .before .before .pre .0 .standing) (omega arith) (c .before .line-agrees .ensures .0 (c .if1 .taken) .1) (c .before .before .before .before .loop .k) (omega arith), c .before .before .before .before .loop .inv .3 .early-size, c .before .before .before .before .loop .inv .3 .late-size)
 
 returns : tie.Need-returns Inv-loop μ-loop
 returns c = ticks-no (c .before .before .before .before .before .before .before .before .before .pre .0) (c .before .before .before .before .before .before .before .before .before .pre .1) (c .before .before .before .before .loop .k) (c .before .before .before .loop-test .taken) (λ a. false≢true (sym (c .if1 .left) ∙ c .before .line-agrees .ensures .1 a))
@@ -49,7 +59,11 @@ loop-less : tie.Need-loop-less Inv-loop μ-loop
 loop-less c = search needs
 
 loop-again : tie.Need-loop-again Inv-loop μ-loop
-loop-again c = let (a, s) = c .before .before .line-agrees .ensures .0 (c .before .if1 .taken) in (omega arith, agreed-next (c .before .before .before .before .before .before .before .before .before .before .args .rooms) (c .before .before .before .before .before .before .before .before .before .before .args .mem .now) (c .before .before .before .before .before .loop .k) a (c .before .before .before .before .before .loop .inv .1), s, c .clocks-after .ensures)
+loop-again c =
+    let (a, s) = c .before .before .line-agrees .ensures .0 (c .before .if1 .taken) in
+    let l = c .before .before .before .before .before .loop in
+    let x = c .before .before .before .before .before .before .before .before .before .before .args in
+    (omega arith, agreed-next (x .rooms) (x .mem .now) (l .k) a (l .inv .1), s, clocks-line (x .rooms) (l .k) (x .mem .now) (c .advance .result) (c .advance .ensures _ _ (l .inv .3)))
 
 returns-2 : tie.Need-returns-2 Inv-loop μ-loop
 returns-2 c = ticks-yes (c .before .before .before .before .before .before .pre .0) (c .before .before .before .before .before .before .pre .1) (c .before .loop .k) (omega arith) (c .before .loop .inv .1)
@@ -60,13 +74,16 @@ ticks-agree-spec =
     (tie.spec
     Inv-loop
     μ-loop
+    mul-rows
     shared-slice-read-v
     delay-table-requires
     new-requires
     loop-holds
     slice-aggregate-line-agrees
     line-agrees-requires
-    clocks-after-requires
+    mul-advance
+    add-advance
+    advance-requires
     returns
     add-k
     loop-less

@@ -14,10 +14,10 @@ use Rattle.mirguneth.proofs.planner.fill_line.Statement.{statement}
 use Rattle.mirguneth.proofs.planner.fill_line.Tie as tie
 
 abbrev Inv-loop : tie.InvT-loop
-Inv-loop mem₀ rooms k t early late rows m w a after₀ c₀ p₀ mem after c p = (p ≤ m) × (c ≡ length (keep (isChosen early m w) (below p))) × Begun rooms k t (keep (isChosen early m w) (below p)) after mem₀ mem
+Inv-loop mem₀ rooms k t early late rows m w a c₀ p₀ mem c p = (p ≤ m) × (c ≡ length (keep (isChosen early m w) (below p))) × Begun rooms k t (keep (isChosen early m w) (below p)) mem₀ mem
 
 abbrev μ-loop : tie.MeasureT-loop
-μ-loop mem₀ rooms k t early late rows m w a after₀ c₀ p₀ mem after c p = m - p
+μ-loop mem₀ rooms k t early late rows m w a c₀ p₀ mem c p = m - p
 
 held : (c : tie.Start Inv-loop μ-loop) → Sizes (c .args .rooms) (c .args .mem .now)
 held c = sizes (c .pre .drawn .standing .job)
@@ -42,7 +42,7 @@ add-a c = omega (arith, held (c .before .before .before))
 
 loop-holds : tie.Need-loop-holds Inv-loop μ-loop
 unfolding keep countFrom
-loop-holds c = (search needs, refl, begun-none (c .before .before .before .pre .clocks-now))
+loop-holds c = (search needs, refl, begun-none)
 
 slice-aggregate-is-chosen : tie.Need-slice-aggregate-is-chosen Inv-loop μ-loop
 slice-aggregate-is-chosen c = search needs
@@ -71,23 +71,8 @@ cast-put-replica-2 c = search needs
 put-replica-requires : tie.Need-put-replica-requires Inv-loop μ-loop
 put-replica-requires c κs = let l = c .before .before .before .before .before .loop in box-within (c .before .before .before .before .before .before .before .before .before .pre) (c .before .before .before .before .loop-test .taken) (l .inv .1) (l .inv .2) (sym (c .before .before .is-chosen .ensures) ∙ c .before .if1 .taken)
 
-mul-advance : tie.Need-mul-advance Inv-loop μ-loop
-mul-advance c = omega (arith, held (c .before .before .before .before .before .before .before .before .before .before .before .before))
-
-array-read-advance : tie.Need-array-read-advance Inv-loop μ-loop
-array-read-advance c = omega (arith, held (c .before .before .before .before .before .before .before .before .before .before .before .before), c .before .before .before .before .before .before .before .before .before .before .before .before .pre .early-size)
-
-mul-advance-2 : tie.Need-mul-advance-2 Inv-loop μ-loop
-mul-advance-2 c = omega (arith, held (c .before .before .before .before .before .before .before .before .before .before .before .before))
-
-array-read-advance-2 : tie.Need-array-read-advance-2 Inv-loop μ-loop
-array-read-advance-2 c = omega (arith, held (c .before .before .before .before .before .before .before .before .before .before .before .before), c .before .before .before .before .before .before .before .before .before .before .before .before .pre .late-size)
-
-advance-requires : tie.Need-advance-requires Inv-loop μ-loop
-advance-requires c κs = let b = c .before .before .before .before .before .before .before .before .loop .inv .2 .clocks-after in (omega (arith, held (c .before .before .before .before .before .before .before .before .before .before .before .before)), b .early-size, b .late-size)
-
 add-c : tie.Need-add-c Inv-loop μ-loop
-add-c c = let l = c .before .before .before .before .before .before .before .before .before .loop in omega (arith, box-room (c .before .before .before .before .before .before .before .before .before .before .before .before .before .pre) (c .before .before .before .before .before .before .before .before .loop-test .taken) (l .inv .1) (l .inv .2) (sym (c .before .before .before .before .before .before .is-chosen .ensures) ∙ c .before .before .before .before .before .if1 .taken))
+add-c c = let l = c .before .before .before .before .before .before .before .before .loop in omega (arith, box-room (c .before .before .before .before .before .before .before .before .before .before .before .before .pre) (c .before .before .before .before .before .before .before .loop-test .taken) (l .inv .1) (l .inv .2) (sym (c .before .before .before .before .before .is-chosen .ensures) ∙ c .before .before .before .before .if1 .taken))
 
 add-p : tie.Need-add-p Inv-loop μ-loop
 add-p c = omega (arith, held (c .before .before .before .before .before .before .before .before))
@@ -103,10 +88,10 @@ loop-again c =
     let a = c .before .before .before .before .before .before .before .before .args in
     let d = a .mem .now in
     let ps = keep (isChosen (a .t5) (nth d 1) (nth d 3 + 1)) (below (l .p + 1)) in
-    let b : (c .if1 .c ≡ length ps) × Begun (c .before .before .before .before .before .before .before .before .args .rooms) (a .k) (a .t) ps (c .if1 .after) d (c .if1 .mem) =
+    let b : (c .if1 .c ≡ length ps) × Begun (c .before .before .before .before .before .before .before .before .args .rooms) (a .k) (a .t) ps d (c .if1 .mem) =
     ⊎-elim
-    (λ w. rw (w .6, w .7, w .8) (take-box (c .before .before .before .before .before .before .before .before .pre) h (l .inv .1) (l .inv .2) (e ∙ w .0 .taken) (w .5 .result) (w .2 .ensures) (w .5 .ensures .0) (w .5 .ensures .1)))
-    (λ w. rw (w .1, w .2, w .3) (pass-box (c .before .before .before .before .before .before .before .before .pre) h (l .inv .1) (l .inv .2) (e ∙ w .0 .left)))
+    (λ w. rw (w .5, w .6) (take-box (c .before .before .before .before .before .before .before .before .pre) h (l .inv .1) (l .inv .2) (e ∙ w .0 .taken) (w .2 .ensures)))
+    (λ w. rw (w .1, w .2) (pass-box (c .before .before .before .before .before .before .before .before .pre) h (l .inv .1) (l .inv .2) (e ∙ w .0 .left)))
     (c .if1 .came) in
     (search needs, b .0, b .1)
 
@@ -138,11 +123,6 @@ fill-line-spec =
     array-read-put-replica-2
     cast-put-replica-2
     put-replica-requires
-    mul-advance
-    array-read-advance
-    mul-advance-2
-    array-read-advance-2
-    advance-requires
     add-c
     add-p
     loop-less

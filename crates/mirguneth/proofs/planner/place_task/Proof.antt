@@ -1,13 +1,15 @@
 -- The line is what the definition places next.
 use mathlib.Core.Path.{_≡_}
-use Prim.Native.Nat.{_<_, _*_}
+use Prim.Native.Nat.{_+_, _<_, _*_}
 use native.Mathlib.Omega.{arith}
 use borrow.Author.Needs.{needs}
-use lib.ListN.{length, length-set}
+use lib.ListN.{length, length-set, set}
+use Rattle.mirguneth.specs.Layout.{lineAt, rowAt}
 use Rattle.mirguneth.proofs.Held.{sizes}
 use Rattle.mirguneth.proofs.Placed.{fed-all}
 use Rattle.mirguneth.proofs.Drawing.{clocks-short, fed-short, task-below, task-fed}
-use Rattle.mirguneth.proofs.NextLine.{laid, laid-kept, tried, taken, drawn-next, ranked-next, clocks-next}
+use Rattle.mirguneth.proofs.ClockLaws.{line-timed, clocks-line}
+use Rattle.mirguneth.proofs.NextLine.{laid, laid-kept, tried, taken, drawn-next, ranked-next, clocks-kept}
 use Rattle.mirguneth.proofs.planner.place_task.Statement.{statement}
 use Rattle.mirguneth.proofs.planner.place_task.Tie as tie
 
@@ -58,18 +60,33 @@ mul-mem-3 c = omega (arith, small (c .before .before .before .before .before .be
 slice-write-mem-2 : tie.Need-slice-write-mem-2
 slice-write-mem-2 c = simp length-set (omega (arith, small (c .before .before .before .before .before .before .before .before .before .before), c .before .before .fill-line .ensures .kept .size))
 
+mul-advance : tie.Need-mul-advance
+mul-advance c = omega (arith, small (c .before .before .before .before .before .before .before .before .before .before .before))
+
+add-advance : tie.Need-add-advance
+add-advance c = omega (arith, small (c .before .before .before .before .before .before .before .before .before .before .before))
+
+advance-requires : tie.Need-advance-requires
+advance-requires c κs =
+    let p = c .before .before .before .before .before .before .before .before .before .before .before .pre in
+    let t = c .before .before .before .before .before .before .before .before .before .before .before .args .t in
+    let n = drawn-next (p .1) (p .3) (p .2) t (p .4) (laid (p .1) (p .3) (p .2) t (p .4) (c .before .before .before .fill-line .last .0) (c .before .before .before .fill-line .ensures)) in
+    (line-timed (n .standing) (omega arith) (n .ticks) (c .before .before .before .before .before .before .before .before .before .before .before .args .k) (omega arith), p .5 .early-size, p .5 .late-size)
+
 same-length : tie.Need-same-length
 same-length c = search needs
 
 returns : tie.Need-returns
 returns c =
-    let p = c .before .before .before .before .before .before .before .before .before .before .pre in
-    let t = c .before .before .before .before .before .before .before .before .before .before .args .t in
-    let r = c .before .before .fill-line .result in
-    let e = c .before .before .fill-line .last .0 in
-    let b = c .before .before .fill-line .ensures in
-    let x = laid (p .1) (p .3) (p .2) t (p .4) r e b in
-    (laid-kept (p .1) (p .3) (p .2) t (p .4) r e b, drawn-next (p .1) (p .3) (p .2) t (p .4) x, ranked-next (p .1) (p .3) (p .2) t (p .4) x, clocks-next (p .1) (p .3) (p .2) t (p .4) x r e b, taken (p .1) (p .3) (p .2) t (p .4) x)
+    let p = c .before .before .before .before .before .before .before .before .before .before .before .before .pre in
+    let a = c .before .before .before .before .before .before .before .before .before .before .before .before .args in
+    let t = c .before .before .before .before .before .before .before .before .before .before .before .before .args .t in
+    let d = c .before .before .before .before .fill-line .last .0 in
+    let b = c .before .before .before .before .fill-line .ensures in
+    let x = laid (p .1) (p .3) (p .2) t (p .4) d b in
+    let e = set (set d (rowAt (a .rooms) (a .k)) t) (lineAt (a .rooms) + t) (a .k + 1) in
+    let r = clocks-line (a .rooms) (a .k) e (c .advance .result) (c .advance .ensures _ _ (clocks-kept (p .1) (p .3) (p .2) t (p .4) x (p .5))) in
+    (laid-kept (p .1) (p .3) (p .2) t (p .4) d b, drawn-next (p .1) (p .3) (p .2) t (p .4) x, ranked-next (p .1) (p .3) (p .2) t (p .4) x, r, taken (p .1) (p .3) (p .2) t (p .4) x)
 
 pub place-task-spec : {M : Type 1} → statement M
 place-task-spec =
@@ -87,5 +104,8 @@ place-task-spec =
     add-mem-3
     mul-mem-3
     slice-write-mem-2
+    mul-advance
+    add-advance
+    advance-requires
     same-length
     returns)
