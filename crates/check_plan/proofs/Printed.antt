@@ -6,7 +6,7 @@ use native.Mathlib.Omega.{arith}
 use lib.ListN.{length}
 use Rattle.definitions.specs.Limits.{document01}
 use Rattle.definitions.specs.Tools.{Verdict, Says, checkPrinted}
-use Rattle.slices.specs.Over.{over}
+use Rattle.lists.specs.Over.{over}
 use Rattle.text.specs.Told.{written, placeAfter}
 use Rattle.console.proofs.Shown.{refusal-most, written-front}
 use Rattle.io.specs.Counts.{Counts}

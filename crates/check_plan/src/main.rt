@@ -6,7 +6,7 @@ ghost use Prim.Native.Nat.{ℕ};
 ghost use Rattle.definitions.specs.Limits.{document01};
 ghost use Rattle.definitions.specs.Tools.{Says, checkPrinted, verdict};
 ghost use Rattle.io.specs.Counts.{Counts};
-ghost use Rattle.slices.specs.Over.{over};
+ghost use Rattle.lists.specs.Over.{over};
 use libc::STDOUT_FILENO;
 use mirguneth::Checked;
 

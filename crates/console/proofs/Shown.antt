@@ -9,14 +9,14 @@ use Rattle.definitions.specs.Limits.{document01}
 use Rattle.definitions.specs.Text.{Result, lineText}
 use Rattle.definitions.specs.Tools.{printed}
 use Rattle.definitions.proofs.Decimal.{length-line}
-use Rattle.slices.specs.Over.{over}
-use Rattle.slices.proofs.Over.{length-over}
+use Rattle.lists.specs.Over.{over}
+use Rattle.lists.proofs.Over.{length-over}
 use Rattle.text.specs.Told.{written, placeAfter}
 use Rattle.text.proofs.Writing.{written-fits, place-fits}
-use Rattle.mirguneth.specs.Answers.{Answered}
-use Rattle.mirguneth.specs.declared.Answer.the-variants.{Done, Refusal}
+use Rattle.jobs.specs.Answers.{Answered}
+use Rattle.jobs.specs.declared.Answer.the-variants.{Done, Refusal}
 use Rattle.mirguneth.proofs.Answers.{done-printed, refusal-printed}
-use Rattle.mirguneth.proofs.WriteLaws.{numbers-most}
+use Rattle.lines.proofs.WriteLaws.{numbers-most}
 use Rattle.io.specs.Counts.{Counts}
 use Rattle.io.proofs.Counting.{counts}
 

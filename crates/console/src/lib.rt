@@ -20,29 +20,12 @@ pub fn load(path: &[u8], buf: &mut [u8]) -> usize
     n
 }
 
-// A line of one number, written at the front of `out`, if it fits. The answer is its length, or 0.
-fn write_line(out: &mut [u8], opening: &[u8], n: u64) -> usize
-    ensures { λ r. ⌜ r ≡ placeAfter (now (out .entry)) 0 (lineText document01 (now (opening .entry)) (n ∷ [])) ⌝ }
-    ensures holds { λ r. ⌜ now (out .exit) ≡ written (now (out .entry)) 0 (lineText document01 (now (opening .entry)) (n ∷ [])) ⌝ }
-{
-    let d = text::width_of(n);
-    if out.len() < opening.len() {
-        return 0;
-    }
-    if out.len() - opening.len() <= d {
-        return 0;
-    }
-    let a = text::write_fixed(out, 0, opening);
-    let b = text::write_number(out, a, n);
-    text::write_fixed(out, b, b"\n")
-}
-
 // `N,` and the number of a refusal, a line at the front of `out`, if it fits. The answer is its length, or 0.
 pub fn write_refusal(out: &mut [u8], x: u64) -> usize
     ensures { λ r. ⌜ r ≡ placeAfter (now (out .entry)) 0 (lineText document01 (bytes "N,") (x ∷ [])) ⌝ }
     ensures holds { λ r. ⌜ now (out .exit) ≡ written (now (out .entry)) 0 (lineText document01 (bytes "N,") (x ∷ [])) ⌝ }
 {
-    write_line(out, b"N,", x)
+    lines::write_line(out, b"N,", &[x])
 }
 
 // `N,12,` and the task, the same way.
@@ -50,5 +33,5 @@ pub fn write_doubled(out: &mut [u8], task: u64) -> usize
     ensures { λ r. ⌜ r ≡ placeAfter (now (out .entry)) 0 (lineText document01 (bytes "N,") (12 ∷ task ∷ [])) ⌝ }
     ensures holds { λ r. ⌜ now (out .exit) ≡ written (now (out .entry)) 0 (lineText document01 (bytes "N,") (12 ∷ task ∷ [])) ⌝ }
 {
-    write_line(out, b"N,12,", task)
+    lines::write_line(out, b"N,", &[12, task])
 }

@@ -366,15 +366,20 @@ module _ (l : Limits) where
   abbrev fromRuns : JobHead → Reader Job
   fromRuns h = λ s. next (lines (line l (bytes "C,") (1 + h .processors)) (runRule l) (h .tasks) [] s) (fromDelays h)
 
-  job-found : (s : List ℕ) (j : Job) (r : List ℕ) → jobLines l s ≡ found j r → circular j ≡ false → JobFacts l j
-  unfolding jobLines
-  job-found s j r g c =
-      let (h, s1, _, z, g1) = rule-found (jobHead l s) (jobHeadRule l) fromRuns j r g in
-      let (runs, s2, cm, cw, g2) = lines-then (line l (bytes "C,") (1 + h .processors)) (runRule l) (h .tasks) s1 (fromDelays h) j r g1 in
+  -- A job whose head has passed its rule.
+  pub runs-found : (h : JobHead) (s : List ℕ) (j : Job) (r : List ℕ) → jobHeadRule l h ≡ 0 → fromRuns h s ≡ found j r → circular j ≡ false → JobFacts l j
+  runs-found h s j r z g c =
+      let (runs, s2, cm, cw, g2) = lines-then (line l (bytes "C,") (1 + h .processors)) (runRule l) (h .tasks) s (fromDelays h) j r g in
       let (delays, s3, dm, dw, g3) = lines-then (line l (bytes "D,") (1 + h .processors)) (delayRule l) (h .processors) s2 (fromEdges h runs) j r g2 in
       let (es, s4, em, ew, g4) = lines-then (edgeLine l) (edgeRule l (h .tasks)) (h .edges) s3 (λ es. return (jobOf h runs delays es)) j r g3 in
       let e : j ≡ jobOf h runs delays es = cc in
       rw e (made-job h runs delays es z cm cw dm dw em ew (rw e at c))
+
+  job-found : (s : List ℕ) (j : Job) (r : List ℕ) → jobLines l s ≡ found j r → circular j ≡ false → JobFacts l j
+  unfolding jobLines
+  job-found s j r g c =
+      let (h, s1, _, z, g1) = rule-found (jobHead l s) (jobHeadRule l) fromRuns j r g in
+      runs-found h s1 j r z g1 c
 
 pub job-facts : (l : Limits) (s : List ℕ) (j : Job) → readJob l s ≡ good j → JobFacts l j
 unfolding readJob

@@ -4,9 +4,10 @@ use mathlib.Core.List.{List}
 use Prim.Native.Nat.{ℕ}
 use Rattle.definitions.specs.Text.{Result}
 use Rattle.definitions.specs.Tools.{Verdict}
-use Rattle.mirguneth.specs.Answers.{Answered, Judged}
-use Rattle.mirguneth.specs.declared.Answer.the-variants.{Done, Refusal}
-use Rattle.mirguneth.specs.declared.Checked.the-variants.{Accepted, Doubled, Refused}
+use Rattle.jobs.specs.Answers.{Answered}
+use Rattle.rounds.specs.Verdicts.{Judged}
+use Rattle.jobs.specs.declared.Answer.the-variants.{Done, Refusal}
+use Rattle.rounds.specs.declared.Checked.the-variants.{Accepted, Doubled, Refused}
 use Rattle.mirguneth.proofs.Answers.{answered-done, answered-refused, judged-accepted, judged-doubled, judged-refused}
 use Rattle.exports.specs.Exported.{Exported, ExportedVerdict}
 

@@ -6,7 +6,7 @@ use lib.ListN.{length}
 use Rattle.definitions.specs.Lists.{In}
 use Rattle.definitions.specs.Text.{Result, good, bad}
 use Rattle.definitions.specs.Tools.{Verdict, accepted, doubled, rejected}
-use Rattle.slices.specs.Over.{over}
+use Rattle.lists.specs.Over.{over}
 
 -- The answer r, the output d before and e after, the count n before and c after: on a good answer the bytes stand at the
 -- front of the output, the rest of it is untouched, and c is their number; on a refusal the output and the count are untouched.

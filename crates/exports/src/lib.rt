@@ -2,9 +2,24 @@
 ghost use Rattle.definitions.specs.Claims.{Bears, Breaks};
 ghost use Rattle.definitions.specs.Limits.{document01};
 ghost use Rattle.definitions.specs.Tools.{planAnswer, verdict, replayAnswer};
+ghost use Rattle.jobs.specs.Answers.{jobAnswer};
 ghost use Rattle.exports.specs.Exported.{Exported, ExportedVerdict};
 use mirguneth::Answer;
 use mirguneth::Checked;
+
+// A job's text in cells: 0 with the number of cells written, or the number of the refusal.
+#[no_mangle]
+pub extern "C" fn mirguneth_read_job(text: &[u8], cells: &mut [u64], written: &mut u64) -> u64
+    ensures { λ r. do ⌜ Exported (jobAnswer (now (text .entry)) (← ⟦cells.len()⟧ .entry)) (now (cells .entry)) (now (cells .exit)) (now (written .entry)) (now (written .exit)) r ⌝ }
+{
+    match mirguneth::read_job(text, cells) {
+        Answer::Done(count) => {
+            *written = count as u64;
+            0
+        }
+        Answer::Refusal(z) => z,
+    }
+}
 
 // The plan for a job: 0 with the number of bytes written, or the number of the refusal.
 #[no_mangle]

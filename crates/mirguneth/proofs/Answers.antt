@@ -8,10 +8,11 @@ use Rattle.definitions.specs.Lists.{bytes, In}
 use Rattle.definitions.specs.Limits.{document01}
 use Rattle.definitions.specs.Text.{Result, good, bad, lineText}
 use Rattle.definitions.specs.Tools.{Verdict, accepted, doubled, rejected, printed}
-use Rattle.slices.specs.Over.{over}
-use Rattle.mirguneth.specs.Answers.{Answered, Judged}
-use Rattle.mirguneth.specs.declared.Answer.the-variants.{Done, Refusal}
-use Rattle.mirguneth.specs.declared.Checked.the-variants.{Accepted, Doubled, Refused}
+use Rattle.lists.specs.Over.{over}
+use Rattle.jobs.specs.Answers.{Answered}
+use Rattle.rounds.specs.Verdicts.{Judged}
+use Rattle.jobs.specs.declared.Answer.the-variants.{Done, Refusal}
+use Rattle.rounds.specs.declared.Checked.the-variants.{Accepted, Doubled, Refused}
 
 pub answered-done : (x : Result (List ℕ)) (d e : List ℕ) (n : ℕ) → Answered x d e (Done n) → (t : List ℕ) × (x ≡ good t) × (n ≡ length t) × (e ≡ over d 0 t)
 answered-done (good t) d e n (r, f) = (t, refl, cc, f)

@@ -4,7 +4,7 @@ ghost use lib.ListN.{length};
 ghost use mathlib.Core.Path.{_≡_};
 ghost use Rattle.definitions.specs.Tools.{replayPrinted};
 ghost use Rattle.io.specs.Counts.{Counts};
-ghost use Rattle.slices.specs.Over.{over};
+ghost use Rattle.lists.specs.Over.{over};
 use libc::STDOUT_FILENO;
 use mirguneth::Answer;
 

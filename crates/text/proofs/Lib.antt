@@ -1,3 +1,3 @@
-pub mod Reading
 pub mod Powers
+pub mod Reading
 pub mod Writing

@@ -1,15 +1,16 @@
 -- Numbers and fixed bytes at a place of a text.
-use mathlib.Core.Path.{_≡_}
+use mathlib.Core.Path.{_≡_, refl, _∙_}
 use mathlib.Core.List.{List}
 use mathlib.Core.Bool.{true, false}
-use Prim.Native.Nat.{ℕ, suc, _+_, _-_, _*_, _^_, _<_, _≤_}
+use Prim.Native.Nat.{ℕ, _+_, _-_, _*_, _%_, _^_, _<_, _≤_}
+use mathlib.Core.Logic.{⊎-elim}
 use native.Mathlib.Omega.{arith}
 use native.Mathlib.Numerals.{add-one}
-use native.Mathlib.Nat.{pow-suc, pow-le-pow-right}
+use native.Mathlib.Nat.{pow-suc, pow-le-pow-right, eq-zero-or-pos}
 use borrow.Author.Tests.{lt-leb, le-leb, eq-eqb, ne-eqb}
 use lib.ListN.{length, getD, drop, drop-of-length-le}
 use lib.Seq.{drop-cons}
-use Rattle.definitions.specs.Limits.{Limits}
+use Rattle.definitions.specs.Limits.{Limits, document01}
 use Rattle.definitions.specs.Text.{found, refused, isDigit, digits, number, exactly}
 
 pub digit-yes : (b : ℕ) → 48 ≤ b → b ≤ 57 → isDigit b ≡ true
@@ -21,14 +22,24 @@ digit-low b l = simp (lt-leb 48 b l)
 pub digit-high : (b : ℕ) → 57 < b → isDigit b ≡ false
 digit-high b h = let l : 48 ≤ b = omega arith in simp (le-leb 48 b l, lt-leb b 57 h)
 
--- The value of at most ten digits: one digit more, and the bound.
-pub value-more : (k n d : ℕ) → k ≤ 9 → 0 < k → n < 10 ^ (10 - k) → d ≤ 9 → n * 10 + d < 10 ^ (10 - (k - 1))
-value-more k n d h p a b =
-    let e : 10 - (k - 1) ≡ suc (10 - k) = omega arith in
-    rw (e, pow-suc) (omega arith)
+-- The digit r of the byte b, by one subtraction that wraps.
+pub digit-wrapped : (b r : ℕ) → r < 2 ^ 64 → (r + 48) % 2 ^ 64 ≡ b → (r ≤ 9 → (isDigit b ≡ true) × (b ≡ r + 48)) × (9 < r → isDigit b ≡ false)
+digit-wrapped b r w e = (
+  λ h.
+      let f : b ≡ r + 48 = omega arith in
+      (digit-yes b (omega arith) (omega arith), f),
+  λ h. ⊎-elim (λ z. digit-high b (omega arith)) (λ z. digit-low b (omega arith)) (eq-zero-or-pos (48 - b)),
+)
 
-pub value-small : (k n : ℕ) → n < 10 ^ (10 - k) → n < 10 ^ 10
-value-small k n h = omega (arith, pow-le-pow-right {n = 10} (omega arith) {i = 10 - k} {j = 10} (omega arith))
+-- The value of at most ten digits: one digit more, and the bound.
+pub value-ten : (i n d : ℕ) → n < 10 ^ i → d ≤ 9 → n * 10 + d < 10 ^ (i + 1)
+value-ten i n d a b = rw (add-one, pow-suc) (omega arith)
+
+pub value-more : (k n d : ℕ) → k ≤ 9 → 0 < k → n < 10 ^ (10 - k) → d ≤ 9 → n * 10 + d < 10 ^ (10 - (k - 1))
+value-more k n d h p a b = let e : 10 - (k - 1) ≡ 10 - k + 1 = omega arith in rw e (value-ten (10 - k) n d a b)
+
+pub value-small : (i n : ℕ) → i ≤ 10 → n < 10 ^ i → n < 10 ^ 10
+value-small i n l h = omega (arith, pow-le-pow-right {n = 10} (omega arith) {i = i} {j = 10} l)
 
 module _ (s : List ℕ) (i k n : ℕ) where
   pub digits-end : length s ≤ i → found n (drop i s) ≡ digits k n (drop i s)
@@ -48,6 +59,26 @@ module _ (s : List ℕ) (i k n : ℕ) where
   unfolding digits
   digits-next h t e = rw (drop-cons s i 0 h, t, ne-eqb k 0 e, add-one)
 
+-- The i-th byte after a first digit at `at`, where the text goes on.
+module _ (s : List ℕ) (at i n : ℕ) (h : at + 12 ≤ length s) (l : i ≤ 10) where
+  pub inner-stop : isDigit (getD s (at + i) 0) ≡ false → found n (drop (at + i) s) ≡ digits (10 - i) n (drop (at + i) s)
+  inner-stop t = digits-stop s (at + i) (10 - i) n (omega arith) t
+
+  pub inner-next : (d : ℕ) → i < 10 → (isDigit (getD s (at + i) 0) ≡ true) × (getD s (at + i) 0 ≡ d + 48)
+      → digits (10 - (i + 1)) (n * 10 + d) (drop (at + (i + 1)) s) ≡ digits (10 - i) n (drop (at + i) s)
+  inner-next d g t =
+      let f : getD s (at + i) 0 - 48 ≡ d = omega (arith, t .1) in
+      let k : 10 - (i + 1) ≡ 10 - i - 1 = omega arith in
+      let p : at + (i + 1) ≡ at + i + 1 = omega arith in
+      rw (k, p, ← f) (digits-next s (at + i) (10 - i) n (omega arith) (t .0) (λ z. omega arith))
+
+  module _ (g : 10 ≤ i) where
+    pub inner-full : isDigit (getD s (at + 10) 0) ≡ true → refused 2 ≡ digits (10 - i) n (drop (at + i) s)
+    inner-full t = let e : i ≡ 10 = omega arith in rw e (digits-full s (at + 10) 0 n (omega arith) t refl)
+
+    pub inner-end : isDigit (getD s (at + 10) 0) ≡ false → found n (drop (at + 10) s) ≡ digits (10 - i) n (drop (at + i) s)
+    inner-end t = let e : i ≡ 10 = omega arith in rw e (digits-stop s (at + 10) 0 n (omega arith) t)
+
 module _ (l : Limits) (s : List ℕ) (i : ℕ) where
   pub number-end : length s ≤ i → refused 2 ≡ number l (drop i s)
   unfolding number
@@ -65,6 +96,26 @@ module _ (l : Limits) (s : List ℕ) (i : ℕ) where
       → digits (l .digits - 1) (getD s i 0 - 48) (drop (i + 1) s) ≡ number l (drop i s)
   unfolding number
   number-more h t e = rw (drop-cons s i 0 h, t, ne-eqb _ _ e, add-one)
+
+-- The number at `at`, where the text goes on, by the digit d that its first byte is.
+module _ (s : List ℕ) (at : ℕ) (h : at + 12 ≤ length s) where
+  pub inner-no : isDigit (getD s at 0) ≡ false → refused 2 ≡ number document01 (drop at s)
+  inner-no t = number-no document01 s at (omega arith) t
+
+  module _ (d : ℕ) (t : (isDigit (getD s at 0) ≡ true) × (getD s at 0 ≡ d + 48)) where
+    pub inner-more : 0 < d → digits 9 d (drop (at + 1) s) ≡ number document01 (drop at s)
+    inner-more g =
+        let f : getD s at 0 - 48 ≡ d = omega (arith, t .1) in
+        rw (← f) (number-more document01 s at (omega arith) (t .0) (λ z. omega (arith, t .1)))
+
+    zero : d ≤ 0 → digits 0 0 (drop (at + 1) s) ≡ number document01 (drop at s)
+    zero g = number-zero document01 s at (omega arith) (t .0) (omega (arith, t .1))
+
+    pub inner-zeros : d ≤ 0 → isDigit (getD s (at + 1) 0) ≡ true → refused 2 ≡ number document01 (drop at s)
+    inner-zeros g u = digits-full s (at + 1) 0 0 (omega arith) u refl ∙ zero g
+
+    pub inner-zero : d ≤ 0 → isDigit (getD s (at + 1) 0) ≡ false → found 0 (drop (at + 1) s) ≡ number document01 (drop at s)
+    inner-zero g u = digits-stop s (at + 1) 0 0 (omega arith) u ∙ zero g
 
 -- The fixed bytes o from number i on, at the place p of the text s.
 module _ (s o : List ℕ) (i p : ℕ) where

@@ -4,12 +4,12 @@ use mathlib.Core.List.{List, [], _∷_, _++_}
 use Prim.Native.Nat.{ℕ, zero, suc, _+_, _-_, _/_, _%_, _<_, _≤_}
 use native.Mathlib.Omega.{arith}
 use native.Mathlib.Numerals.{add-one}
-use borrow.Author.Tests.{le-leb}
+use borrow.Author.Tests.{le-leb, lt-leb}
 use lib.ListN.{length, getD, drop, set, length-set, length-append, drop-of-length-le}
 use lib.Seq.{drop-cons}
 use Rattle.definitions.specs.Text.{lowDigits}
-use Rattle.slices.specs.Over.{over}
-use Rattle.slices.proofs.Over.{over-nil, over-put, over-set-after, over-over, length-over}
+use Rattle.lists.specs.Over.{over}
+use Rattle.lists.proofs.Over.{over-nil, over-put, over-set-after, over-over, length-over}
 use Rattle.text.specs.Told.{written, placeAfter}
 
 -- Digits from the lowest on --------------------------------------------------------------------------------------
@@ -59,6 +59,17 @@ module _ (d : List ℕ) (at : ℕ) (t : List ℕ) where
 
   pub place-fits : at + length t ≤ length d → placeAfter d at t ≡ at + length t
   place-fits h = rw (le-leb _ _ h)
+
+-- t was to be written at the front of the output d: it fits, or not.
+module _ (d t : List ℕ) where
+  pub front-fits : length t ≤ length d → (n : ℕ) (e : List ℕ) → n ≡ length t → e ≡ over d 0 t → (n ≡ placeAfter d 0 t) × (e ≡ written d 0 t)
+  front-fits h n e f g = rw (le-leb (0 + length t) (length d) (omega (arith, h))) (omega (arith, f), g)
+
+  pub front-whole : length t ≤ length d → (n : ℕ) (e : List ℕ) → n ≡ placeAfter d 0 t → e ≡ written d 0 t → (n ≡ length t) × (e ≡ over d 0 t)
+  front-whole h n e f g = (f ∙ place-fits d 0 t (omega (arith, h)) ∙ omega arith, g ∙ written-fits d 0 t (omega (arith, h)))
+
+  pub front-unfit : length d < length t → (0 ≡ placeAfter d 0 t) × (d ≡ written d 0 t)
+  front-unfit h = rw (lt-leb (0 + length t) (length d) (omega (arith, h))) (refl, refl)
 
 -- x is the output d with s written from `at` on, m the place after s, and there is room for t behind s.
 module _ (d x : List ℕ) (at m : ℕ) (s t : List ℕ) (e : x ≡ over d at s) (em : m ≡ at + length s) (h : at + length (s ++ t) ≤ length d) where

@@ -4,7 +4,7 @@ ghost use Prim.Native.Nat.{_≤_, _<_, _-_, _+_, _^_};
 ghost use lib.ListN.{length, drop};
 ghost use Rattle.definitions.specs.Limits.{document01};
 ghost use Rattle.definitions.specs.Text.{digits, number, exactly, width, lowDigits, decimal};
-ghost use Rattle.slices.specs.Over.{over};
+ghost use Rattle.lists.specs.Over.{over};
 ghost use Rattle.text.specs.Told.{numberTold, Placed, told, PlacedAt, written, placeAfter};
 
 // A number and the place after it.

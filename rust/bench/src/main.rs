@@ -5,7 +5,12 @@
 //!
 //!     cargo run --release -p bench
 //!     cargo run --release -p bench shapes
+//!
+//! With the feature `before` the first implementation runs beside an earlier
+//! build of it, in place of the second (`rust/benchmark before FILE`).
 
+#[cfg(feature = "before")]
+mod before;
 mod plain;
 
 use compare::jobs::{self, Edge, Job, Size};
@@ -64,14 +69,7 @@ fn table(tools: &[(&str, &dyn Tool)], rng: &mut Rng) {
     for (name, _) in tools {
         print!("{:>12}", format!("{name}, us"));
     }
-    println!(
-        "{:>16}",
-        if tools.len() > 1 {
-            "first / second"
-        } else {
-            ""
-        }
-    );
+    println!("{:>16}", if tools.len() > 1 { "first / other" } else { "" });
     let mut all = vec![texts("small house".into(), SMALL_HOUSE.to_vec(), rng)];
     let mut mixed = Vec::new();
     for (tasks, boxes, edges, losses) in SIZES {
@@ -237,7 +235,12 @@ fn time(count: u32, tool: &dyn Tool, call: Call) -> Duration {
     start.elapsed()
 }
 
-#[cfg(feature = "first")]
+#[cfg(feature = "before")]
+fn tools() -> Vec<(&'static str, &'static dyn Tool)> {
+    vec![("first", &compare::tools::Raw), ("before", &before::Before)]
+}
+
+#[cfg(all(feature = "first", not(feature = "before")))]
 fn tools() -> Vec<(&'static str, &'static dyn Tool)> {
     vec![("first", &compare::tools::Raw), ("second", &Second)]
 }

@@ -7,7 +7,8 @@
  *
  * A text is a pointer to its first byte and its length in bytes; it needs no
  * closing zero. No pointer may be null, even with a length of 0. `out`,
- * `written` and `task` must not overlap with each other or with a text.
+ * `cells`, `written` and `task` must not overlap with each other or with a
+ * text.
  *
  * Each function returns 0 or the number of a refusal:
  *
@@ -42,6 +43,19 @@ extern "C" {
 /* Outputs of these sizes hold every answer. */
 #define MIRGUNETH_PLAN_BYTES 65536
 #define MIRGUNETH_REPLAY_BYTES 8192
+#define MIRGUNETH_JOB_CELLS 5635
+
+/*
+ * Reads the job into cells: v, m, e and the losses; the C lines and the D
+ * lines, each with its own number in front; then a cell for each edge,
+ * from + 256 * to + 65536 * volume.
+ *
+ * 0: the job is in the first *written cells.
+ * 1 to 8: cells and *written are as they were.
+ */
+uint64_t mirguneth_read_job(const uint8_t *text, size_t text_len,
+                            uint64_t *cells, size_t cells_len,
+                            uint64_t *written);
 
 /*
  * Draws up a plan of the job.

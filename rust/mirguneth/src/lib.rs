@@ -2,7 +2,7 @@
 //! some boxes, check a plan, and replay one while boxes stop.
 //!
 //! The work is done by a proved static library; this crate is a safe layer
-//! over its three functions. Nothing is allocated but by [`plan_to_vec`] and
+//! over its four functions. Nothing is allocated but by [`plan_to_vec`] and
 //! [`replay_to_vec`]; a call takes some 190 KB of stack.
 
 pub mod raw;
@@ -15,6 +15,9 @@ pub const PLAN_BYTES: usize = 65_536;
 
 /// An output of this many bytes holds every answer of the replay.
 pub const REPLAY_BYTES: usize = 8_192;
+
+/// A memory of this many cells holds every job.
+pub const JOB_CELLS: usize = 5_635;
 
 /// Why a call was refused.
 #[derive(Clone, Copy, Debug, PartialEq, Eq, Hash)]
@@ -68,6 +71,28 @@ pub enum Verdict {
     Doubled(u8),
     /// Any other refusal.
     Refused(Refusal),
+}
+
+/// Reads the job `text` into the front of `cells` and gives how many cells it
+/// takes: v, m, e and ε; the C lines and the D lines, each with its own number
+/// in front; then a cell for each edge, from + 256 × to + 65,536 × volume.
+///
+/// # Errors
+/// Refusals 1 to 8. Then `cells` is left as it was.
+pub fn read_job(text: &[u8], cells: &mut [u64]) -> Result<usize, Refusal> {
+    let mut written = 0;
+    // SAFETY: the pointers and lengths are those of live slices, `cells` and
+    // `written` are borrowed for this call alone.
+    let number = unsafe {
+        raw::mirguneth_read_job(
+            text.as_ptr(),
+            text.len(),
+            cells.as_mut_ptr(),
+            cells.len(),
+            &mut written,
+        )
+    };
+    length(number, written)
 }
 
 /// Draws up a plan of `job` into the front of `out` and gives its length.

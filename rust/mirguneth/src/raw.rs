@@ -2,6 +2,14 @@
 //! each does; no pointer may be null, even with a length of 0.
 
 unsafe extern "C" {
+    pub fn mirguneth_read_job(
+        text: *const u8,
+        text_len: usize,
+        cells: *mut u64,
+        cells_len: usize,
+        written: *mut u64,
+    ) -> u64;
+
     pub fn mirguneth_plan(
         job: *const u8,
         job_len: usize,

@@ -1,93 +1,71 @@
 -- The head is read, and the memory that its job fits is taken.
-use native.Mathlib.Omega.{arith}
+use mathlib.Core.Path.{sym, _∙_}
+use Prim.Native.Nat.{ℕ}
 use borrow.Author.Needs.{needs}
+use lib.ListN.{length-replicate}
+use Rattle.jobs.specs.Loading.{headOf}
+use Rattle.jobs.proofs.Rooms.{rooms-last}
+use Rattle.mirguneth.proofs.Page.{replay-page, replay-refused}
 use Rattle.definitions.proofs.Claims.{bears}
-use Rattle.mirguneth.proofs.JobAndPlan.{none-read}
-use Rattle.mirguneth.proofs.ReplayLaws.{replay-refused}
-use Rattle.mirguneth.proofs.Loads.{fits-most}
 use Rattle.mirguneth.proofs.replay.Statement.{statement}
 use Rattle.mirguneth.proofs.replay.Tie as tie
-
-slice-aggregate-read-head : tie.Need-slice-aggregate-read-head
-slice-aggregate-read-head c = search needs
 
 read-head-requires : tie.Need-read-head-requires
 read-head-requires c κs = search needs
 
-enum-known-at : tie.Need-enum-known-at
-enum-known-at c = search needs
+enum-known-head : tie.Need-enum-known-head
+enum-known-head c = search needs
 
-slice-aggregate-fits : tie.Need-slice-aggregate-fits
-slice-aggregate-fits c = search needs
-
-fits-requires : tie.Need-fits-requires
-fits-requires c κs = let h = rw (c .before .before .at .given .1) at (c .before .before .before .before .before .read-head .ensures) in (search needs, h .0, omega arith)
+rooms-for-requires : tie.Need-rooms-for-requires
+rooms-for-requires c κs = search needs
 
 slice-aggregate-replay-in : tie.Need-slice-aggregate-replay-in
 slice-aggregate-replay-in c = search needs
 
-slice-aggregate-replay-in-2 : tie.Need-slice-aggregate-replay-in-2
-slice-aggregate-replay-in-2 c = search needs
-
 replay-in-requires : tie.Need-replay-in-requires
-replay-in-requires c κs = let h = rw (c .before .before .before .before .before .before .before .at .given .1) at (c .before .before .before .before .before .before .before .before .before .before .read-head .ensures) in ((search needs, h, c .before .before .before .before .fits2 .ensures .0 (c .before .before .before .if1 .taken)), search needs)
+replay-in-requires c κs = search needs
 
 same-length : tie.Need-same-length
 same-length c = search needs
 
 returns : tie.Need-returns
-returns c = let a = c .before .before .before .before .before .before .before .before .before .before .before .before .before .before .before .before .before .before .before .before .args in (c .before .before .before .replay-in .ensures, bears (a .job .now) (a .plan .now) (a .stops .now))
+returns c =
+    let o = rw (c .before .before .before .before .before .before .before .before .before .head .given .1) at (c .before .before .before .before .before .before .before .before .before .before .before .read-head .ensures) in
+    (replay-page (c .before .before .before .before .before .before .before .before .before .before .before .before .before .before .before .before .args .job .now) (c .before .before .before .before .before .before .before .before .before .head .given .0 .0) (c .before .before .before .before .before .before .before .before .before .head .given .0 .1 .0) 1 _ o (sym (c .before .before .before .before .before .before .if1 .taken) ∙ c .before .before .before .before .before .before .before .rooms-for .ensures) (length-replicate {A = ℕ} 505 0) (c .before .before .before .before .before .before .before .before .before .before .before .before .before .before .before .before .args .plan .now) (c .before .before .before .before .before .before .before .before .before .before .before .before .before .before .before .before .args .stops .now) _ _ _ (c .before .before .before .replay-in .result) (c .before .before .before .replay-in .ensures), bears (c .before .before .before .before .before .before .before .before .before .before .before .before .before .before .before .before .args .job .now) (c .before .before .before .before .before .before .before .before .before .before .before .before .before .before .before .before .args .plan .now) (c .before .before .before .before .before .before .before .before .before .before .before .before .before .before .before .before .args .stops .now))
 
-slice-aggregate-fits-2 : tie.Need-slice-aggregate-fits-2
-slice-aggregate-fits-2 c = search needs
-
-fits-requires-2 : tie.Need-fits-requires-2
-fits-requires-2 c κs = let h = rw (c .before .before .before .before .before .at .given .1) at (c .before .before .before .before .before .before .before .before .read-head .ensures) in (search needs, h .0, omega arith)
-
-slice-aggregate-replay-in-3 : tie.Need-slice-aggregate-replay-in-3
-slice-aggregate-replay-in-3 c = search needs
-
-slice-aggregate-replay-in-4 : tie.Need-slice-aggregate-replay-in-4
-slice-aggregate-replay-in-4 c = search needs
+slice-aggregate-replay-in-2 : tie.Need-slice-aggregate-replay-in-2
+slice-aggregate-replay-in-2 c = search needs
 
 replay-in-requires-2 : tie.Need-replay-in-requires-2
-replay-in-requires-2 c κs = let h = rw (c .before .before .before .before .before .before .before .before .before .before .at .given .1) at (c .before .before .before .before .before .before .before .before .before .before .before .before .before .read-head .ensures) in ((search needs, h, c .before .before .before .before .fits3 .ensures .0 (c .before .before .before .if2 .taken)), search needs)
+replay-in-requires-2 c κs = search needs
 
 same-length-2 : tie.Need-same-length-2
 same-length-2 c = search needs
 
 returns-2 : tie.Need-returns-2
-returns-2 c = let a = c .before .before .before .before .before .before .before .before .before .before .before .before .before .before .before .before .before .before .before .before .before .before .before .args in (c .before .before .before .replay-in2 .ensures, bears (a .job .now) (a .plan .now) (a .stops .now))
+returns-2 c =
+    let o = rw (c .before .before .before .before .before .before .before .before .before .before .head .given .1) at (c .before .before .before .before .before .before .before .before .before .before .before .before .read-head .ensures) in
+    (replay-page (c .before .before .before .before .before .before .before .before .before .before .before .before .before .before .before .before .before .args .job .now) (c .before .before .before .before .before .before .before .before .before .before .head .given .0 .0) (c .before .before .before .before .before .before .before .before .before .before .head .given .0 .1 .0) 2 _ o (sym (c .before .before .before .before .before .before .if2 .taken) ∙ c .before .before .before .before .before .before .before .before .rooms-for .ensures) (length-replicate {A = ℕ} 1010 0) (c .before .before .before .before .before .before .before .before .before .before .before .before .before .before .before .before .before .args .plan .now) (c .before .before .before .before .before .before .before .before .before .before .before .before .before .before .before .before .before .args .stops .now) _ _ _ (c .before .before .before .replay-in2 .result) (c .before .before .before .replay-in2 .ensures), bears (c .before .before .before .before .before .before .before .before .before .before .before .before .before .before .before .before .before .args .job .now) (c .before .before .before .before .before .before .before .before .before .before .before .before .before .before .before .before .before .args .plan .now) (c .before .before .before .before .before .before .before .before .before .before .before .before .before .before .before .before .before .args .stops .now))
 
-slice-aggregate-fits-3 : tie.Need-slice-aggregate-fits-3
-slice-aggregate-fits-3 c = search needs
-
-fits-requires-3 : tie.Need-fits-requires-3
-fits-requires-3 c κs = let h = rw (c .before .before .before .before .before .before .before .before .at .given .1) at (c .before .before .before .before .before .before .before .before .before .before .before .read-head .ensures) in (search needs, h .0, omega arith)
-
-slice-aggregate-replay-in-5 : tie.Need-slice-aggregate-replay-in-5
-slice-aggregate-replay-in-5 c = search needs
-
-slice-aggregate-replay-in-6 : tie.Need-slice-aggregate-replay-in-6
-slice-aggregate-replay-in-6 c = search needs
+slice-aggregate-replay-in-3 : tie.Need-slice-aggregate-replay-in-3
+slice-aggregate-replay-in-3 c = search needs
 
 replay-in-requires-3 : tie.Need-replay-in-requires-3
-replay-in-requires-3 c κs = let h = rw (c .before .before .before .before .before .before .before .before .before .before .before .before .before .at .given .1) at (c .before .before .before .before .before .before .before .before .before .before .before .before .before .before .before .before .read-head .ensures) in ((search needs, h, c .before .before .before .before .fits4 .ensures .0 (c .before .before .before .if3 .taken)), search needs)
+replay-in-requires-3 c κs = search needs
 
 same-length-3 : tie.Need-same-length-3
 same-length-3 c = search needs
 
 returns-3 : tie.Need-returns-3
-returns-3 c = let a = c .before .before .before .before .before .before .before .before .before .before .before .before .before .before .before .before .before .before .before .before .before .before .before .before .before .before .args in (c .before .before .before .replay-in3 .ensures, bears (a .job .now) (a .plan .now) (a .stops .now))
+returns-3 c =
+    let o = rw (c .before .before .before .before .before .before .before .before .before .before .before .head .given .1) at (c .before .before .before .before .before .before .before .before .before .before .before .before .before .read-head .ensures) in
+    (replay-page (c .before .before .before .before .before .before .before .before .before .before .before .before .before .before .before .before .before .before .args .job .now) (c .before .before .before .before .before .before .before .before .before .before .before .head .given .0 .0) (c .before .before .before .before .before .before .before .before .before .before .before .head .given .0 .1 .0) 8 _ o (sym (c .before .before .before .before .before .before .if3 .taken) ∙ c .before .before .before .before .before .before .before .before .before .rooms-for .ensures) (length-replicate {A = ℕ} 4040 0) (c .before .before .before .before .before .before .before .before .before .before .before .before .before .before .before .before .before .before .args .plan .now) (c .before .before .before .before .before .before .before .before .before .before .before .before .before .before .before .before .before .before .args .stops .now) _ _ _ (c .before .before .before .replay-in3 .result) (c .before .before .before .replay-in3 .ensures), bears (c .before .before .before .before .before .before .before .before .before .before .before .before .before .before .before .before .before .before .args .job .now) (c .before .before .before .before .before .before .before .before .before .before .before .before .before .before .before .before .before .before .args .plan .now) (c .before .before .before .before .before .before .before .before .before .before .before .before .before .before .before .before .before .before .args .stops .now))
 
-slice-aggregate-replay-in-7 : tie.Need-slice-aggregate-replay-in-7
-slice-aggregate-replay-in-7 c = search needs
-
-slice-aggregate-replay-in-8 : tie.Need-slice-aggregate-replay-in-8
-slice-aggregate-replay-in-8 c = search needs
+slice-aggregate-replay-in-4 : tie.Need-slice-aggregate-replay-in-4
+slice-aggregate-replay-in-4 c = search needs
 
 replay-in-requires-4 : tie.Need-replay-in-requires-4
-replay-in-requires-4 c κs = let h = rw (c .before .before .before .before .before .before .before .before .before .before .before .before .before .at .given .1) at (c .before .before .before .before .before .before .before .before .before .before .before .before .before .before .before .before .read-head .ensures) in ((search needs, h, fits-most (c .before .before .before .before .before .before .before .before .before .before .before .before .before .before .before .before .read-head .last .1 .0) (h .0)), search needs)
+replay-in-requires-4 c κs = search needs
 
 enum-known-x : tie.Need-enum-known-x
 enum-known-x c = search needs
@@ -96,41 +74,33 @@ same-length-4 : tie.Need-same-length-4
 same-length-4 c = search needs
 
 returns-4 : tie.Need-returns-4
-returns-4 c = let a = c .before .before .before .before .before .before .before .before .before .before .before .before .before .before .before .before .before .before .before .before .before .before .before .before .before .before .args in (c .before .before .before .replay-in4 .ensures, bears (a .job .now) (a .plan .now) (a .stops .now))
+returns-4 c =
+    let o = rw (c .before .before .before .before .before .before .before .before .before .before .before .head .given .1) at (c .before .before .before .before .before .before .before .before .before .before .before .before .before .read-head .ensures) in
+    (replay-page (c .before .before .before .before .before .before .before .before .before .before .before .before .before .before .before .before .before .before .args .job .now) (c .before .before .before .before .before .before .before .before .before .before .before .head .given .0 .0) (c .before .before .before .before .before .before .before .before .before .before .before .head .given .0 .1 .0) 32 _ o (sym (rooms-last _ (λ q. c .before .before .before .before .before .before .before .before .if1 .left (c .before .before .before .before .before .before .before .before .before .rooms-for .ensures ∙ q)) (λ q. c .before .before .before .before .before .before .before .if2 .left (c .before .before .before .before .before .before .before .before .before .rooms-for .ensures ∙ q)) (λ q. c .before .before .before .before .before .before .if3 .left (c .before .before .before .before .before .before .before .before .before .rooms-for .ensures ∙ q)))) (length-replicate {A = ℕ} 16160 0) (c .before .before .before .before .before .before .before .before .before .before .before .before .before .before .before .before .before .before .args .plan .now) (c .before .before .before .before .before .before .before .before .before .before .before .before .before .before .before .before .before .before .args .stops .now) _ _ _ (c .before .before .before .replay-in4 .result) (c .before .before .before .replay-in4 .ensures), bears (c .before .before .before .before .before .before .before .before .before .before .before .before .before .before .before .before .before .before .args .job .now) (c .before .before .before .before .before .before .before .before .before .before .before .before .before .before .before .before .before .before .args .plan .now) (c .before .before .before .before .before .before .before .before .before .before .before .before .before .before .before .before .before .before .args .stops .now))
 
 returns-5 : tie.Need-returns-5
-returns-5 c = let a = c .before .before .before .before .before .before .before .before .before .before .args in (replay-refused (a .job .now) (a .plan .now) (a .stops .now) (a .out .now) _ (none-read (a .job .now) (a .plan .now) _ (rw (c .before .x .given .1) at (c .before .before .before .before .read-head .ensures))), bears (a .job .now) (a .plan .now) (a .stops .now))
+returns-5 c = (replay-refused (c .before .before .before .before .before .before .before .before .args .job .now) _ (rw (c .before .x .given .1) at (c .before .before .before .read-head .ensures)) (c .before .before .before .before .before .before .before .before .args .plan .now) (c .before .before .before .before .before .before .before .before .args .stops .now) (c .before .before .before .before .before .before .before .before .args .out .now), bears (c .before .before .before .before .before .before .before .before .args .job .now) (c .before .before .before .before .before .before .before .before .args .plan .now) (c .before .before .before .before .before .before .before .before .args .stops .now))
 
 pub replay-spec : {M : Type 1} → statement M
 replay-spec =
     tie.close
     (tie.spec
-    slice-aggregate-read-head
     read-head-requires
-    enum-known-at
-    slice-aggregate-fits
-    fits-requires
+    enum-known-head
+    rooms-for-requires
     slice-aggregate-replay-in
-    slice-aggregate-replay-in-2
     replay-in-requires
     same-length
     returns
-    slice-aggregate-fits-2
-    fits-requires-2
-    slice-aggregate-replay-in-3
-    slice-aggregate-replay-in-4
+    slice-aggregate-replay-in-2
     replay-in-requires-2
     same-length-2
     returns-2
-    slice-aggregate-fits-3
-    fits-requires-3
-    slice-aggregate-replay-in-5
-    slice-aggregate-replay-in-6
+    slice-aggregate-replay-in-3
     replay-in-requires-3
     same-length-3
     returns-3
-    slice-aggregate-replay-in-7
-    slice-aggregate-replay-in-8
+    slice-aggregate-replay-in-4
     replay-in-requires-4
     enum-known-x
     same-length-4

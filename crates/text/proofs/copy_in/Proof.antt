@@ -5,7 +5,7 @@ use native.Mathlib.Omega.{arith}
 use borrow.Author.Needs.{needs}
 use lib.ListN.{length, drop, length-set}
 use native.Mathlib.Nat.{add-zero}
-use Rattle.slices.specs.Over.{over}
+use Rattle.lists.specs.Over.{over}
 use Rattle.text.proofs.Writing.{copy-next, copy-end}
 use Rattle.text.proofs.copy_in.Statement.{statement}
 use Rattle.text.proofs.copy_in.Tie as tie

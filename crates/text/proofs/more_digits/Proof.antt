@@ -34,13 +34,13 @@ sub-k : tie.Need-sub-k Inv-loop μ-loop
 sub-k c = search needs
 
 mul-acc : tie.Need-mul-acc Inv-loop μ-loop
-mul-acc c = omega (arith, value-small _ _ (c .before .before .before .before .before .loop .inv .2))
+mul-acc c = omega (arith, value-small _ _ (omega arith) (c .before .before .before .before .before .loop .inv .2))
 
 wide-requires : tie.Need-wide-requires Inv-loop μ-loop
 wide-requires c κs = search needs
 
 add-acc : tie.Need-add-acc Inv-loop μ-loop
-add-acc c = omega (arith, value-small _ _ (c .before .before .before .before .before .before .loop .inv .2))
+add-acc c = omega (arith, value-small _ _ (omega arith) (c .before .before .before .before .before .before .loop .inv .2))
 
 add-i : tie.Need-add-i Inv-loop μ-loop
 add-i c = search needs

@@ -1,0 +1,41 @@
+use borrow.Author.Needs.{needs}
+use lib.ListN.{length}
+use Rattle.jobs.specs.Answers.{jobAnswer}
+use Rattle.exports.proofs.ExportLaws.{answer-written, answer-refused}
+use Rattle.exports.proofs.mirguneth_read_job.Statement.{statement}
+use Rattle.exports.proofs.mirguneth_read_job.Tie as tie
+
+read-job-requires : tie.Need-read-job-requires
+read-job-requires c κs = search needs
+
+enum-known-count : tie.Need-enum-known-count
+enum-known-count c = search needs
+
+enum-known-z : tie.Need-enum-known-z
+enum-known-z c = search needs
+
+same-length : tie.Need-same-length
+same-length c = search needs
+
+returns : tie.Need-returns
+returns c =
+    answer-written (jobAnswer (c .before .before .before .before .before .before .before .before .before .args .text .now) (length (c .before .before .before .before .before .before .before .before .before .args .cells .now))) (c .before .before .before .before .before .before .before .before .before .args .cells .now) (c .before .before .before .before .before .read-job .last .1 .0) (c .before .before .before .before .before .before .before .before .before .args .written .now) (c .before .count .given .0 .0) (rw (c .before .count .given .1) at (c .before .before .before .before .before .read-job .ensures))
+
+same-length-2 : tie.Need-same-length-2
+same-length-2 c = search needs
+
+returns-2 : tie.Need-returns-2
+returns-2 c =
+    answer-refused (jobAnswer (c .before .before .before .before .before .before .before .before .before .args .text .now) (length (c .before .before .before .before .before .before .before .before .before .args .cells .now))) (c .before .before .before .before .before .before .before .before .before .args .cells .now) (c .before .before .before .before .before .read-job .last .1 .0) (c .before .before .before .before .before .before .before .before .before .args .written .now) (c .before .z .given .0 .0) (rw (c .before .z .given .1) at (c .before .before .before .before .before .read-job .ensures))
+
+pub mirguneth-read-job-spec : {M : Type 1} → statement M
+mirguneth-read-job-spec =
+    tie.close
+    (tie.spec
+    read-job-requires
+    enum-known-count
+    enum-known-z
+    same-length
+    returns
+    same-length-2
+    returns-2)

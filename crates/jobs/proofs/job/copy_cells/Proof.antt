@@ -1,0 +1,75 @@
+-- The cells left to copy give the whole answer.
+use mathlib.Core.Path.{_≡_, refl}
+use Prim.Native.Nat.{_≤_, _-_}
+use native.Mathlib.Omega.{arith}
+use borrow.Author.Needs.{needs}
+use lib.ListN.{length, getD, take, drop, length-set}
+use lib.Seq.{getD-take, length-take-le}
+use Rattle.lists.specs.Over.{over}
+use Rattle.text.proofs.Writing.{copy-next, copy-end}
+use Rattle.jobs.proofs.job.copy_cells.Statement.{statement}
+use Rattle.jobs.proofs.job.copy_cells.Tie as tie
+
+abbrev Inv-loop : tie.InvT-loop
+Inv-loop cells₀ from n i₀ cells i = (i ≤ n) × (length cells ≡ length cells₀) × (over cells i (drop i (take n from)) ≡ over cells₀ 0 (take n from))
+
+abbrev μ-loop : tie.MeasureT-loop
+μ-loop cells₀ from n i₀ cells i = n - i
+
+loop-holds : tie.Need-loop-holds Inv-loop μ-loop
+loop-holds c = (search needs, refl, refl)
+
+mul-cells : tie.Need-mul-cells Inv-loop μ-loop
+mul-cells c = search needs
+
+shared-slice-read-cells : tie.Need-shared-slice-read-cells Inv-loop μ-loop
+shared-slice-read-cells c = search needs
+
+mul-cells-2 : tie.Need-mul-cells-2 Inv-loop μ-loop
+mul-cells-2 c = search needs
+
+slice-write-cells : tie.Need-slice-write-cells Inv-loop μ-loop
+slice-write-cells c = search needs
+
+add-i : tie.Need-add-i Inv-loop μ-loop
+add-i c = search needs
+
+loop-less : tie.Need-loop-less Inv-loop μ-loop
+loop-less c = search needs
+
+loop-again : tie.Need-loop-again Inv-loop μ-loop
+loop-again c =
+    let a = c .before .before .before .args in
+    let l = c .before .before .loop in
+    let f = take (a .n) (a .from .now) in
+    let g : getD f (l .i) 0 ≡ getD (a .from .now) (l .i) 0 = getD-take (a .n) (a .from .now) (l .i) 0 (c .before .loop-test .taken) in
+    let m : length f ≡ a .n = length-take-le (a .n) (a .from .now) (c .before .before .before .pre .1) in
+    (search needs, simp length-set (search needs), rw (← g) (copy-next (l .cells) f _ (l .i) (l .i) (l .inv .2) _ (omega arith) (omega arith) (omega arith)))
+
+same-length : tie.Need-same-length Inv-loop μ-loop
+same-length c = search needs
+
+returns : tie.Need-returns Inv-loop μ-loop
+returns c =
+    let a = c .before .before .args in
+    let l = c .before .loop in
+    let f = take (a .n) (a .from .now) in
+    let m : length f ≡ a .n = length-take-le (a .n) (a .from .now) (c .before .before .pre .1) in
+    copy-end (l .cells) f _ (l .i) (l .i) (l .inv .2) (omega arith)
+
+pub copy-cells-spec : {M : Type 1} → statement M
+copy-cells-spec =
+    tie.close
+    (tie.spec
+    Inv-loop
+    μ-loop
+    loop-holds
+    mul-cells
+    shared-slice-read-cells
+    mul-cells-2
+    slice-write-cells
+    add-i
+    loop-less
+    loop-again
+    same-length
+    returns)

@@ -1,0 +1,47 @@
+-- The job stands in the memory, and then its links do.
+use mathlib.Core.Path.{_∙_}
+use native.Mathlib.Omega.{arith}
+use borrow.Author.Needs.{needs}
+use lib.ListN.{drop}
+use Rattle.jobs.specs.Stages.{fromRuns, closed}
+use Rattle.jobs.specs.Loading.{headOf}
+use Rattle.jobs.proofs.Loads.{rest-held, rest-linked, rest-refused}
+use Rattle.jobs.proofs.job.load_linked.Statement.{statement}
+use Rattle.jobs.proofs.job.load_linked.Tie as tie
+
+load-rest-requires : tie.Need-load-rest-requires
+load-rest-requires c κs = (c .before .before .before .pre .0, omega (arith, c .before .before .before .pre .1, c .before .before .before .pre .2 .2))
+
+enum-known-n : tie.Need-enum-known-n
+enum-known-n c = search needs
+
+link-edges-requires : tie.Need-link-edges-requires
+link-edges-requires c κs = rest-held (c .before .before .before .before .before .before .before .before .before .before .args .rooms) (headOf (c .before .before .before .before .before .before .before .before .before .before .args .head)) (drop (c .before .before .before .before .before .before .before .before .before .before .args .at) (c .before .before .before .before .before .before .before .before .before .before .args .s .now)) (c .before .before .before .before .before .before .load-rest .last .1 .1 .1 .0) _ (c .before .before .before .before .before .before .before .before .before .before .pre .0) (c .before .before .before .before .before .before .load-rest .kept .1 .1 .1 .0 ∙ c .before .before .before .before .before .before .before .before .before .before .pre .1) (c .before .before .before .before .before .before .before .before .before .before .pre .2) (rw (c .before .before .n .given .1) at (c .before .before .before .before .before .before .load-rest .ensures))
+
+enum-known-x : tie.Need-enum-known-x
+enum-known-x c = search needs
+
+same-length : tie.Need-same-length
+same-length c = search needs
+
+returns : tie.Need-returns
+returns c = rest-linked (c .before .before .before .before .before .before .before .before .before .before .before .before .before .args .rooms) (headOf (c .before .before .before .before .before .before .before .before .before .before .before .before .before .args .head)) (drop (c .before .before .before .before .before .before .before .before .before .before .before .before .before .args .at) (c .before .before .before .before .before .before .before .before .before .before .before .before .before .args .s .now)) (c .before .before .before .before .before .before .before .before .before .load-rest .last .1 .1 .1 .0) _ (c .before .before .before .before .before .before .before .before .before .before .before .before .before .pre .0) (c .before .before .before .before .before .before .before .before .before .load-rest .kept .1 .1 .1 .0 ∙ c .before .before .before .before .before .before .before .before .before .before .before .before .before .pre .1) (c .before .before .before .before .before .before .before .before .before .before .before .before .before .pre .2) (rw (c .before .before .before .before .before .n .given .1) at (c .before .before .before .before .before .before .before .before .before .load-rest .ensures)) _ (c .before .before .link-edges .ensures .0) (c .before .before .link-edges .ensures .1) (c .before .before .link-edges .ensures .2)
+
+same-length-2 : tie.Need-same-length-2
+same-length-2 c = search needs
+
+returns-2 : tie.Need-returns-2
+returns-2 c = rest-refused (c .before .before .before .before .before .before .before .before .before .args .rooms) (closed (fromRuns (headOf (c .before .before .before .before .before .before .before .before .before .args .head)) (drop (c .before .before .before .before .before .before .before .before .before .args .at) (c .before .before .before .before .before .before .before .before .before .args .s .now)))) _ _ (rw (c .before .x .given .1) at (c .before .before .before .before .before .load-rest .ensures))
+
+pub load-linked-spec : {M : Type 1} → statement M
+load-linked-spec =
+    tie.close
+    (tie.spec
+    load-rest-requires
+    enum-known-n
+    link-edges-requires
+    enum-known-x
+    same-length
+    returns
+    same-length-2
+    returns-2)

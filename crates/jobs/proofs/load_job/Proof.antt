@@ -1,0 +1,44 @@
+-- The head's rule, the room and the rest, as in the definition.
+use mathlib.Core.Path.{refl, sym, _∙_}
+use native.Mathlib.Omega.{arith}
+use borrow.Author.Needs.{needs}
+use lib.ListN.{length, drop}
+use Rattle.jobs.specs.Loading.{headOf}
+use Rattle.jobs.proofs.Rooms.{roomy-parts}
+use Rattle.jobs.proofs.Loads.{from-refused, from-short, from-room}
+use Rattle.jobs.proofs.load_job.Statement.{statement}
+use Rattle.jobs.proofs.load_job.Tie as tie
+
+check-head-requires : tie.Need-check-head-requires
+check-head-requires c κs = search needs
+
+returns : tie.Need-returns
+returns c = rw (from-refused (c .before .before .before .before .args .rooms) (length (c .before .before .before .before .args .mem .now)) (headOf (c .before .before .before .before .args .head)) (drop (c .before .before .before .before .args .at) (c .before .before .before .before .args .s .now)) _ (c .before .check-head .ensures) (c .if1 .taken)) refl
+
+roomy-requires : tie.Need-roomy-requires
+roomy-requires c κs = search needs
+
+load-linked-requires : tie.Need-load-linked-requires
+load-linked-requires c κs = let (_, l, f) = roomy-parts (c .before .before .before .before .before .before .before .args .rooms) (length (c .before .before .before .before .before .before .before .args .mem .now)) (headOf (c .before .before .before .before .before .before .before .args .head)) (sym (c .before .before .roomy .ensures) ∙ c .before .if2 .taken) in
+    (omega (arith, c .before .before .before .before .check-head .ensures, c .before .before .before .if1 .left), l, f)
+
+same-length : tie.Need-same-length
+same-length c = search needs
+
+returns-2 : tie.Need-returns-2
+returns-2 c = rw (from-room (c .before .before .before .before .before .before .before .before .before .before .args .rooms) (length (c .before .before .before .before .before .before .before .before .before .before .args .mem .now)) (headOf (c .before .before .before .before .before .before .before .before .before .before .args .head)) (drop (c .before .before .before .before .before .before .before .before .before .before .args .at) (c .before .before .before .before .before .before .before .before .before .before .args .s .now)) (omega (arith, c .before .before .before .before .before .before .before .check-head .ensures, c .before .before .before .before .before .before .if1 .left)) (sym (c .before .before .before .before .before .roomy .ensures) ∙ c .before .before .before .before .if2 .taken)) (c .before .before .load-linked .ensures)
+
+returns-3 : tie.Need-returns-3
+returns-3 c = rw (from-short (c .before .before .before .before .before .before .args .rooms) (length (c .before .before .before .before .before .before .args .mem .now)) (headOf (c .before .before .before .before .before .before .args .head)) (drop (c .before .before .before .before .before .before .args .at) (c .before .before .before .before .before .before .args .s .now)) (omega (arith, c .before .before .before .check-head .ensures, c .before .before .if1 .left)) (sym (c .before .roomy .ensures) ∙ c .if2 .left)) refl
+
+pub load-job-spec : {M : Type 1} → statement M
+load-job-spec =
+    tie.close
+    (tie.spec
+    check-head-requires
+    returns
+    roomy-requires
+    load-linked-requires
+    same-length
+    returns-2
+    returns-3)

@@ -1,0 +1,79 @@
+-- Where things stand in a working memory, in cells. Its size is counted in rooms: a table begins at a constant times the number of
+-- rooms, and is as many times as long as in a memory of one room. The job is at the front.
+use Prim.Native.Nat.{ℕ, _+_, _*_, _≤_}
+use mathlib.Core.Bool.{Bool, _&&_}
+use lib.Dec.{leb}
+use Rattle.definitions.specs.Lists.{if_then_else_}
+use Rattle.definitions.specs.Job.{JobHead}
+
+-- All cells.
+abbrev pub memorySize : ℕ → ℕ
+memorySize rooms = 505 * rooms
+
+-- The cells that a job may take, with those used on the way.
+abbrev pub jobSize : ℕ → ℕ
+jobSize rooms = 177 * rooms
+
+-- The cells of a job with this head, and two more that are used while edges are read.
+abbrev pub cellsFor : JobHead → ℕ
+cellsFor h = 4 + (h .tasks + h .processors) * (h .processors + 1) + h .edges + 2
+
+-- A job with this head fits a memory of so many rooms.
+abbrev pub FitsIn : ℕ → JobHead → Type 0
+FitsIn rooms h = (h .tasks ≤ 8 * rooms) × (h .edges ≤ 32 * rooms) × (cellsFor h ≤ jobSize rooms)
+
+-- The test for it.
+unfoldable pub hasRoom : ℕ → JobHead → Bool
+hasRoom rooms h = leb (h .tasks) (8 * rooms) && leb (h .edges) (32 * rooms) && leb (cellsFor h) (jobSize rooms)
+
+-- The rooms that a job with this head is given: 1, 2 or 8 if it fits so many, else 32.
+unfoldable pub roomsFor : JobHead → ℕ
+roomsFor h = if hasRoom 1 h then 1 else (if hasRoom 2 h then 2 else (if hasRoom 8 h then 8 else 32))
+
+-- For each task the link to the newest edge that enters it.
+abbrev pub inHeadAt : ℕ → ℕ
+inHeadAt rooms = 177 * rooms
+
+-- For each edge the link to the next one that enters the same task.
+abbrev pub inNextAt : ℕ → ℕ
+inNextAt rooms = 185 * rooms
+
+-- For each task the link to the newest edge that leaves it.
+abbrev pub outHeadAt : ℕ → ℕ
+outHeadAt rooms = 217 * rooms
+
+-- For each edge the link to the next one that leaves the same task.
+abbrev pub outNextAt : ℕ → ℕ
+outNextAt rooms = 225 * rooms
+
+-- Bottom levels by task.
+abbrev pub levelAt : ℕ → ℕ
+levelAt rooms = 257 * rooms
+
+-- For each task its line in the plan, counted from 1; 0 if it is not placed.
+abbrev pub lineAt : ℕ → ℕ
+lineAt rooms = 265 * rooms
+
+-- For each task the number of its edges from tasks that are not placed.
+abbrev pub blockedAt : ℕ → ℕ
+blockedAt rooms = 273 * rooms
+
+-- For each free task its priority.
+abbrev pub priorityAt : ℕ → ℕ
+priorityAt rooms = 281 * rooms
+
+-- The plan's lines, 25 cells each: the task, then processor, early and late for each replica.
+abbrev pub rowAt : ℕ → ℕ → ℕ
+rowAt rooms i = 289 * rooms + i * 25
+
+-- For each processor its largest delay to any processor, after the last line.
+abbrev pub farAt : ℕ → ℕ
+farAt rooms = 489 * rooms
+
+-- M* of a plan that is complete, where the counts of blocking edges stood.
+abbrev pub bestAt : ℕ → ℕ
+bestAt rooms = 273 * rooms
+
+-- M of that plan, in the same table.
+abbrev pub worstAt : ℕ → ℕ
+worstAt rooms = 274 * rooms

@@ -1,0 +1,131 @@
+-- The numbers that end a line, and lines, at a place of a text.
+use mathlib.Core.Path.{_≡_, refl, ap, sym, _∙_}
+use mathlib.Core.List.{List, [], _∷_, _++_, append-assoc, append-nil}
+use Prim.Native.Nat.{ℕ, zero, suc, _+_, _-_, _<_, _≤_}
+use native.Mathlib.Omega.{arith}
+use native.Mathlib.Numerals.{add-one}
+use borrow.Author.Tests.{eq-eqb, ne-eqb, lt-ltb, le-ltb}
+use lib.ListN.{length, getD, take, drop, set, drop-of-length-le}
+use lib.Seq.{drop-cons, take-suc-set}
+use Rattle.definitions.specs.Limits.{Limits, document01}
+use Rattle.definitions.specs.Text.{Reading, Reader, found, refused, next, due, number, exactly, numbers, line, lines, mark}
+use Rattle.text.specs.Told.{after, lineInto, ruled, PlacedBy}
+use Rattle.text.specs.declared.Num.{Num}
+use Rattle.text.specs.declared.Num.the-variants.{Value}
+
+-- One byte.
+module _ (s : List ℕ) (i b : ℕ) where
+  pub byte-end : length s ≤ i → refused 2 ≡ exactly (b ∷ []) (drop i s)
+  unfolding exactly
+  byte-end h = rw (drop-of-length-le s h)
+
+  pub byte-no : i < length s → (getD s i 0 ≡ b → ⊥) → refused 2 ≡ exactly (b ∷ []) (drop i s)
+  unfolding exactly
+  byte-no h e = rw (drop-cons s i 0 h, ne-eqb _ _ e)
+
+  pub byte-yes : i < length s → getD s i 0 ≡ b → found tt (drop (i + 1) s) ≡ exactly (b ∷ []) (drop i s)
+  unfolding exactly
+  byte-yes h e = rw (drop-cons s i 0 h, eq-eqb _ _ e, add-one)
+
+-- A reading of a list with no members before it.
+pub after-none : {A : Type 0} (r : Reading (List A)) → after [] r ≡ r
+after-none (found vs s) = refl
+after-none (refused n) = refl
+
+-- One more before it.
+after-more : {A : Type 0} (xs : List A) (v : A) (r : Reading (List A)) → after (xs ++ v ∷ []) r ≡ after xs (next r (λ vs s. found (v ∷ vs) s))
+after-more xs v (found vs s) = ap (λ l. found l s) (append-assoc xs (v ∷ []) vs)
+after-more xs v (refused n) = refl
+
+left : (n i : ℕ) → i < n → n - i ≡ suc (n - (i + 1))
+left n i h = omega arith
+
+-- Numbers xs were read, i of k, and the rest begins at the place p.
+module _ (l : Limits) (s xs : List ℕ) (k i p : ℕ) where
+  pub numbers-bad : i < k → number l (drop p s) ≡ refused 2 → refused 2 ≡ after xs (numbers l (k - i) (drop p s))
+  unfolding numbers
+  numbers-bad h e = rw (left k i h, e)
+
+  module _ (v n : ℕ) (h : i < k) (e : number l (drop p s) ≡ found v (drop n s)) where
+    pub numbers-no : (x : ℕ) → exactly (mark (k - (i + 1)) ∷ []) (drop n s) ≡ refused x → refused x ≡ after xs (numbers l (k - i) (drop p s))
+    unfolding numbers
+    numbers-no x f = rw (left k i h, e, f)
+
+    pub numbers-next : (q : ℕ) → exactly (mark (k - (i + 1)) ∷ []) (drop n s) ≡ found tt (drop q s)
+        → after (xs ++ v ∷ []) (numbers l (k - (i + 1)) (drop q s)) ≡ after xs (numbers l (k - i) (drop p s))
+    unfolding numbers
+    numbers-next q f = rw (left k i h, e, f) (after-more xs v (numbers l (k - (i + 1)) (drop q s)))
+
+  pub numbers-end : k ≤ i → found xs (drop p s) ≡ after xs (numbers l (k - i) (drop p s))
+  unfolding numbers
+  numbers-end h = let e : k - i ≡ 0 = omega arith in rw (e, append-nil)
+
+-- The place after a number well inside a text is in it.
+pub inner-place : (s : List ℕ) (p end : ℕ) (r : Num) (v n : ℕ) → end ≡ length s - 11 → p < end → PlacedBy (p + 10) r → r ≡ Value v n → n < length s
+inner-place s p end r v n e l h f = omega (arith, e, l, rw f at h)
+
+-- One more number was stored.
+pub take-more : (d : List ℕ) (i v : ℕ) → i < length d → take (i + 1) (set d i v) ≡ take i d ++ v ∷ []
+take-more d i v h = rw add-one (take-suc-set d i v h)
+
+module _ (l : Limits) (opening : List ℕ) (k : ℕ) (s : List ℕ) where
+  pub line-open : (r : List ℕ) → exactly opening s ≡ found tt r → numbers l k r ≡ line l opening k s
+  unfolding line
+  line-open r e = rw e
+
+  pub line-no : (n : ℕ) → exactly opening s ≡ refused n → refused n ≡ line l opening k s
+  unfolding line
+  line-no n e = rw e
+
+-- The slice has k cells, or not.
+module _ (room : ℕ) (opening : List ℕ) (k : ℕ) (s : List ℕ) where
+  pub line-fits : k ≤ room → lineInto room opening k s ≡ line document01 opening k s
+  line-fits h = rw (le-ltb room k h)
+
+  pub line-unfit : room < k → lineInto room opening k s ≡ refused 8
+  line-unfit h = rw (lt-ltb room k h)
+
+-- Read on if no refusal is due.
+pub due-no : {A : Type 0} (n : ℕ) (q : Reader A) (s : List ℕ) → 0 < n → refused n ≡ next (due n s) (λ _. q)
+due-no zero q s h = absurd (omega arith)
+due-no (suc n) q s h = refl
+
+-- One line of a kind, after the lines in `seen`.
+module _ {A : Type 0} (form : Reader A) (rule : List A → A → ℕ) (seen : List A) (s : List ℕ) where
+  pub ruled-bad : (x : ℕ) → form s ≡ refused x → refused x ≡ ruled form rule seen s
+  ruled-bad x e = rw e
+
+  module _ (a : A) (r : List ℕ) (e : form s ≡ found a r) (x : ℕ) (f : x ≡ rule seen a) where
+    pub ruled-no : 0 < x → refused x ≡ ruled form rule seen s
+    ruled-no g = rw (e, ← f) (due-no x (λ q. found a q) r g)
+
+    pub ruled-yes : x ≤ 0 → found a r ≡ ruled form rule seen s
+    ruled-yes g = let z : rule seen a ≡ 0 = omega arith in rw (e, z)
+
+-- Lines of one kind: `seen` were read, i of n, and s is the rest.
+module _ {A : Type 0} (form : Reader A) (rule : List A → A → ℕ) (n i : ℕ) (seen : List A) (s : List ℕ) where
+  pub lines-end : n ≤ i → found seen s ≡ lines form rule (n - i) seen s
+  unfolding lines
+  lines-end h = let e : n - i ≡ 0 = omega arith in rw e
+
+  module _ (h : i < n) where
+    -- One line, and the lines after it.
+    one-line : lines form rule (n - i) seen s ≡ next (ruled form rule seen s) (λ a. lines form rule (n - (i + 1)) (seen ++ a ∷ []))
+    unfolding lines
+    one-line = rw (left n i h) (by (form s))
+      where
+        judged : (a : A) (r : List ℕ) (x : ℕ) → next (due x r) (λ _. lines form rule (n - (i + 1)) (seen ++ a ∷ []))
+            ≡ next (next (due x r) (λ _ q. found a q)) (λ b. lines form rule (n - (i + 1)) (seen ++ b ∷ []))
+        judged a r zero = refl
+        judged a r (suc x) = refl
+
+        by : (q : Reading A) → next q (λ a r. next (due (rule seen a) r) (λ _. lines form rule (n - (i + 1)) (seen ++ a ∷ [])))
+            ≡ next (next q (λ a r. next (due (rule seen a) r) (λ _ p. found a p))) (λ b. lines form rule (n - (i + 1)) (seen ++ b ∷ []))
+        by (found a r) = judged a r (rule seen a)
+        by (refused x) = refl
+
+    pub lines-no : (x : ℕ) → ruled form rule seen s ≡ refused x → refused x ≡ lines form rule (n - i) seen s
+    lines-no x e = sym (one-line ∙ rw e)
+
+    pub lines-next : (a : A) (r : List ℕ) → ruled form rule seen s ≡ found a r → lines form rule (n - (i + 1)) (seen ++ a ∷ []) r ≡ lines form rule (n - i) seen s
+    lines-next a r e = sym (one-line ∙ rw e)

@@ -1,0 +1,26 @@
+-- The test says whether the numbers have their cells.
+use mathlib.Core.Path.{refl, sym}
+use native.Mathlib.Omega.{arith}
+use borrow.Author.Needs.{needs}
+use lib.ListN.{length}
+use borrow.Author.Tests.{le-ltb}
+use Rattle.lines.proofs.LineLaws.{line-unfit}
+use Rattle.lines.proofs.read_line.Statement.{statement}
+use Rattle.lines.proofs.read_line.Tie as tie
+
+returns : tie.Need-returns
+returns c = (sym (line-unfit _ _ _ _ (c .if1 .taken)), (refl, λ h. refl))
+
+line-of-requires : tie.Need-line-of-requires
+line-of-requires c κs = search needs
+
+same-length : tie.Need-same-length
+same-length c = search needs
+
+returns-2 : tie.Need-returns-2
+returns-2 c =
+    let a = c .before .before .before .before .before .before .before .before .args in
+    (rw (le-ltb (length (a .vals .now)) (a .k) (c .before .before .before .before .if1 .left)) (c .before .before .line-of .ensures .0), (c .before .before .line-of .ensures .1, λ h. absurd (omega (arith, h, c .before .before .before .before .if1 .left))))
+
+pub read-line-spec : {M : Type 1} → statement M
+read-line-spec = tie.close (tie.spec returns line-of-requires same-length returns-2)

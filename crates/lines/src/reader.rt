@@ -1,0 +1,45 @@
+// A text and a place in it, held together.
+ghost use mathlib.Core.Path.{_≡_};
+ghost use Prim.Native.Nat.{_≤_};
+ghost use lib.ListN.{length, take, drop};
+ghost use Rattle.definitions.specs.Limits.{document01};
+ghost use Rattle.definitions.specs.Text.{line};
+ghost use Rattle.text.specs.Told.{told};
+use crate::lines;
+use text::Step;
+
+// A text and a place in it.
+pub struct Reader<'a> {
+    pub text: &'a [u8],
+    pub at: usize,
+}
+
+// A reader at a text's start.
+pub fn start<'a>(text: &'a [u8]) -> Reader<'a>
+    ensures { λ r. ⌜ (r .text ≡ text .entry) × (r .at ≡ 0) ⌝ }
+{
+    Reader { text, at: 0 }
+}
+
+// A reader at another place of its text.
+pub fn moved<'a>(r: Reader<'a>, at: usize) -> Reader<'a>
+    ensures { λ q. ⌜ (q .text ≡ r .entry .text) × (q .at ≡ at) ⌝ }
+{
+    Reader { text: r.text, at }
+}
+
+// The line at the reader's place: its opening and k numbers, kept at the front of `vals`.
+pub fn line<'a, 'b, 'c>(r: Reader<'a>, opening: &'b [u8], k: usize, vals: &'c mut [u64]) -> Step
+    requires { ⌜ k ≤ length (now vals) ⌝ }
+    ensures { λ s. ⌜ (told (now (r .entry .text)) (take k (now (vals .exit))) s ≡ line document01 (now (opening .entry)) k (drop (r .entry .at) (now (r .entry .text)))) × (drop k (now (vals .exit)) ≡ drop k (now (vals .entry))) ⌝ }
+{
+    lines::line_at(r.text, r.at, opening, k, vals)
+}
+
+// A line of a text, read by a reader at its place.
+pub fn line_of(s: &[u8], at: usize, opening: &[u8], k: usize, vals: &mut [u64]) -> Step
+    requires { ⌜ k ≤ length (now vals) ⌝ }
+    ensures { λ r. ⌜ (told (now (s .entry)) (take k (now (vals .exit))) r ≡ line document01 (now (opening .entry)) k (drop at (now (s .entry)))) × (drop k (now (vals .exit)) ≡ drop k (now (vals .entry))) ⌝ }
+{
+    line(moved(start(s), at), opening, k, vals)
+}

@@ -1,0 +1,5 @@
+pub mod Counting
+pub mod Kept
+pub mod ListLaws
+pub mod Over
+pub mod Upward

@@ -1,0 +1,78 @@
+-- A job and a plan that were read into one memory, from step to step.
+use mathlib.Core.Path.{_≡_, refl, ap}
+use mathlib.Core.List.{List}
+use Prim.Native.Nat.{ℕ}
+use native.Mathlib.Omega.{arith}
+use Rattle.definitions.specs.Lists.{nth}
+use Rattle.definitions.specs.Limits.{document01}
+use Rattle.definitions.specs.Text.{Result, good, bad, andThen}
+use Rattle.definitions.specs.Job.{Job}
+use Rattle.definitions.specs.Plan.{Plan, readPlan}
+use Rattle.definitions.proofs.Facts.{PlanFacts}
+use Rattle.definitions.proofs.Reading.{andThen-good, plan-facts}
+use Rattle.text.specs.declared.Step.{Step}
+use Rattle.text.specs.declared.Step.the-variants.{Next, Refused}
+use Rattle.jobs.specs.Layout.{levelAt, lineAt, farAt}
+use Rattle.jobs.specs.Held.{jobIn, LinkedIn, LinkedOut, JobHeld}
+use Rattle.jobs.specs.Loading.{JobLoaded}
+use Rattle.lists.specs.Kept.{KeptOutside}
+use Rattle.plans.specs.Lines.{Standing}
+use Rattle.plans.specs.Loading.{planIn, PlanLoaded, PlanHeld, withPlan, BothLoaded}
+use Rattle.lists.proofs.Kept.{same-before}
+use Rattle.jobs.proofs.Held.{job-kept, linked-out-same}
+use Rattle.jobs.proofs.Loads.{loaded-job, refused-job}
+
+-- Reading -------------------------------------------------------------------------------------------------------------
+
+-- Where the job is refused, both are.
+pub none-read : (x : Result Job) (plan : List ℕ) (n : ℕ) → x ≡ bad n → withPlan x plan ≡ bad n
+unfolding withPlan
+none-read x plan n h = rw h
+
+module _ (rooms : ℕ) (x : Result Job) (plan d : List ℕ) (n : ℕ) where
+  pub no-job : JobLoaded rooms x d (Refused n) → BothLoaded rooms (withPlan x plan) d (Refused n)
+  no-job h = rw (none-read x plan n (refused-job rooms x d n h)) refl
+
+  -- The job was read, and its edges were linked.
+  module _ (h : JobLoaded rooms x d (Next n)) where
+    pub job-standing : JobHeld rooms d × LinkedIn rooms d
+    job-standing = let (_, j, i, _) = loaded-job rooms x d n h in (j, i)
+
+    -- So was the plan.
+    pub both-loaded : (f : List ℕ) (r : Step) → KeptOutside (lineAt rooms) (farAt rooms) d f → PlanLoaded rooms (readPlan document01 (jobIn d) plan) f r → BothLoaded rooms (withPlan x plan) f r
+    unfolding withPlan
+    both-loaded f r c g = rw (loaded-job rooms x d n h .0) (by (readPlan document01 (jobIn d) plan) g)
+      where
+        by : (y : Result Plan) → PlanLoaded rooms y f r → BothLoaded rooms (andThen y (λ p. good (jobIn d, p))) f r
+        by (good p) (a, b, s) =
+            let (_, j, _, l) = loaded-job rooms x d n h in
+            (a, job-kept j c (omega arith), b, s, linked-out-same j (same-before 0 (levelAt rooms) c (omega arith)) l)
+        by (bad k) g = g
+
+-- What was read -------------------------------------------------------------------------------------------------------
+
+module _ (rooms : ℕ) (mem : List ℕ) (n : ℕ) where
+  pub both-no : (x : Result (Job × Plan)) → BothLoaded rooms x mem (Refused n) → x ≡ bad n
+  both-no (good (j, p)) ((k, e), _, _, _, _) = absurd (let z : _≡_ {A = ℕ} 0 1 = cc in omega arith)
+  both-no (bad k) e = cc
+
+  pub both-next : (x : Result (Job × Plan)) → BothLoaded rooms x mem (Next n) → (x ≡ good (jobIn mem, planIn rooms mem)) × Standing rooms (nth mem 0) mem × LinkedOut rooms mem
+  both-next (good (j, p)) (_, e, f, s, l) = (rw (e, f), s, l)
+  both-next (bad k) e = absurd (let z : _≡_ {A = ℕ} 0 1 = cc in omega arith)
+
+both-facts : (x : Result Job) (plan : List ℕ) (j : Job) (p : Plan) → withPlan x plan ≡ good (j, p) → PlanFacts document01 j p
+unfolding withPlan
+both-facts x plan j p h =
+    let (i, _, f) = andThen-good x (λ j. andThen (readPlan document01 j plan) (λ p. good (j, p))) (j, p) h in
+    let (q, g, e) = andThen-good (readPlan document01 i plan) (λ p. good (i, p)) (j, p) f in
+    let w : _≡_ {A = Job × Plan} (i, q) (j, p) = cc in
+    by i q g (ap (λ (x : Job × Plan). x .0) w) (ap (λ (x : Job × Plan). x .1) w)
+  where
+    by : (i : Job) (q : Plan) → readPlan document01 i plan ≡ good q → i ≡ j → q ≡ p → PlanFacts document01 j p
+    by i q g a b = plan-facts document01 j plan p (rw (a, b) at g)
+
+-- Both stand in the memory.
+pub both-held : (rooms : ℕ) (x : Result Job) (plan mem : List ℕ) (n : ℕ) → BothLoaded rooms (withPlan x plan) mem (Next n) → PlanHeld rooms mem × LinkedOut rooms mem
+both-held rooms x plan mem n h =
+    let (e, s, l) = both-next rooms mem n (withPlan x plan) h in
+    (record { standing = s; facts = both-facts x plan (jobIn mem) (planIn rooms mem) e }, l)

@@ -1,0 +1,6 @@
+pub mod JobAndPlan
+pub mod Lines
+pub mod PlanLaws
+pub mod PlanReading
+pub mod PlanText
+pub mod StopLaws

@@ -1,0 +1,88 @@
+-- The lines of a plan in a memory, after a change elsewhere.
+use mathlib.Core.Path.{_≡_, refl, _∙_}
+use mathlib.Core.Logic.{_⊎_, inl, inr, ⊎-elim}
+use mathlib.Core.List.{List}
+use mathlib.Core.Bool.{Bool, true, false}
+use Prim.Native.Nat.{ℕ, zero, suc, _+_, _*_, _-_, _<_, _≤_}
+use native.Mathlib.Omega.{arith}
+use lib.ListN.{length}
+use Rattle.definitions.specs.Lists.{if_then_else_, nth}
+use Rattle.jobs.specs.Layout.{jobSize, inHeadAt, inNextAt, levelAt, lineAt, blockedAt, rowAt}
+use Rattle.jobs.specs.Held.{jobIn}
+use Rattle.plans.specs.Lines.{rowOutcomes, placedIn, rowReplicas, linesIn, RowHeld, Standing}
+use Rattle.lists.specs.Kept.{KeptOutside}
+use Rattle.lists.proofs.Kept.{Same, same-part, same-before, same-behind}
+use Rattle.jobs.proofs.Held.{sizes, Sizes, job-same, held-same, chained-same}
+
+-- Lines -------------------------------------------------------------------------------------------------------
+
+module _ (d e : List ℕ) where
+  pub outcomes-same : (late : Bool) (a c : ℕ) → Same a (a + (1 + 3 * c)) d e → rowOutcomes late a c e ≡ rowOutcomes late a c d
+  unfolding rowOutcomes
+  outcomes-same late a zero k = refl
+  outcomes-same late a (suc c) k =
+      rw (k .cell a (omega arith) (omega arith), k .cell (a + (1 + 3 * c)) (omega arith) (omega arith), time late, outcomes-same late a c (same-part a (a + (1 + 3 * c)) k (omega arith) (omega arith)))
+    where
+      time : (late : Bool) → nth e (a + ((if late then 3 else 2) + 3 * c)) ≡ nth d (a + ((if late then 3 else 2) + 3 * c))
+      time true = k .cell (a + (3 + 3 * c)) (omega arith) (omega arith)
+      time false = k .cell (a + (2 + 3 * c)) (omega arith) (omega arith)
+
+  pub placed-same : (rooms : ℕ) (late : Bool) (w k : ℕ) → w ≤ 8 → Same (rowAt rooms 0) (rowAt rooms k) d e → placedIn rooms late w k e ≡ placedIn rooms late w k d
+  unfolding placedIn
+  placed-same rooms late w zero h s = refl
+  placed-same rooms late w (suc k) h s =
+      rw (outcomes-same late (rowAt rooms k) w (same-part (rowAt rooms k) (rowAt rooms k + (1 + 3 * w)) s (omega arith) (omega arith)), placed-same rooms late w k h (same-part (rowAt rooms 0) (rowAt rooms k) s (omega arith) (omega arith)))
+
+  pub replicas-same : (a c : ℕ) → Same a (a + (1 + 3 * c)) d e → rowReplicas a c e ≡ rowReplicas a c d
+  unfolding rowReplicas
+  replicas-same a zero k = refl
+  replicas-same a (suc c) k =
+      rw (k .cell (a + (1 + 3 * c)) (omega arith) (omega arith), k .cell (a + (2 + 3 * c)) (omega arith) (omega arith), k .cell (a + (3 + 3 * c)) (omega arith) (omega arith), replicas-same a c (same-part a (a + (1 + 3 * c)) k (omega arith) (omega arith)))
+
+  pub lines-same : (rooms : ℕ) (w k : ℕ) → w ≤ 8 → Same (rowAt rooms 0) (rowAt rooms k) d e → linesIn rooms w k e ≡ linesIn rooms w k d
+  unfolding linesIn
+  lines-same rooms w zero h s = refl
+  lines-same rooms w (suc k) h s =
+      rw (s .cell (rowAt rooms k) (omega arith) (omega arith), replicas-same (rowAt rooms k) w (same-part (rowAt rooms k) (rowAt rooms k + (1 + 3 * w)) s (omega arith) (omega arith)), lines-same rooms w k h (same-part (rowAt rooms 0) (rowAt rooms k) s (omega arith) (omega arith)))
+
+-- A plan's lines ------------------------------------------------------------------------------------------------
+
+pub row-held-same : {rooms : ℕ} {d e : List ℕ} (a : ℕ) → Sizes rooms d → Same 0 4 d e → Same a (a + 25) d e → RowHeld a d → RowHeld a e
+row-held-same {d} {e} a s j x r =
+    let m : nth e 1 ≡ nth d 1 = j .cell 1 (omega arith) (omega arith) in
+    let l : nth e 3 ≡ nth d 3 = j .cell 3 (omega arith) (omega arith) in
+    record {
+      processor-of = λ c h. rw (m, x .cell (a + (1 + 3 * c)) (omega arith) (omega arith)) (r .processor-of c (rw l at h));
+      early-of = λ c h. rw (x .cell (a + (2 + 3 * c)) (omega arith) (omega arith)) (r .early-of c (rw l at h));
+      late-of = λ c h. rw (x .cell (a + (3 + 3 * c)) (omega arith) (omega arith)) (r .late-of c (rw l at h));
+    }
+
+-- The job with its links, the table of lines and the first k lines are as they were.
+pub standing-same : {rooms k : ℕ} {d e : List ℕ} → length e ≡ length d → Same 0 (levelAt rooms) d e → Same (lineAt rooms) (blockedAt rooms) d e → Same (rowAt rooms 0) (rowAt rooms k) d e
+    → Standing rooms k d → Standing rooms k e
+standing-same {rooms} {k} {d} {e} z j l r s =
+    let w = sizes (s .job) in
+    let a : Same 0 (jobSize rooms) d e = same-part 0 (jobSize rooms) j (omega arith) (omega arith) in
+    let b : jobIn e ≡ jobIn d = job-same w a in
+    let v : nth e 0 ≡ nth d 0 = j .cell 0 (omega arith) (omega arith) in
+    let task : (i : ℕ) → i < k → nth e (rowAt rooms i) ≡ nth d (rowAt rooms i) = λ i h. r .cell (rowAt rooms i) (omega arith) (omega arith) in
+    let line : (t : ℕ) → t < nth d 0 → nth e (lineAt rooms + t) ≡ nth d (lineAt rooms + t) = λ t h. l .cell (lineAt rooms + t) (omega arith) (omega arith) in
+    record {
+      job = held-same (s .job) z a;
+      linked = rw b (chained-same w a (same-part (inHeadAt rooms) (inHeadAt rooms + nth d 0) j (omega arith) (omega arith)) (same-part (inNextAt rooms) (inNextAt rooms + nth d 2) j (omega arith) (omega arith)) (s .linked));
+      count = rw v (s .count);
+      task-of = λ i h. rw (task i h, v) (s .task-of i h);
+      line-of = λ i h. rw (task i h, line (nth d (rowAt rooms i)) (s .task-of i h)) (s .line-of i h);
+      placed = λ t h.
+          let g : t < nth d 0 = rw v at h in
+          rw (line t g) (⊎-elim (λ p. inl p) (λ p. inr (p .0, p .1, p .2, task (p .0) (p .1) ∙ p .3)) (s .placed t g));
+      row = λ i h. row-held-same (rowAt rooms i) w (same-part 0 4 j (omega arith) (omega arith)) (same-part (rowAt rooms i) (rowAt rooms i + 25) r (omega arith) (omega arith)) (s .row i h);
+    }
+
+-- A change among what serves the choice of a task, or behind the k lines.
+module _ {rooms k low high : ℕ} {d e : List ℕ} (c : KeptOutside low high d e) (s : Standing rooms k d) where
+  pub standing-choice : blockedAt rooms ≤ low → high ≤ rowAt rooms 0 → Standing rooms k e
+  standing-choice a b = standing-same (c .size) (same-before 0 (levelAt rooms) c (omega arith)) (same-before (lineAt rooms) (blockedAt rooms) c a) (same-behind (rowAt rooms 0) (rowAt rooms k) c b) s
+
+  pub standing-behind : rowAt rooms k ≤ low → Standing rooms k e
+  standing-behind a = standing-same (c .size) (same-before 0 (levelAt rooms) c (omega arith)) (same-before (lineAt rooms) (blockedAt rooms) c (omega arith)) (same-before (rowAt rooms 0) (rowAt rooms k) c a) s

@@ -1,0 +1,331 @@
+-- The rules of a plan's head and of its lines, with the job and the lines before in a memory.
+use mathlib.Core.Path.{_≡_, refl, ap, sym, _∙_}
+use mathlib.Core.Logic.{_⊎_, inl, inr, ⊎-elim}
+use mathlib.Core.List.{List, [], _∷_, _++_, map, map-append, reverseAux}
+use mathlib.Core.Bool.{Bool, true, false, not, _&&_, _||_, and-true, or-true, or-false, or-assoc}
+use Prim.Native.Nat.{ℕ, zero, suc, _+_, _-_, _*_, _%_, _<_, _≤_}
+use native.Mathlib.Omega.{arith}
+use native.Mathlib.Numerals.{add-one}
+use borrow.Author.Tests.{ltb-true, lt-ltb, le-ltb, eq-eqb, ne-eqb, not-false}
+use lib.Dec.{eqb, ltb}
+use Rattle.definitions.specs.Lists.{nth, In, any, all, has}
+use Rattle.definitions.specs.Limits.{document01}
+use Rattle.definitions.specs.Text.{firstOf}
+use Rattle.definitions.specs.Job.{incoming, outside}
+use Rattle.definitions.specs.Plan.{Replica, Line, processorsOf, descends, PlanHead, planHeadRule, strays, planLineRule}
+use Rattle.definitions.proofs.Lists.{neither, inside, not-outside, either-right, in-append, append-left, append-right, in-has, has-not, in-keep}
+use Rattle.jobs.specs.Layout.{inHeadAt, inNextAt, lineAt, rowAt}
+use Rattle.jobs.specs.Held.{edgeAt, jobIn, chain, LinkedIn}
+use Rattle.plans.specs.Lines.{rowReplicas, linesIn, RowHeld, Standing}
+use Rattle.plans.specs.Loading.{lineIn}
+use Rattle.lists.proofs.ListLaws.{all-same}
+use Rattle.lists.proofs.ListLaws.{any-last}
+use Rattle.lists.proofs.Counting.{last-or-before}
+use Rattle.jobs.proofs.Held.{chain-step, chain-end, tasks-in}
+
+-- The head --------------------------------------------------------------------------------------------------------
+
+-- The tests of a head's numbers, in their order.
+abbrev pub outsideHead : ℕ → ℕ → ℕ → ℕ → ℕ → Bool
+outsideHead tasks processors losses best worst =
+    outside 1 255 tasks || outside 1 16 processors || outside 0 7 losses || outside 0 4294967295 best || outside 0 4294967295 worst
+
+module _ (tasks processors losses best worst : ℕ) where
+  pub head-tasks-low : tasks < 1 → true ≡ outsideHead tasks processors losses best worst
+  head-tasks-low h = rw (lt-ltb _ _ h)
+
+  pub head-tasks-high : 255 < tasks → true ≡ outsideHead tasks processors losses best worst
+  head-tasks-high h = rw (le-ltb tasks 1 (omega arith), lt-ltb _ _ h)
+
+  module _ (a : 1 ≤ tasks) (b : tasks ≤ 255) where
+    tasks-good : outside 1 255 tasks ≡ false
+    tasks-good = not-outside 1 255 tasks a b
+
+    pub head-processors-low : processors < 1 → true ≡ outsideHead tasks processors losses best worst
+    head-processors-low h = rw (tasks-good, lt-ltb processors 1 h)
+
+    pub head-processors-high : 16 < processors → true ≡ outsideHead tasks processors losses best worst
+    head-processors-high h = rw (tasks-good, le-ltb processors 1 (omega arith), lt-ltb 16 processors h)
+
+    module _ (c : 1 ≤ processors) (d : processors ≤ 16) where
+      processors-good : outside 1 16 processors ≡ false
+      processors-good = not-outside 1 16 processors c d
+
+      pub head-losses : 7 < losses → true ≡ outsideHead tasks processors losses best worst
+      head-losses h = rw (tasks-good, processors-good, le-ltb losses 0 (omega arith), lt-ltb 7 losses h)
+
+      module _ (e : losses ≤ 7) where
+        losses-good : outside 0 7 losses ≡ false
+        losses-good = not-outside 0 7 losses (omega arith) e
+
+        pub head-best : 4294967295 < best → true ≡ outsideHead tasks processors losses best worst
+        head-best h = rw (tasks-good, processors-good, losses-good, le-ltb best 0 (omega arith), lt-ltb 4294967295 best h)
+
+        pub head-worst : best ≤ 4294967295 → ltb 4294967295 worst ≡ outsideHead tasks processors losses best worst
+        head-worst h = rw (tasks-good, processors-good, losses-good, not-outside 0 4294967295 best (omega arith) h, le-ltb worst 0 (omega arith))
+
+-- The rule of a head, for the job in a memory.
+module _ (mem : List ℕ) (h : PlanHead) where
+  abbrev straying : Bool
+  straying = outsideHead (h .tasks) (h .processors) (h .losses) (h .best) (h .worst)
+
+  pub head-range : true ≡ straying → 3 ≡ planHeadRule document01 (jobIn mem) h
+  unfolding planHeadRule firstOf
+  head-range e = rw (← e)
+
+  module _ (e : false ≡ straying) where
+    pub head-tasks : (h .tasks ≡ nth mem 0 → ⊥) → 9 ≡ planHeadRule document01 (jobIn mem) h
+    unfolding planHeadRule firstOf jobIn
+    head-tasks n = rw (← e, ne-eqb _ _ n)
+
+    pub head-processors : h .tasks ≡ nth mem 0 → (h .processors ≡ nth mem 1 → ⊥) → 9 ≡ planHeadRule document01 (jobIn mem) h
+    unfolding planHeadRule firstOf jobIn
+    head-processors t n = rw (← e, eq-eqb _ _ t, ne-eqb _ _ n)
+
+    pub head-others : h .tasks ≡ nth mem 0 → h .processors ≡ nth mem 1 → (h .losses ≡ nth mem 3 → ⊥) → 9 ≡ planHeadRule document01 (jobIn mem) h
+    unfolding planHeadRule firstOf jobIn
+    head-others t p n = rw (← e, eq-eqb _ _ t, eq-eqb _ _ p, ne-eqb _ _ n)
+
+    pub head-good : h .tasks ≡ nth mem 0 → h .processors ≡ nth mem 1 → h .losses ≡ nth mem 3 → 0 ≡ planHeadRule document01 (jobIn mem) h
+    unfolding planHeadRule firstOf jobIn
+    head-good t p l = rw (← e, eq-eqb _ _ t, eq-eqb _ _ p, eq-eqb _ _ l)
+
+-- The processors and ticks of a line --------------------------------------------------------------------------------
+
+-- A replica is on no processor of the job, or has a tick outside its range.
+abbrev strayed : List ℕ → Replica → Bool
+strayed mem r = not (ltb (r .processor) (nth mem 1)) || outside 0 4294967295 (r .early) || outside 0 4294967295 (r .late)
+
+-- Among the first c replicas of the line at a.
+unfoldable pub rowStrays : List ℕ → ℕ → ℕ → Bool
+rowStrays mem a c = any (strayed mem) (rowReplicas a c mem)
+
+abbrev replicaAt : List ℕ → ℕ → ℕ → Replica
+replicaAt mem a c = record { processor = nth mem (a + (1 + 3 * c)); early = nth mem (a + (2 + 3 * c)); late = nth mem (a + (3 + 3 * c)) }
+
+module _ (mem : List ℕ) (a : ℕ) where
+  strays-last : (c : ℕ) → rowStrays mem a (suc c) ≡ (rowStrays mem a c || strayed mem (replicaAt mem a c))
+  unfolding rowStrays rowReplicas
+  strays-last c = any-last (strayed mem) (rowReplicas a c mem) (replicaAt mem a c)
+
+  last-strays : (c n : ℕ) → n ≡ suc c → strayed mem (replicaAt mem a c) ≡ true → true ≡ rowStrays mem a n
+  last-strays c n q e = rw (q, strays-last c, either-right (rowStrays mem a c) e)
+
+  -- Replica c is the last of n.
+  module _ (c n : ℕ) (q : n ≡ suc c) where
+    pub stray-processor : nth mem 1 ≤ nth mem (a + (1 + 3 * c)) → true ≡ rowStrays mem a n
+    stray-processor h = last-strays c n q (rw (le-ltb _ _ h))
+
+    module _ (p : nth mem (a + (1 + 3 * c)) < nth mem 1) where
+      pub stray-early : 4294967295 < nth mem (a + (2 + 3 * c)) → true ≡ rowStrays mem a n
+      stray-early h = last-strays c n q (rw (lt-ltb _ _ p, le-ltb (nth mem (a + (2 + 3 * c))) 0 (omega arith), lt-ltb _ _ h))
+
+      module _ (e : nth mem (a + (2 + 3 * c)) ≤ 4294967295) where
+        early-good : outside 0 4294967295 (nth mem (a + (2 + 3 * c))) ≡ false
+        early-good = not-outside 0 4294967295 (nth mem (a + (2 + 3 * c))) (omega arith) e
+
+        pub stray-late : 4294967295 < nth mem (a + (3 + 3 * c)) → true ≡ rowStrays mem a n
+        stray-late h = last-strays c n q (rw (lt-ltb _ _ p, early-good, le-ltb (nth mem (a + (3 + 3 * c))) 0 (omega arith), lt-ltb _ _ h))
+
+        pub stray-none : nth mem (a + (3 + 3 * c)) ≤ 4294967295 → rowStrays mem a c ≡ rowStrays mem a n
+        stray-none h =
+            let g : strayed mem (replicaAt mem a c) ≡ false =
+            rw (lt-ltb _ _ p, early-good) (not-outside 0 4294967295 (nth mem (a + (3 + 3 * c))) (omega arith) h) in
+            rw (q, strays-last c, g) (sym (or-false (rowStrays mem a c)))
+
+  pub strays-none : false ≡ rowStrays mem a 0
+  unfolding rowStrays rowReplicas any
+  strays-none = refl
+
+  pub strays-task : nth mem 0 ≤ nth mem a → true ≡ strays document01 (jobIn mem) (lineIn a mem)
+  unfolding strays jobIn
+  strays-task h = rw (le-ltb (nth mem a) (nth mem 0) h)
+
+  pub strays-row : nth mem a < nth mem 0 → rowStrays mem a (nth mem 3 + 1) ≡ strays document01 (jobIn mem) (lineIn a mem)
+  unfolding strays rowStrays jobIn
+  strays-row h = rw (lt-ltb (nth mem a) (nth mem 0) h)
+
+  -- A line that does not stray.
+  row-within-range : (n c : ℕ) → rowStrays mem a n ≡ false → c < n → strayed mem (replicaAt mem a c) ≡ false
+  row-within-range zero c e h = absurd (omega arith)
+  row-within-range (suc n) c e h =
+      let (f, g) = neither (rowStrays mem a n) (strayed mem (replicaAt mem a n)) (sym (strays-last n) ∙ e) in
+      ⊎-elim (λ (i : c ≡ n). rw i g) (λ l. row-within-range n c f l) (last-or-before n c h)
+
+  pub strays-not : strays document01 (jobIn mem) (lineIn a mem) ≡ false → (nth mem a < nth mem 0) × RowHeld a mem
+  unfolding strays rowStrays jobIn
+  strays-not e =
+      let (t, r) = neither (not (ltb (nth mem a) (nth mem 0))) (any (strayed mem) (rowReplicas a (nth mem 3 + 1) mem)) e in
+      let cell : (c : ℕ) → c < nth mem 3 + 1 → (nth mem (a + (1 + 3 * c)) < nth mem 1) × (nth mem (a + (2 + 3 * c)) ≤ 4294967295) × (nth mem (a + (3 + 3 * c)) ≤ 4294967295) = λ c h.
+      let g = row-within-range (nth mem 3 + 1) c r h in
+      let (x, late) = neither (not (ltb (nth mem (a + (1 + 3 * c))) (nth mem 1)) || outside 0 4294967295 (nth mem (a + (2 + 3 * c)))) (outside 0 4294967295 (nth mem (a + (3 + 3 * c)))) g in
+      let (place, early) = neither (not (ltb (nth mem (a + (1 + 3 * c))) (nth mem 1))) (outside 0 4294967295 (nth mem (a + (2 + 3 * c)))) x in
+      (ltb-true _ _ (not-false _ place), inside 0 4294967295 (nth mem (a + (2 + 3 * c))) early .1, inside 0 4294967295 (nth mem (a + (3 + 3 * c))) late .1) in (
+        ltb-true _ _ (not-false _ t),
+        record { processor-of = λ c h. cell c h .0; early-of = λ c h. inr (cell c h .1); late-of = λ c h. inr (cell c h .2) },
+      )
+
+-- The order of a line's processors ------------------------------------------------------------------------------------
+
+descends-last : (xs : List ℕ) (p q : ℕ) → descends (xs ++ p ∷ [] ++ q ∷ []) ≡ (descends (xs ++ p ∷ []) || ltb q p)
+unfolding descends
+descends-last [] p q = or-false (ltb q p)
+descends-last (x ∷ []) p q = rw (or-false (ltb p x), or-false (ltb q p))
+descends-last (x ∷ y ∷ xs) p q = rw (descends-last (y ∷ xs) p q) (sym (or-assoc (ltb y x) (descends (y ∷ xs ++ p ∷ [])) (ltb q p)))
+
+-- Among the first c processors of the line at a.
+unfoldable pub rowDescends : List ℕ → ℕ → ℕ → Bool
+rowDescends mem a c = descends (map (λ r. r .processor) (rowReplicas a c mem))
+
+module _ (mem : List ℕ) (a : ℕ) where
+  row-last : (c : ℕ) → rowDescends mem a (suc (suc c)) ≡ (rowDescends mem a (suc c) || ltb (nth mem (a + (1 + 3 * suc c))) (nth mem (a + (1 + 3 * c))))
+  unfolding rowDescends rowReplicas
+  row-last c =
+      let ps : List ℕ = map (λ r. r .processor) (rowReplicas a c mem) in
+      let p = nth mem (a + (1 + 3 * c)) in
+      let one : map (λ r. r .processor) (rowReplicas a c mem ++ replicaAt mem a c ∷ []) ≡ ps ++ p ∷ [] = map-append (λ r. r .processor) (rowReplicas a c mem) (replicaAt mem a c ∷ []) in
+      let two = map-append (λ r. r .processor) (rowReplicas a c mem ++ replicaAt mem a c ∷ []) (replicaAt mem a (suc c) ∷ []) in
+      rw (two, one) (descends-last ps p (nth mem (a + (1 + 3 * suc c))))
+
+  -- Processor c is the last but one of n.
+  module _ (c n : ℕ) (q : n ≡ suc c) where
+    pub descends-here : nth mem (a + (1 + 3 * n)) < nth mem (a + (1 + 3 * c)) → true ≡ rowDescends mem a (n + 1)
+    descends-here h = let e : nth mem (a + (1 + 3 * suc c)) < nth mem (a + (1 + 3 * c)) = rw q at h in rw (add-one, q, row-last c, lt-ltb _ _ e) (sym (or-true (rowDescends mem a (suc c))))
+
+    pub descends-not : nth mem (a + (1 + 3 * c)) ≤ nth mem (a + (1 + 3 * n)) → rowDescends mem a (c + 1) ≡ rowDescends mem a (n + 1)
+    descends-not h = let e : nth mem (a + (1 + 3 * c)) ≤ nth mem (a + (1 + 3 * suc c)) = rw q at h in rw (add-one, add-one, q, row-last c, le-ltb _ _ e) (sym (or-false (rowDescends mem a (suc c))))
+
+  pub descends-one : false ≡ rowDescends mem a (0 + 1)
+  unfolding rowDescends rowReplicas descends
+  descends-one = refl
+
+  pub descends-row : rowDescends mem a (nth mem 3 + 1) ≡ descends (processorsOf (lineIn a mem))
+  unfolding rowDescends
+  descends-row = refl
+
+-- Lines of predecessors -----------------------------------------------------------------------------------------------
+
+all-reverse : {A : Type 0} (f : A → Bool) (xs ys : List A) → all f (reverseAux xs ys) ≡ (all f xs && all f ys)
+unfolding all
+all-reverse f [] ys = refl
+all-reverse f (x ∷ xs) ys = all-reverse f xs (x ∷ ys) ∙ by (f x) (all f xs)
+  where
+    by : (a b : Bool) → (b && (a && all f ys)) ≡ (a && b && all f ys)
+    by true b = refl
+    by false true = refl
+    by false false = refl
+
+-- Task t has a line in the table.
+abbrev pub hasLine : ℕ → List ℕ → ℕ → Bool
+hasLine rooms mem t = not (eqb (nth mem (lineAt rooms + t)) 0)
+
+-- The edges from link k on lead to what is left to see of the predecessors of t.
+module _ (rooms : ℕ) (mem : List ℕ) (t : ℕ) where
+  unfoldable pub linedFrom : ℕ → Bool
+  linedFrom k = all (λ e. hasLine rooms mem (e .from)) (chain (inNextAt rooms) (nth mem 2) mem k)
+
+  pub lined-all : LinkedIn rooms mem → t < nth mem 0 → linedFrom (nth mem (inHeadAt rooms + t)) ≡ all (λ e. hasLine rooms mem (e .from)) (incoming (jobIn mem) t)
+  unfolding linedFrom all
+  lined-all l h =
+      rw (l .chains t h) (all-reverse (λ e. hasLine rooms mem (e .from)) (incoming (jobIn mem) t) [] ∙ and-true (all (λ e. hasLine rooms mem (e .from)) (incoming (jobIn mem) t)))
+
+  pub lined-end : true ≡ linedFrom 0
+  unfolding linedFrom all
+  lined-end = rw (chain-end (inNextAt rooms) mem (nth mem 2))
+
+  -- The edge of a link, and those after it.
+  module _ (l : LinkedIn rooms mem) (k : ℕ) (h : 0 < k) (g : k ≤ nth mem 2) where
+    abbrev here : ℕ
+    here = nth mem (edgeAt mem (k - 1)) % 256
+
+    pub lined-no : eqb (nth mem (lineAt rooms + here)) 0 ≡ true → false ≡ linedFrom k
+    unfolding linedFrom all
+    lined-no e = rw (chain-step l k h g, e)
+
+    pub lined-next : eqb (nth mem (lineAt rooms + here)) 0 ≡ false → linedFrom (nth mem (inNextAt rooms + (k - 1))) ≡ linedFrom k
+    unfolding linedFrom all
+    lined-next e = rw (chain-step l k h g, e)
+
+    pub link-falls : nth mem (inNextAt rooms + (k - 1)) < k
+    link-falls = omega (arith, l .falls (k - 1) (omega arith))
+
+-- The tasks of the first k lines, in order.
+module _ (rooms w : ℕ) (mem : List ℕ) where
+  abbrev pub tasksIn : ℕ → List ℕ
+  tasksIn k = map (λ n. n .task) (linesIn rooms w k mem)
+
+  tasks-last : (k : ℕ) → tasksIn (suc k) ≡ tasksIn k ++ nth mem (rowAt rooms k) ∷ []
+  unfolding linesIn
+  tasks-last k = map-append (λ n. n .task) (linesIn rooms w k mem) (record { task = nth mem (rowAt rooms k); replicas = rowReplicas (rowAt rooms k) w mem } ∷ [])
+
+  pub row-in-tasks : (k i : ℕ) → i < k → In (nth mem (rowAt rooms i)) (tasksIn k)
+  row-in-tasks zero i h = absurd (omega arith)
+  row-in-tasks (suc k) i h =
+      rw (tasks-last k)
+      (⊎-elim
+      (λ (e : i ≡ k). append-right (nth mem (rowAt rooms i)) (tasksIn k) (nth mem (rowAt rooms k) ∷ []) (inl (rw e)))
+      (λ l. append-left (nth mem (rowAt rooms i)) (tasksIn k) (nth mem (rowAt rooms k) ∷ []) (row-in-tasks k i l))
+      (last-or-before k i h))
+
+  pub in-tasks-row : (k t : ℕ) → In t (tasksIn k) → (i : ℕ) × (i < k) × (nth mem (rowAt rooms i) ≡ t)
+  unfolding linesIn
+  in-tasks-row zero t m = absurd m
+  in-tasks-row (suc k) t m =
+      ⊎-elim
+      (λ a. let r = in-tasks-row k t a in (r .0, omega (arith, r .1), r .2))
+      (λ b. ⊎-elim (λ e. (k, omega arith, e)) (λ n. absurd n) b)
+      (in-append t (tasksIn k) (nth mem (rowAt rooms k) ∷ []) (rw (tasks-last k) at m))
+
+  -- A task is in one of the lines exactly if the table has its line.
+  pub has-line : (k t : ℕ) → Standing rooms k mem → t < nth mem 0 → has t (tasksIn k) ≡ hasLine rooms mem t
+  has-line k t s h =
+      ⊎-elim
+      (λ (z : nth mem (lineAt rooms + t) ≡ 0).
+      has-not t (tasksIn k) (λ m.
+      let r = in-tasks-row k t m in
+      let e : nth mem (lineAt rooms + t) ≡ suc (r .0) = ap (λ (u : ℕ). nth mem (lineAt rooms + u)) (sym (r .2)) ∙ s .line-of (r .0) (r .1) in
+      omega arith) ∙ rw (eq-eqb (nth mem (lineAt rooms + t)) 0 z))
+      (λ (p : (i : ℕ) × (i < k) × (nth mem (lineAt rooms + t) ≡ suc i) × (nth mem (rowAt rooms i) ≡ t)).
+      let n : nth mem (lineAt rooms + t) ≡ 0 → ⊥ = λ z. omega (arith, p .2) in
+      in-has t (tasksIn k) (rw (p .3) at (row-in-tasks k (p .0) (p .1))) ∙ rw (ne-eqb (nth mem (lineAt rooms + t)) 0 n))
+      (s .placed t h)
+
+-- The rule of a line ----------------------------------------------------------------------------------------------------
+
+module _ {rooms : ℕ} (mem : List ℕ) (a k : ℕ) (s : Standing rooms k mem) where
+  abbrev seen : List Line
+  seen = linesIn rooms (nth mem 3 + 1) k mem
+
+  pub line-strays : true ≡ strays document01 (jobIn mem) (lineIn a mem) → 3 ≡ planLineRule document01 (jobIn mem) seen (lineIn a mem)
+  unfolding planLineRule firstOf
+  line-strays e = rw (← e)
+
+  module _ (e : false ≡ strays document01 (jobIn mem) (lineIn a mem)) where
+    pub line-descends : true ≡ descends (processorsOf (lineIn a mem)) → 11 ≡ planLineRule document01 (jobIn mem) seen (lineIn a mem)
+    unfolding planLineRule firstOf
+    line-descends f = rw (← e, ← f)
+
+    module _ (f : false ≡ descends (processorsOf (lineIn a mem))) where
+      task-below : nth mem a < nth mem 0
+      task-below = strays-not mem a (sym e) .0
+
+      lines-of-all : all (λ d. has (d .from) (tasksIn rooms (nth mem 3 + 1) mem k)) (incoming (jobIn mem) (nth mem a)) ≡ all (λ d. hasLine rooms mem (d .from)) (incoming (jobIn mem) (nth mem a))
+      unfolding incoming
+      lines-of-all =
+          all-same (λ d. has (d .from) (tasksIn rooms (nth mem 3 + 1) mem k)) (λ d. hasLine rooms mem (d .from)) (incoming (jobIn mem) (nth mem a))
+          (λ d i.
+          let (m, _) = in-keep (λ d. eqb (d .to) (nth mem a)) d (jobIn mem .edges) i in
+          has-line rooms (nth mem 3 + 1) mem k (d .from) s (rw (tasks-in mem) at (s .job .facts .from-task d m)))
+
+      pub line-again : (nth mem (lineAt rooms + nth mem a) ≡ 0 → ⊥) → 10 ≡ planLineRule document01 (jobIn mem) seen (lineIn a mem)
+      unfolding planLineRule firstOf
+      line-again n = rw (← e, ← f, has-line rooms (nth mem 3 + 1) mem k (nth mem a) s task-below, ne-eqb (nth mem (lineAt rooms + nth mem a)) 0 n)
+
+      module _ (z : nth mem (lineAt rooms + nth mem a) ≡ 0) where
+        pub line-unfed : false ≡ all (λ d. hasLine rooms mem (d .from)) (incoming (jobIn mem) (nth mem a)) → 10 ≡ planLineRule document01 (jobIn mem) seen (lineIn a mem)
+        unfolding planLineRule firstOf
+        line-unfed g = rw (← e, ← f, has-line rooms (nth mem 3 + 1) mem k (nth mem a) s task-below, eq-eqb (nth mem (lineAt rooms + nth mem a)) 0 z, lines-of-all, ← g)
+
+        pub line-good : true ≡ all (λ d. hasLine rooms mem (d .from)) (incoming (jobIn mem) (nth mem a)) → 0 ≡ planLineRule document01 (jobIn mem) seen (lineIn a mem)
+        unfolding planLineRule firstOf
+        line-good g = rw (← e, ← f, has-line rooms (nth mem 3 + 1) mem k (nth mem a) s task-below, eq-eqb (nth mem (lineAt rooms + nth mem a)) 0 z, lines-of-all, ← g)

@@ -1,0 +1,377 @@
+-- A plan's lines, read into rows.
+use mathlib.Core.Path.{_≡_, refl, ap, sym, _∙_}
+use mathlib.Core.Logic.{_⊎_, inl, inr, ⊎-elim}
+use mathlib.Core.List.{List, [], _∷_, _++_}
+use Prim.Native.Nat.{ℕ, zero, suc, _+_, _-_, _*_, _<_, _≤_}
+use native.Mathlib.Omega.{arith}
+use native.Mathlib.Nat.{add-zero, sub-zero}
+use native.Mathlib.Numerals.{add-one}
+use borrow.Rule.Slice.PartMut.{midOf, postOf, putMid, take-put, drop-put, same-len-mid, mid-len}
+use lib.ListN.{length, set, take, drop, length-drop, List·getD-append}
+use lib.Seq.{drop-at, length-take-le, take-all, take-add, drop-cons, getD-take, getD-drop, getD-set-same, getD-set-other}
+use Rattle.definitions.specs.Lists.{bytes, nth}
+use Rattle.definitions.specs.Limits.{document01}
+use Rattle.definitions.specs.Text.{Reading, Reader, found, refused, line, lines}
+use Rattle.definitions.specs.Job.{Job}
+use Rattle.definitions.specs.Plan.{Replica, Line, triples, lineOf, planLine, planLineRule}
+use Rattle.jobs.specs.Layout.{jobSize, inHeadAt, inNextAt, levelAt, lineAt, blockedAt, rowAt, farAt}
+use Rattle.jobs.specs.Held.{jobIn, LinkedIn, JobHeld}
+use Rattle.plans.specs.Lines.{rowReplicas, linesIn, RowHeld, Standing}
+use Rattle.lists.specs.Kept.{KeptOutside}
+use Rattle.text.specs.declared.Step.{Step}
+use Rattle.text.specs.declared.Step.the-variants.{Next, Refused}
+use Rattle.text.specs.Told.{told, ruled}
+use Rattle.plans.specs.Loading.{lineIn, LineRead}
+use Rattle.lines.proofs.LineLaws.{ruled-bad, ruled-no, ruled-yes, lines-end, lines-no, lines-next}
+use Rattle.lists.proofs.Counting.{equal-or-not, last-or-before}
+use Rattle.lists.proofs.Kept.{Same, same-part, same-before, same-behind, kept-all, kept-then, kept-wider, kept-set}
+use Rattle.jobs.proofs.Held.{Sizes, sizes, job-same, job-kept, held-kept, chained-same, losses-in}
+use Rattle.plans.proofs.Lines.{lines-same, row-held-same, standing-behind}
+
+-- The table of lines, emptied -------------------------------------------------------------------------------------------
+
+pub cleared-more : (rooms : ℕ) (d : List ℕ) (t : ℕ) → lineAt rooms + t < length d → ((u : ℕ) → u < t → nth d (lineAt rooms + u) ≡ 0) → (u : ℕ) → u < t + 1 → nth (set d (lineAt rooms + t) 0) (lineAt rooms + u) ≡ 0
+cleared-more rooms d t l h u g =
+    ⊎-elim
+    (λ (e : u ≡ t). rw e (getD-set-same d (lineAt rooms + t) 0 0 l))
+    (λ b. getD-set-other d (lineAt rooms + t) (lineAt rooms + u) 0 0 (λ e. omega arith) ∙ h u b)
+    (last-or-before t u (omega arith))
+
+-- The links from each task to the edges that enter it are as they were.
+pub linked-in-same : {rooms : ℕ} {d e : List ℕ} → JobHeld rooms d → Same 0 (levelAt rooms) d e → LinkedIn rooms d → LinkedIn rooms e
+linked-in-same {rooms} {d} {e} h j c =
+    let w = sizes h in
+    let a : Same 0 (jobSize rooms) d e = same-part 0 (jobSize rooms) j (omega arith) (omega arith) in
+    rw (job-same w a) (chained-same w a (same-part (inHeadAt rooms) (inHeadAt rooms + nth d 0) j (omega arith) (omega arith)) (same-part (inNextAt rooms) (inNextAt rooms + nth d 2) j (omega arith) (omega arith)) c)
+
+-- No line yet.
+pub standing-none : {rooms : ℕ} {d : List ℕ} → JobHeld rooms d → LinkedIn rooms d → ((t : ℕ) → t < 8 * rooms → nth d (lineAt rooms + t) ≡ 0) → Standing rooms 0 d
+standing-none h l z =
+    let w = sizes h in
+    record {
+      job = h;
+      linked = l;
+      count = omega arith;
+      task-of = λ i g. absurd (omega arith);
+      line-of = λ i g. absurd (omega arith);
+      placed = λ t g. inl (z t (omega arith));
+      row = λ i g. absurd (omega arith);
+    }
+
+-- The line of row k gets its place in the table.
+module _ {rooms k : ℕ} {d : List ℕ} (s : Standing rooms k d) (b : k < nth d 0) (t : nth d (rowAt rooms k) < nth d 0) (z : nth d (lineAt rooms + nth d (rowAt rooms k)) ≡ 0)
+    (r : RowHeld (rowAt rooms k) d) where
+  abbrev task : ℕ
+  task = nth d (rowAt rooms k)
+
+  abbrev e : List ℕ
+  e = set d (lineAt rooms + task) (suc k)
+
+  w : Sizes rooms d
+  w = sizes (s .job)
+
+  other : (i : ℕ) → (i ≡ lineAt rooms + task → ⊥) → nth e i ≡ nth d i
+  other i n = getD-set-other d (lineAt rooms + task) i (suc k) 0 n
+
+  new : nth e (lineAt rooms + task) ≡ suc k
+  new = getD-set-same d (lineAt rooms + task) (suc k) 0 (omega (arith, w))
+
+  same-job : Same 0 (levelAt rooms) d e
+  same-job = record { cell = λ i p q. other i (λ f. omega arith) }
+
+  row-cell : (i : ℕ) → nth e (rowAt rooms i) ≡ nth d (rowAt rooms i)
+  row-cell i = other (rowAt rooms i) (λ f. omega (arith, w))
+
+  line-cell : (u : ℕ) → (u ≡ task → ⊥) → nth e (lineAt rooms + u) ≡ nth d (lineAt rooms + u)
+  line-cell u n = other (lineAt rooms + u) (λ f. n (omega arith))
+
+  same-rows : (i : ℕ) → Same (rowAt rooms i) (rowAt rooms i + 25) d e
+  same-rows i = record { cell = λ x p q. other x (λ f. omega (arith, w)) }
+
+  tasks-same : nth e 0 ≡ nth d 0
+  tasks-same = same-job .cell 0 (omega arith) (omega arith)
+
+  of-task : (i : ℕ) → i < suc k → nth d (rowAt rooms i) < nth d 0
+  of-task i h = ⊎-elim (λ (q : i ≡ k). rw q t) (λ l. s .task-of i l) (last-or-before k i h)
+
+  of-line : (i : ℕ) → i < suc k → nth e (lineAt rooms + nth d (rowAt rooms i)) ≡ suc i
+  of-line i h =
+      ⊎-elim
+      (λ (q : i ≡ k). rw q new)
+      (λ l.
+      let n : nth d (rowAt rooms i) ≡ task → ⊥ = λ (q : nth d (rowAt rooms i) ≡ task). let x : nth d (lineAt rooms + task) ≡ suc i = rw q at (s .line-of i l) in omega arith in
+      line-cell (nth d (rowAt rooms i)) n ∙ s .line-of i l)
+      (last-or-before k i h)
+
+  of-place : (u : ℕ) → u < nth d 0 → (nth e (lineAt rooms + u) ≡ 0) ⊎ ((i : ℕ) × (i < suc k) × (nth e (lineAt rooms + u) ≡ suc i) × (nth e (rowAt rooms i) ≡ u))
+  of-place u h =
+      ⊎-elim
+      (λ (q : u ≡ task). inr (k, omega arith, rw q new, row-cell k ∙ sym q))
+      (λ n.
+      ⊎-elim
+      (λ x. inl (line-cell u n ∙ x))
+      (λ (x : (i : ℕ) × (i < k) × (nth d (lineAt rooms + u) ≡ suc i) × (nth d (rowAt rooms i) ≡ u)). inr (x .0, omega (arith, x .1), line-cell u n ∙ x .2, row-cell (x .0) ∙ x .3))
+      (s .placed u h))
+      (equal-or-not u task)
+
+  of-row : (i : ℕ) → i < suc k → RowHeld (rowAt rooms i) d
+  of-row i h = ⊎-elim (λ (q : i ≡ k). rw q r) (λ l. s .row i l) (last-or-before k i h)
+
+  pub standing-more : Standing rooms (suc k) (set d (lineAt rooms + nth d (rowAt rooms k)) (suc k))
+  standing-more =
+      let c : KeptOutside (lineAt rooms) (blockedAt rooms) d e = kept-set (lineAt rooms + task) (suc k) kept-all (omega arith) (omega (arith, w)) in
+      record {
+        job = held-kept (s .job) c (omega arith);
+        linked = linked-in-same (s .job) same-job (s .linked);
+        count = rw tasks-same (omega arith);
+        task-of = λ i h. rw (row-cell i, tasks-same) (of-task i h);
+        line-of = λ i h. rw (row-cell i) (of-line i h);
+        placed = λ u h. of-place u (rw tasks-same at h);
+        row = λ i h. row-held-same (rowAt rooms i) w (same-part 0 4 same-job (omega arith) (omega arith)) (same-rows i) (of-row i h);
+      }
+
+-- A row that was read ---------------------------------------------------------------------------------------------------
+
+-- A part was lent, `&mut d[a..b]`, and holds ys now.
+module _ (a b : ℕ) (d ys : List ℕ) (p : a ≤ b) (q : b ≤ length d) (l : length ys ≡ b - a) where
+  abbrev lent : List ℕ
+  lent = putMid a (b - a) d ys
+
+  pub lent-kept : KeptOutside a b d (putMid a (b - a) d ys)
+  lent-kept =
+      record {
+        size = same-len-mid a (b - a) d ys (l ∙ sym (mid-len a b d q));
+        before = λ i h. sym (getD-take a lent i 0 h) ∙ ap (λ (x : List ℕ). nth x i) (take-put a (b - a) d ys (omega arith)) ∙ getD-take a d i 0 h;
+        behind = λ i h.
+            let e : i ≡ b + (i - b) = omega arith in
+            rw e (sym (getD-drop b lent (i - b) 0) ∙ ap (λ (x : List ℕ). nth x (i - b)) (drop-put a b d ys p q l) ∙ getD-drop b d (i - b) 0);
+      }
+
+  pub lent-cell : (i : ℕ) → i < length ys → nth (putMid a (b - a) d ys) (a + i) ≡ nth ys i
+  lent-cell i h =
+      sym (getD-drop a lent i 0) ∙ ap (λ (x : List ℕ). nth x i) (drop-at (take a d) (ys ++ postOf a (b - a) d) a (length-take-le a d (omega arith)))
+      ∙ List·getD-append ys (postOf a (b - a) d) 0 i h
+
+-- Three numbers are a replica more.
+triples-last : (c : ℕ) (xs : List ℕ) (p e x : ℕ) → length xs ≡ 3 * c → triples (xs ++ p ∷ e ∷ x ∷ []) ≡ triples xs ++ record { processor = p; early = e; late = x } ∷ []
+unfolding triples
+triples-last zero [] p e x h = refl
+triples-last zero (a ∷ xs) p e x h = absurd (omega arith)
+triples-last (suc c) [] p e x h = absurd (omega arith)
+triples-last (suc c) (a ∷ []) p e x h = absurd (omega arith)
+triples-last (suc c) (a ∷ b ∷ []) p e x h = absurd (omega arith)
+triples-last (suc c) (a ∷ b ∷ d ∷ xs) p e x h = ap (λ (rs : List Replica). record { processor = a; early = b; late = d } ∷ rs) (triples-last c xs p e x (omega arith))
+
+-- The numbers vs of a line stand in the row at a.
+module _ (mem : List ℕ) (a : ℕ) (vs : List ℕ) (h : (i : ℕ) → i < length vs → nth mem (a + i) ≡ nth vs i) where
+  three : (xs : List ℕ) (i : ℕ) → i + 3 ≤ length xs → take 3 (drop i xs) ≡ nth xs i ∷ nth xs (suc i) ∷ nth xs (suc (suc i)) ∷ []
+  three xs i g = rw (drop-cons xs i 0 (omega arith), drop-cons xs (suc i) 0 (omega arith), drop-cons xs (suc (suc i)) 0 (omega arith))
+
+  -- Number x after the first.
+  cell-of : (x y : ℕ) → y ≡ 1 + x → y < length vs → nth (drop 1 vs) x ≡ nth mem (a + y)
+  cell-of x y e g = getD-drop 1 vs x 0 ∙ ap (λ (z : ℕ). nth vs z) (sym e) ∙ sym (h y g)
+
+  row-triples : (c : ℕ) → 1 + 3 * c ≤ length vs → triples (take (3 * c) (drop 1 vs)) ≡ rowReplicas a c mem
+  unfolding rowReplicas triples
+  row-triples zero g = refl
+  row-triples (suc c) g =
+      let us = drop 1 vs in
+      let m : length us ≡ length vs - 1 = length-drop 1 vs in
+      let n : 3 * suc c ≡ 3 * c + 3 = omega arith in
+      rw (n, take-add (3 * c) 3 us, three us (3 * c) (omega arith))
+      (triples-last c (take (3 * c) us) (nth us (3 * c)) (nth us (suc (3 * c))) (nth us (suc (suc (3 * c)))) (length-take-le (3 * c) us (omega arith))
+      ∙ rw (row-triples c (omega arith), cell-of (3 * c) (1 + 3 * c) refl (omega arith), cell-of (suc (3 * c)) (2 + 3 * c) (omega arith) (omega arith), cell-of (suc (suc (3 * c))) (3 + 3 * c) (omega arith) (omega arith)))
+
+  pub row-line : length vs ≡ 4 + 3 * nth mem 3 → lineOf vs ≡ lineIn a mem
+  row-line g =
+      let t : nth vs 0 ≡ nth mem a = sym (h 0 (omega arith)) ∙ ap (λ (y : ℕ). nth mem y) (add-zero a) in
+      let m : length (drop 1 vs) ≤ 3 * (nth mem 3 + 1) = omega (arith, length-drop 1 vs) in
+      rw (t, ← row-triples (nth mem 3 + 1) (omega arith), take-all (3 * (nth mem 3 + 1)) (drop 1 vs) m)
+
+-- One line ----------------------------------------------------------------------------------------------------------------
+
+line-bad : (d s : List ℕ) (n x : ℕ) → n ≡ 4 + 3 * nth d 3 → line document01 (bytes "T,") n s ≡ refused x → planLine document01 (jobIn d) s ≡ refused x
+unfolding planLine
+line-bad d s n x q e = let m : 1 + 3 * (1 + jobIn d .losses) ≡ n = omega (arith, losses-in d) in rw (m, e)
+
+line-read : (d s vs r : List ℕ) (n : ℕ) → n ≡ 4 + 3 * nth d 3 → line document01 (bytes "T,") n s ≡ found vs r → planLine document01 (jobIn d) s ≡ found (lineOf vs) r
+unfolding planLine
+line-read d s vs r n q e = let m : 1 + 3 * (1 + jobIn d .losses) ≡ n = omega (arith, losses-in d) in rw (m, e)
+
+-- One line more, after the lines in `seen`.
+lines-more : (rooms : ℕ) (d mem : List ℕ) (k : ℕ) (seen : List Line) → linesIn rooms (nth d 3 + 1) k mem ≡ seen → nth mem 3 ≡ nth d 3
+    → linesIn rooms (nth d 3 + 1) (suc k) mem ≡ seen ++ lineIn (rowAt rooms k) mem ∷ []
+unfolding linesIn
+lines-more rooms d mem k seen e l = rw (e, l)
+
+-- What a T line of the job in d has to be.
+abbrev formOf : List ℕ → Reader Line
+formOf d = planLine document01 (jobIn d)
+
+abbrev ruleOf : List ℕ → List Line → Line → ℕ
+ruleOf d = planLineRule document01 (jobIn d)
+
+-- A refusal is no place.
+refused-no : {A : Type 0} (x n : ℕ) → Refused x ≡ Next n → A
+refused-no x n e = let z : _≡_ {A = ℕ} 0 1 = cc in absurd (omega (arith, z))
+
+-- The row of one line more ends within the memory.
+pub row-within : {rooms k : ℕ} {d : List ℕ} → Standing rooms k d → k < nth d 0 → rowAt rooms k + 25 ≤ length d
+row-within u h = omega (arith, sizes (u .job), h)
+
+pub row-numbers : {rooms k : ℕ} {d : List ℕ} → Standing rooms k d → 4 + 3 * nth d 3 ≤ 25
+row-numbers u = omega (arith, sizes (u .job) .losses-most)
+
+-- k lines stand in d, and the numbers of one more, n, were read from the text s into its row.
+module _ {rooms k : ℕ} {d : List ℕ} (u : Standing rooms k d) (h : k < nth d 0) (n : ℕ) (q : n ≡ 4 + 3 * nth d 3) (ys : List ℕ)
+    (l : length ys ≡ length (midOf (rowAt rooms k) (rowAt rooms k + n - rowAt rooms k) d)) where
+  abbrev seen : List Line
+  seen = linesIn rooms (nth d 3 + 1) k d
+
+  abbrev filled : List ℕ
+  filled = putMid (rowAt rooms k) (rowAt rooms k + n - rowAt rooms k) d ys
+
+  limits : Sizes rooms d
+  limits = sizes (u .job)
+
+  fits : rowAt rooms k + n ≤ rowAt rooms k + 25
+  fits = omega (arith, row-numbers u, q)
+
+  within : rowAt rooms k + n ≤ length d
+  within = omega (arith, row-within u h, fits)
+
+  width : length ys ≡ rowAt rooms k + n - rowAt rooms k
+  width = l ∙ mid-len (rowAt rooms k) (rowAt rooms k + n) d within
+
+  pub line-room : n ≤ length (midOf (rowAt rooms k) (rowAt rooms k + n - rowAt rooms k) d)
+  line-room = omega (arith, l, width)
+
+  row-kept : KeptOutside (rowAt rooms k) (rowAt rooms k + n) d filled
+  row-kept = lent-kept (rowAt rooms k) (rowAt rooms k + n) d ys (omega arith) within width
+
+  all-kept : KeptOutside (lineAt rooms) (farAt rooms) d filled
+  all-kept = kept-wider (lineAt rooms) (farAt rooms) row-kept (omega arith) (omega (arith, limits, fits, h))
+
+  pub line-standing : Standing rooms k (putMid (rowAt rooms k) (rowAt rooms k + n - rowAt rooms k) d ys)
+  line-standing = standing-behind row-kept u (omega arith)
+
+  -- The task that stands in the row, if the job has it, has its place in the memory.
+  pub line-place : nth filled (rowAt rooms k) < nth filled 0 → lineAt rooms + nth filled (rowAt rooms k) < length filled
+  line-place t = omega (arith, sizes (line-standing .job), t)
+
+  job-filled : jobIn filled ≡ jobIn d
+  job-filled = job-kept (u .job) all-kept (omega arith)
+
+  losses-filled : nth filled 3 ≡ nth d 3
+  losses-filled = all-kept .before 3 (omega arith)
+
+  lines-filled : linesIn rooms (nth d 3 + 1) k filled ≡ seen
+  lines-filled = lines-same d filled rooms (nth d 3 + 1) k (omega (arith, limits)) (same-before (rowAt rooms 0) (rowAt rooms k) row-kept (omega arith))
+
+  module _ (s : List ℕ) (at : ℕ) where
+    pub read-bad : (x : ℕ) → line document01 (bytes "T,") n (drop at s) ≡ refused x → LineRead rooms k s at d filled (Refused x)
+    read-bad x e =
+        record {
+          kept = all-kept;
+          latest = lineIn (rowAt rooms k) filled;
+          answer = ruled-bad (formOf d) (ruleOf d) seen (drop at s) x (line-bad d (drop at s) n x q e);
+          standing = λ m f. refused-no x m f;
+          more = λ m f. refused-no x m f;
+        }
+
+    -- The line was read, and r is the place after it; x is what its rule says.
+    module _ (r : ℕ) (e : line document01 (bytes "T,") n (drop at s) ≡ found (take n ys) (drop r s)) (x : ℕ)
+        (f : x ≡ planLineRule document01 (jobIn filled) (linesIn rooms (nth filled 3 + 1) k filled) (lineIn (rowAt rooms k) filled)) where
+      read-line : formOf d (drop at s) ≡ found (lineIn (rowAt rooms k) filled) (drop r s)
+      read-line =
+          let m : length ys ≡ n = omega (arith, width) in
+          let g : lineOf ys ≡ lineIn (rowAt rooms k) filled = row-line filled (rowAt rooms k) ys (lent-cell (rowAt rooms k) (rowAt rooms k + n) d ys (omega arith) within width) (omega (arith, losses-filled, m, q)) in
+          line-read d (drop at s) (take n ys) (drop r s) n q e ∙ rw (take-all n ys (omega (arith, m)), g)
+
+      by-rule : x ≡ ruleOf d seen (lineIn (rowAt rooms k) filled)
+      by-rule =
+          f ∙ ap (λ (j : Job). planLineRule document01 j (linesIn rooms (nth filled 3 + 1) k filled) (lineIn (rowAt rooms k) filled)) job-filled
+          ∙ ap (λ (z : ℕ). ruleOf d (linesIn rooms (z + 1) k filled) (lineIn (rowAt rooms k) filled)) losses-filled
+          ∙ ap (λ (ns : List Line). ruleOf d ns (lineIn (rowAt rooms k) filled)) lines-filled
+
+      pub read-no : 0 < x → LineRead rooms k s at d filled (Refused x)
+      read-no g =
+          record {
+            kept = all-kept;
+            latest = lineIn (rowAt rooms k) filled;
+            answer = ruled-no (formOf d) (ruleOf d) seen (drop at s) (lineIn (rowAt rooms k) filled) (drop r s) read-line x by-rule g;
+            standing = λ m f. refused-no x m f;
+            more = λ m f. refused-no x m f;
+          }
+
+      pub read-yes : x ≤ 0 → (nth filled (rowAt rooms k) < nth filled 0) × (nth filled (lineAt rooms + nth filled (rowAt rooms k)) ≡ 0) × RowHeld (rowAt rooms k) filled
+          → LineRead rooms k s at d (set filled (lineAt rooms + nth filled (rowAt rooms k)) (k + 1)) (Next r)
+      read-yes g (b, z, t) =
+          let last = set filled (lineAt rooms + nth filled (rowAt rooms k)) (suc k) in
+          let c : KeptOutside (lineAt rooms) (blockedAt rooms) filled last = kept-set (lineAt rooms + nth filled (rowAt rooms k)) (suc k) kept-all (omega arith) (omega (arith, sizes (line-standing .job), b)) in
+          let w : nth d 3 + 1 ≤ 8 = omega (arith, limits) in
+          rw (add-one k)
+          (record {
+            kept = kept-then all-kept (kept-wider (lineAt rooms) (farAt rooms) c (omega arith) (omega arith));
+            latest = lineIn (rowAt rooms k) filled;
+            answer = ruled-yes (formOf d) (ruleOf d) seen (drop at s) (lineIn (rowAt rooms k) filled) (drop r s) read-line x by-rule g;
+            standing = λ m f. standing-more line-standing (omega (arith, all-kept .before 0 (omega arith), h)) b z t;
+            more = λ m f.
+                lines-same filled last rooms (nth d 3 + 1) (suc k) w (same-behind (rowAt rooms 0) (rowAt rooms (suc k)) c (omega arith))
+                ∙ lines-more rooms d filled k seen lines-filled losses-filled;
+          })
+
+-- Line by line ----------------------------------------------------------------------------------------------------------
+
+-- All T lines of the job in d, from a place of the text on.
+abbrev pub allLines : List ℕ → List ℕ → ℕ → Reading (List Line)
+allLines d s at = lines (planLine document01 (jobIn d)) (planLineRule document01 (jobIn d)) (nth d 0) [] (drop at s)
+
+-- k lines were read, up to the place p of the text s, into the memory d.
+pub record LinesUpTo (rooms : ℕ) (s : List ℕ) (at : ℕ) (d : List ℕ) (k p : ℕ) (mem : List ℕ) : Type 0 where
+  pub job : JobHeld rooms d
+  pub kept : KeptOutside (lineAt rooms) (farAt rooms) d mem
+  pub standing : Standing rooms k mem
+  pub rest : lines (planLine document01 (jobIn d)) (planLineRule document01 (jobIn d)) (nth d 0 - k) (linesIn rooms (nth d 3 + 1) k mem) (drop p s) ≡ allLines d s at
+
+pub upto-none : {rooms : ℕ} (s : List ℕ) (at : ℕ) (d : List ℕ) → Standing rooms 0 d → LinesUpTo rooms s at d 0 at d
+unfolding linesIn
+upto-none s at d h = record { job = h .job; kept = kept-all; standing = h; rest = rw sub-zero }
+
+module _ {rooms : ℕ} {s : List ℕ} {at : ℕ} {d : List ℕ} {k p : ℕ} {mem : List ℕ} (u : LinesUpTo rooms s at d k p mem) where
+  pub tasks-kept : nth mem 0 ≡ nth d 0
+  tasks-kept = u .kept .before 0 (omega arith)
+
+  losses-kept : nth mem 3 ≡ nth d 3
+  losses-kept = u .kept .before 3 (omega arith)
+
+  -- All lines were read.
+  pub upto-end : nth d 0 ≤ k → (found (linesIn rooms (nth mem 3 + 1) (nth mem 0) mem) (drop p s) ≡ allLines d s at) × Standing rooms (nth mem 0) mem
+  upto-end h =
+      let e : nth mem 0 ≡ k = omega (arith, u .standing .count, tasks-kept, h) in
+      (rw (e, losses-kept) (lines-end (formOf d) (ruleOf d) (nth d 0) k (linesIn rooms (nth d 3 + 1) k mem) (drop p s) h ∙ u .rest), rw e (u .standing))
+
+  -- One line more was read, with the answer r.
+  module _ (h : k < nth d 0) (new : List ℕ) (r : Step) (v : LineRead rooms k s p mem new r) where
+    answer-is : told s (v .latest) r ≡ ruled (formOf d) (ruleOf d) (linesIn rooms (nth d 3 + 1) k mem) (drop p s)
+    answer-is =
+        v .answer
+        ∙ ap (λ (j : Job). ruled (planLine document01 j) (planLineRule document01 j) (linesIn rooms (nth mem 3 + 1) k mem) (drop p s)) (job-kept (u .job) (u .kept) (omega arith))
+        ∙ ap (λ (z : ℕ). ruled (formOf d) (ruleOf d) (linesIn rooms (z + 1) k mem) (drop p s)) losses-kept
+
+    pub upto-kept : KeptOutside (lineAt rooms) (farAt rooms) d new
+    upto-kept = kept-then (u .kept) (v .kept)
+
+    pub upto-no : (x : ℕ) → r ≡ Refused x → refused x ≡ allLines d s at
+    upto-no x e = lines-no (formOf d) (ruleOf d) (nth d 0) k (linesIn rooms (nth d 3 + 1) k mem) (drop p s) h x (sym answer-is ∙ ap (told s (v .latest)) e) ∙ u .rest
+
+    pub upto-next : (n : ℕ) → r ≡ Next n → LinesUpTo rooms s at d (k + 1) n new
+    upto-next n e =
+        let more : linesIn rooms (nth d 3 + 1) (k + 1) new ≡ linesIn rooms (nth d 3 + 1) k mem ++ v .latest ∷ [] =
+        rw (add-one k, ← losses-kept) (v .more n e) in
+        record {
+          job = u .job;
+          kept = upto-kept;
+          standing = rw (add-one k) (v .standing n e);
+          rest = rw more (lines-next (formOf d) (ruleOf d) (nth d 0) k (linesIn rooms (nth d 3 + 1) k mem) (drop p s) h (v .latest) (drop n s) (sym answer-is ∙ ap (told s (v .latest)) e) ∙ u .rest);
+        }

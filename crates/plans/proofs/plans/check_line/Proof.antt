@@ -1,0 +1,85 @@
+use mathlib.Core.Path.{sym, _∙_}
+use Prim.Native.Nat.{_-_}
+use native.Mathlib.Omega.{arith}
+use borrow.Author.Needs.{needs}
+use Rattle.jobs.proofs.Held.{sizes}
+use Rattle.plans.proofs.PlanLaws.{strays-not, line-strays, line-descends, line-again, line-unfed, line-good}
+use Rattle.plans.proofs.plans.check_line.Statement.{statement}
+use Rattle.plans.proofs.plans.check_line.Tie as tie
+use Rattle.plans.proofs.plans.check_line.Reads as reads
+use Rattle.plans.proofs.plans.check_line.Lts as lts
+use Rattle.plans.proofs.plans.descends.Reads as descends-reads
+use Rattle.plans.proofs.plans.fed.Reads as fed-reads
+use Rattle.plans.proofs.plans.strays.Reads as strays-reads
+
+mul-line : tie.Need-mul-line
+mul-line c = search needs
+
+strays-requires : tie.Need-strays-requires
+strays-requires c κs = ((_, c .before .pre .0), c .before .pre .2)
+
+returns : tie.Need-returns
+returns c = (λ k s. line-strays (c .before .before .before .args .mem .now) (c .before .before .before .args .a) k s (sym (c .if1 .taken) ∙ c .before .strays .ensures), λ z. absurd (omega arith))
+
+descends-requires : tie.Need-descends-requires
+descends-requires c κs = ((_, c .before .before .before .pre .0), c .before .before .before .pre .2)
+
+returns-2 : tie.Need-returns-2
+returns-2 c = (λ k s. line-descends (c .before .before .before .before .before .args .mem .now) (c .before .before .before .before .before .args .a) k s (sym (c .before .before .if1 .left) ∙ c .before .before .before .strays .ensures) (sym (c .if2 .taken) ∙ c .before .descends .ensures), λ z. absurd (omega arith))
+
+mul-t : tie.Need-mul-t
+mul-t c = search needs
+
+shared-slice-read-t : tie.Need-shared-slice-read-t
+shared-slice-read-t c = search needs
+
+add-if3 : tie.Need-add-if3
+add-if3 c =
+    let s = sizes (c .before .before .before .before .before .before .pre .0) in
+    let h = strays-not (c .before .before .before .before .before .before .args .mem .now) (c .before .before .before .before .before .before .args .a) (sym (c .before .before .before .before .strays .ensures) ∙ c .before .before .before .if1 .left) .0 in
+    omega arith
+
+mul-if3 : tie.Need-mul-if3
+mul-if3 c =
+    let s = sizes (c .before .before .before .before .before .before .pre .0) in
+    let h = strays-not (c .before .before .before .before .before .before .args .mem .now) (c .before .before .before .before .before .before .args .a) (sym (c .before .before .before .before .strays .ensures) ∙ c .before .before .before .if1 .left) .0 in
+    omega arith
+
+shared-slice-read-if3 : tie.Need-shared-slice-read-if3
+shared-slice-read-if3 c =
+    let s = sizes (c .before .before .before .before .before .before .before .pre .0) in
+    let h = strays-not (c .before .before .before .before .before .before .before .args .mem .now) (c .before .before .before .before .before .before .before .args .a) (sym (c .before .before .before .before .before .strays .ensures) ∙ c .before .before .before .before .if1 .left) .0 in
+    omega arith
+
+returns-3 : tie.Need-returns-3
+returns-3 c = (λ k s. line-again (c .before .before .before .before .before .before .before .before .args .mem .now) (c .before .before .before .before .before .before .before .before .args .a) k s (sym (c .before .before .before .before .before .if1 .left) ∙ c .before .before .before .before .before .before .strays .ensures) (sym (c .before .before .before .if2 .left) ∙ c .before .before .before .before .descends .ensures) (c .if3 .taken), λ z. absurd (omega arith))
+
+fed-requires : tie.Need-fed-requires
+fed-requires c κs = (c .before .before .before .before .before .before .before .before .pre .0, c .before .before .before .before .before .before .before .before .pre .1, strays-not (c .before .before .before .before .before .before .before .before .args .mem .now) (c .before .before .before .before .before .before .before .before .args .a) (sym (c .before .before .before .before .before .before .strays .ensures) ∙ c .before .before .before .before .before .if1 .left) .0)
+
+returns-4 : tie.Need-returns-4
+returns-4 c =
+    let h = strays-not (c .before .before .before .before .before .before .before .before .before .before .args .mem .now) (c .before .before .before .before .before .before .before .before .before .before .args .a) (sym (c .before .before .before .before .before .before .before .before .strays .ensures) ∙ c .before .before .before .before .before .before .before .if1 .left) in
+    (λ k s. line-good (c .before .before .before .before .before .before .before .before .before .before .args .mem .now) (c .before .before .before .before .before .before .before .before .before .before .args .a) k s (sym (c .before .before .before .before .before .before .before .if1 .left) ∙ c .before .before .before .before .before .before .before .before .strays .ensures) (sym (c .before .before .before .before .before .if2 .left) ∙ c .before .before .before .before .before .before .descends .ensures) (c .before .before .if3 .left) (sym (c .if4 .taken) ∙ c .before .fed .ensures), λ z. (h .0, c .before .before .if3 .left, h .1))
+
+returns-5 : tie.Need-returns-5
+returns-5 c = (λ k s. line-unfed (c .before .before .before .before .before .before .before .before .before .before .args .mem .now) (c .before .before .before .before .before .before .before .before .before .before .args .a) k s (sym (c .before .before .before .before .before .before .before .if1 .left) ∙ c .before .before .before .before .before .before .before .before .strays .ensures) (sym (c .before .before .before .before .before .if2 .left) ∙ c .before .before .before .before .before .before .descends .ensures) (c .before .before .if3 .left) (sym (c .if4 .left) ∙ c .before .fed .ensures), λ z. absurd (omega arith))
+
+pub check-line-spec : {M : Type 1} → statement M
+check-line-spec =
+    tie.close
+    (tie.spec
+    mul-line
+    strays-requires
+    returns
+    descends-requires
+    returns-2
+    mul-t
+    shared-slice-read-t
+    add-if3
+    mul-if3
+    shared-slice-read-if3
+    returns-3
+    fed-requires
+    returns-4
+    returns-5)

@@ -1,0 +1,90 @@
+-- The links left to follow give the whole answer.
+use mathlib.Core.Path.{_≡_, refl, sym, _∙_}
+use Prim.Native.Nat.{_≤_, _+_}
+use native.Mathlib.Omega.{arith}
+use borrow.Author.Needs.{needs}
+use Rattle.definitions.specs.Lists.{nth}
+use Rattle.jobs.specs.Layout.{inHeadAt}
+use Rattle.jobs.proofs.Held.{sizes}
+use Rattle.plans.proofs.PlanLaws.{linedFrom, lined-all, lined-end, lined-no, lined-next, link-falls}
+use Rattle.plans.proofs.plans.fed.Statement.{statement}
+use Rattle.plans.proofs.plans.fed.Tie as tie
+
+abbrev Inv-loop : tie.InvT-loop
+Inv-loop mem rooms t in-next k₀ k = (k ≤ nth mem 2) × (linedFrom rooms mem t k ≡ linedFrom rooms mem t (nth mem (inHeadAt rooms + t)))
+
+abbrev μ-loop : tie.MeasureT-loop
+μ-loop mem rooms t in-next k₀ k = k
+
+mul-in-next : tie.Need-mul-in-next Inv-loop μ-loop
+mul-in-next c = search needs
+
+mul-k : tie.Need-mul-k Inv-loop μ-loop
+mul-k c = search needs
+
+add-k : tie.Need-add-k Inv-loop μ-loop
+add-k c = search needs
+
+mul-k-2 : tie.Need-mul-k-2 Inv-loop μ-loop
+mul-k-2 c = search needs
+
+shared-slice-read-k : tie.Need-shared-slice-read-k Inv-loop μ-loop
+shared-slice-read-k c = let w = sizes (c .before .before .pre .0) in omega (arith, w .size, w .tasks-most, c .before .before .pre .2)
+
+loop-holds : tie.Need-loop-holds Inv-loop μ-loop
+loop-holds c = (c .before .before .pre .1 .head-most (c .before .before .args .t) (c .before .before .pre .2), refl)
+
+sub-sender-unplaced : tie.Need-sub-sender-unplaced Inv-loop μ-loop
+sub-sender-unplaced c = search needs
+
+sender-unplaced-requires : tie.Need-sender-unplaced-requires Inv-loop μ-loop
+sender-unplaced-requires c κs = (c .before .before .before .before .pre .0, omega (arith, c .before .loop .inv .0, c .loop-test .taken))
+
+returns : tie.Need-returns Inv-loop μ-loop
+returns c = lined-no (c .before .before .before .before .before .before .args .rooms) (c .before .before .before .before .before .before .args .mem .now) (c .before .before .before .before .before .before .args .t) (c .before .before .before .before .before .before .pre .1) (c .before .before .before .loop .k) (c .before .before .loop-test .taken) (c .before .before .before .loop .inv .0) (sym (c .before .sender-unplaced .ensures) ∙ c .if1 .taken) ∙ c .before .before .before .loop .inv .1 ∙ lined-all (c .before .before .before .before .before .before .args .rooms) (c .before .before .before .before .before .before .args .mem .now) (c .before .before .before .before .before .before .args .t) (c .before .before .before .before .before .before .pre .1) (c .before .before .before .before .before .before .pre .2)
+
+sub-k : tie.Need-sub-k Inv-loop μ-loop
+sub-k c = omega (arith, c .before .before .loop-test .taken)
+
+add-k-2 : tie.Need-add-k-2 Inv-loop μ-loop
+add-k-2 c = search needs
+
+mul-k-3 : tie.Need-mul-k-3 Inv-loop μ-loop
+mul-k-3 c = search needs
+
+shared-slice-read-k-2 : tie.Need-shared-slice-read-k-2 Inv-loop μ-loop
+shared-slice-read-k-2 c = let w = sizes (c .before .before .before .before .before .before .before .pre .0) in omega (arith, w .size, w .edges-most, c .before .before .before .before .loop .inv .0, c .before .before .before .loop-test .taken)
+
+loop-less : tie.Need-loop-less Inv-loop μ-loop
+loop-less c = link-falls (c .before .before .before .before .before .before .before .args .rooms) (c .before .before .before .before .before .before .before .args .mem .now) (c .before .before .before .before .before .before .before .args .t) (c .before .before .before .before .before .before .before .pre .1) (c .before .before .before .before .loop .k) (c .before .before .before .loop-test .taken) (c .before .before .before .before .loop .inv .0)
+
+loop-again : tie.Need-loop-again Inv-loop μ-loop
+loop-again c = let f = link-falls (c .before .before .before .before .before .before .before .args .rooms) (c .before .before .before .before .before .before .before .args .mem .now) (c .before .before .before .before .before .before .before .args .t) (c .before .before .before .before .before .before .before .pre .1) (c .before .before .before .before .loop .k) (c .before .before .before .loop-test .taken) (c .before .before .before .before .loop .inv .0) in
+    (omega (arith, f, c .before .before .before .before .loop .inv .0), lined-next (c .before .before .before .before .before .before .before .args .rooms) (c .before .before .before .before .before .before .before .args .mem .now) (c .before .before .before .before .before .before .before .args .t) (c .before .before .before .before .before .before .before .pre .1) (c .before .before .before .before .loop .k) (c .before .before .before .loop-test .taken) (c .before .before .before .before .loop .inv .0) (sym (c .before .before .sender-unplaced .ensures) ∙ c .before .if1 .left) ∙ c .before .before .before .before .loop .inv .1)
+
+returns-2 : tie.Need-returns-2 Inv-loop μ-loop
+returns-2 c = let z : c .before .loop .k ≡ 0 = omega (arith, c .loop-test .left) in
+    lined-end (c .before .before .before .before .args .rooms) (c .before .before .before .before .args .mem .now) (c .before .before .before .before .args .t) ∙ rw z at (c .before .loop .inv .1) ∙ lined-all (c .before .before .before .before .args .rooms) (c .before .before .before .before .args .mem .now) (c .before .before .before .before .args .t) (c .before .before .before .before .pre .1) (c .before .before .before .before .pre .2)
+
+pub fed-spec : {M : Type 1} → statement M
+fed-spec =
+    tie.close
+    (tie.spec
+    Inv-loop
+    μ-loop
+    mul-in-next
+    mul-k
+    add-k
+    mul-k-2
+    shared-slice-read-k
+    loop-holds
+    sub-sender-unplaced
+    sender-unplaced-requires
+    returns
+    sub-k
+    add-k-2
+    mul-k-3
+    shared-slice-read-k-2
+    loop-less
+    loop-again
+    returns-2)

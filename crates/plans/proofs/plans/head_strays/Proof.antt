@@ -1,0 +1,32 @@
+use Prim.Native.Nat.{_-_}
+use native.Mathlib.Omega.{arith}
+use Rattle.plans.proofs.PlanLaws.{head-tasks-low, head-tasks-high, head-processors-low, head-processors-high, head-losses, head-best, head-worst}
+use Rattle.plans.proofs.plans.head_strays.Statement.{statement}
+use Rattle.plans.proofs.plans.head_strays.Tie as tie
+use Rattle.plans.proofs.plans.head_strays.Reads as reads
+use Rattle.plans.proofs.plans.head_strays.Lts as lts
+
+returns : tie.Need-returns
+returns c = let a = c .before .args in head-tasks-low (a .tasks) (a .processors) (a .losses) (a .best) (a .worst) (c .if1 .taken)
+
+returns-2 : tie.Need-returns-2
+returns-2 c = let a = c .before .before .args in head-tasks-high (a .tasks) (a .processors) (a .losses) (a .best) (a .worst) (c .if2 .taken)
+
+returns-3 : tie.Need-returns-3
+returns-3 c = let a = c .before .before .before .args in head-processors-low (a .tasks) (a .processors) (a .losses) (a .best) (a .worst) (omega arith) (omega arith) (c .if3 .taken)
+
+returns-4 : tie.Need-returns-4
+returns-4 c = let a = c .before .before .before .before .args in head-processors-high (a .tasks) (a .processors) (a .losses) (a .best) (a .worst) (omega arith) (omega arith) (c .if4 .taken)
+
+returns-5 : tie.Need-returns-5
+returns-5 c = let a = c .before .before .before .before .before .args in head-losses (a .tasks) (a .processors) (a .losses) (a .best) (a .worst) (omega arith) (omega arith) (omega arith) (omega arith) (c .if5 .taken)
+
+returns-6 : tie.Need-returns-6
+returns-6 c = let a = c .before .before .before .before .before .before .args in head-best (a .tasks) (a .processors) (a .losses) (a .best) (a .worst) (omega arith) (omega arith) (omega arith) (omega arith) (omega arith) (c .if6 .taken)
+
+returns-7 : tie.Need-returns-7
+returns-7 c = let a = c .before .before .before .before .before .before .args in head-worst (a .tasks) (a .processors) (a .losses) (a .best) (a .worst) (omega arith) (omega arith) (omega arith) (omega arith) (omega arith) (omega arith)
+
+pub head-strays-spec : {M : Type 1} → statement M
+head-strays-spec =
+    tie.close (tie.spec returns returns-2 returns-3 returns-4 returns-5 returns-6 returns-7)

@@ -1,0 +1,106 @@
+-- The table of lines is cleared, the lines are read, and then M* and M are stored.
+use mathlib.Core.Path.{sym, ap, _∙_}
+use Prim.Native.Nat.{_+_}
+use native.Mathlib.Omega.{arith}
+use borrow.Author.Needs.{needs}
+use lib.ListN.{length-set}
+use Rattle.definitions.specs.Lists.{nth}
+use Rattle.text.specs.Told.{told}
+use Rattle.jobs.specs.Layout.{lineAt, farAt}
+use Rattle.jobs.proofs.Held.{sizes}
+use Rattle.lists.proofs.Kept.{kept-then, kept-wider}
+use Rattle.plans.specs.Lines.{linesIn}
+use Rattle.plans.proofs.PlanText.{plan-lines-bad, plan-left-over, plan-good, cleared-standing, cleared-lines, stored-kept, stored-standing, stored-plan}
+use Rattle.plans.proofs.plans.load_lines.Statement.{statement}
+use Rattle.plans.proofs.plans.load_lines.Tie as tie
+
+clear-lines-requires : tie.Need-clear-lines-requires
+clear-lines-requires c κs = c .before .before .before .pre .0 .size
+
+read-plan-lines-requires : tie.Need-read-plan-lines-requires
+read-plan-lines-requires c κs = cleared-standing (c .before .before .before .before .before .before .before .pre .0) (c .before .before .before .before .before .before .before .pre .1) (c .before .before .before .clear-lines .ensures .0) (c .before .before .before .clear-lines .ensures .1)
+
+enum-known-p : tie.Need-enum-known-p
+enum-known-p c = search needs
+
+same-length : tie.Need-same-length
+same-length c = search needs
+
+returns : tie.Need-returns
+returns c = let mem = c .before .before .before .before .before .before .read-plan-lines .last .1 .1 .0 in
+    let ns = linesIn (c .before .before .before .before .before .before .before .before .before .before .before .before .before .before .args .rooms) (nth mem 3 + 1) (nth mem 0) mem in
+    let g = sym (ap (told (c .before .before .before .before .before .before .before .before .before .before .before .before .before .before .args .s .now) ns) (c .before .before .p .given .1)) ∙ c .before .before .before .before .before .before .read-plan-lines .ensures .1 ∙ cleared-lines (c .before .before .before .before .before .before .before .before .before .before .before .before .before .before .pre .0) (c .before .before .before .before .before .before .before .before .before .before .before .before .before .before .pre .1) (c .before .before .before .before .before .before .before .before .before .before .clear-lines .ensures .0) (c .before .before .before .before .before .before .before .before .before .before .before .before .before .before .args .s .now) (c .before .before .before .before .before .before .before .before .before .before .before .before .before .before .args .at) in (
+      kept-then (kept-wider (lineAt (c .before .before .before .before .before .before .before .before .before .before .before .before .before .before .args .rooms)) (farAt (c .before .before .before .before .before .before .before .before .before .before .before .before .before .before .args .rooms)) (c .before .before .before .before .before .before .before .before .before .before .clear-lines .ensures .0) (omega arith) (omega arith)) (c .before .before .before .before .before .before .read-plan-lines .ensures .0),
+      plan-left-over (c .before .before .before .before .before .before .before .before .before .before .before .before .before .before .args .mem .now) (c .before .before .before .before .before .before .before .before .before .before .before .before .before .before .args .s .now) _ _ (c .before .before .before .before .before .before .before .before .before .before .before .before .before .before .args .at) ns (c .before .before .p .given .0 .0) g _ mem (c .if1 .taken),
+    )
+
+mul-mem : tie.Need-mul-mem
+mul-mem c = search needs
+
+mul-mem-2 : tie.Need-mul-mem-2
+mul-mem-2 c = search needs
+
+slice-write-mem : tie.Need-slice-write-mem
+slice-write-mem c = let w = sizes (c .before .before .before .before .before .before .before .before .before .before .before .before .before .before .pre .0) in
+    let z = c .before .before .before .before .before .before .read-plan-lines .ensures .0 .size ∙ c .before .before .before .before .before .before .before .before .before .before .clear-lines .ensures .0 .size ∙ w .size in
+    omega (arith, z, w .some-task, w .tasks-most)
+
+mul-mem-3 : tie.Need-mul-mem-3
+mul-mem-3 c = search needs
+
+mul-mem-4 : tie.Need-mul-mem-4
+mul-mem-4 c = search needs
+
+slice-write-mem-2 : tie.Need-slice-write-mem-2
+slice-write-mem-2 c = let w = sizes (c .before .before .before .before .before .before .before .before .before .before .before .before .before .before .pre .0) in
+    let z = c .before .before .before .before .before .before .read-plan-lines .ensures .0 .size ∙ c .before .before .before .before .before .before .before .before .before .before .clear-lines .ensures .0 .size ∙ w .size in
+    simp length-set (omega (arith, z, w .some-task, w .tasks-most))
+
+enum-known-x : tie.Need-enum-known-x
+enum-known-x c = search needs
+
+same-length-2 : tie.Need-same-length-2
+same-length-2 c = simp length-set (c .before .before .before .before .before .before .read-plan-lines .ensures .0 .size ∙ c .before .before .before .before .before .before .before .before .before .before .clear-lines .ensures .0 .size)
+
+returns-2 : tie.Need-returns-2
+returns-2 c = let mem = c .before .before .before .before .before .before .read-plan-lines .last .1 .1 .0 in
+    let best = c .before .before .before .before .before .before .before .before .before .before .before .before .before .before .args .best in
+    let worst = c .before .before .before .before .before .before .before .before .before .before .before .before .before .before .args .worst in
+    let ns = linesIn (c .before .before .before .before .before .before .before .before .before .before .before .before .before .before .args .rooms) (nth mem 3 + 1) (nth mem 0) mem in
+    let g = sym (ap (told (c .before .before .before .before .before .before .before .before .before .before .before .before .before .before .args .s .now) ns) (c .before .before .p .given .1)) ∙ c .before .before .before .before .before .before .read-plan-lines .ensures .1 ∙ cleared-lines (c .before .before .before .before .before .before .before .before .before .before .before .before .before .before .pre .0) (c .before .before .before .before .before .before .before .before .before .before .before .before .before .before .pre .1) (c .before .before .before .before .before .before .before .before .before .before .clear-lines .ensures .0) (c .before .before .before .before .before .before .before .before .before .before .before .before .before .before .args .s .now) (c .before .before .before .before .before .before .before .before .before .before .before .before .before .before .args .at) in
+    let t = c .before .before .before .before .before .before .read-plan-lines .ensures .2 (c .before .before .p .given .0 .0) (c .before .before .p .given .1) in (
+      kept-then (kept-wider (lineAt (c .before .before .before .before .before .before .before .before .before .before .before .before .before .before .args .rooms)) (farAt (c .before .before .before .before .before .before .before .before .before .before .before .before .before .before .args .rooms)) (c .before .before .before .before .before .before .before .before .before .before .clear-lines .ensures .0) (omega arith) (omega arith)) (kept-then (c .before .before .before .before .before .before .read-plan-lines .ensures .0) (kept-wider (lineAt (c .before .before .before .before .before .before .before .before .before .before .before .before .before .before .args .rooms)) (farAt (c .before .before .before .before .before .before .before .before .before .before .before .before .before .before .args .rooms)) (stored-kept mem best worst t) (omega arith) (omega arith))),
+      plan-good (c .before .before .before .before .before .before .before .before .before .before .before .before .before .before .args .mem .now) (c .before .before .before .before .before .before .before .before .before .before .before .before .before .before .args .s .now) best worst (c .before .before .before .before .before .before .before .before .before .before .before .before .before .before .args .at) ns (c .before .before .p .given .0 .0) g _ (c .if1 .left) (stored-plan mem best worst t) (stored-standing mem best worst t),
+    )
+
+same-length-3 : tie.Need-same-length-3
+same-length-3 c = search needs
+
+returns-3 : tie.Need-returns-3
+returns-3 c = let mem = c .before .before .before .before .before .read-plan-lines .last .1 .1 .0 in
+    let ns = linesIn (c .before .before .before .before .before .before .before .before .before .before .before .before .before .args .rooms) (nth mem 3 + 1) (nth mem 0) mem in
+    let g = sym (ap (told (c .before .before .before .before .before .before .before .before .before .before .before .before .before .args .s .now) ns) (c .before .x .given .1)) ∙ c .before .before .before .before .before .read-plan-lines .ensures .1 ∙ cleared-lines (c .before .before .before .before .before .before .before .before .before .before .before .before .before .pre .0) (c .before .before .before .before .before .before .before .before .before .before .before .before .before .pre .1) (c .before .before .before .before .before .before .before .before .before .clear-lines .ensures .0) (c .before .before .before .before .before .before .before .before .before .before .before .before .before .args .s .now) (c .before .before .before .before .before .before .before .before .before .before .before .before .before .args .at) in (
+      kept-then (kept-wider (lineAt (c .before .before .before .before .before .before .before .before .before .before .before .before .before .args .rooms)) (farAt (c .before .before .before .before .before .before .before .before .before .before .before .before .before .args .rooms)) (c .before .before .before .before .before .before .before .before .before .clear-lines .ensures .0) (omega arith) (omega arith)) (c .before .before .before .before .before .read-plan-lines .ensures .0),
+      plan-lines-bad (c .before .before .before .before .before .before .before .before .before .before .before .before .before .args .mem .now) (c .before .before .before .before .before .before .before .before .before .before .before .before .before .args .s .now) _ _ (c .before .before .before .before .before .before .before .before .before .before .before .before .before .args .at) _ mem _ g,
+    )
+
+pub load-lines-spec : {M : Type 1} → statement M
+load-lines-spec =
+    tie.close
+    (tie.spec
+    clear-lines-requires
+    read-plan-lines-requires
+    enum-known-p
+    same-length
+    returns
+    mul-mem
+    mul-mem-2
+    slice-write-mem
+    mul-mem-3
+    mul-mem-4
+    slice-write-mem-2
+    enum-known-x
+    same-length-2
+    returns-2
+    same-length-3
+    returns-3)

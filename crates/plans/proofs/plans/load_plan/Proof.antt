@@ -1,0 +1,90 @@
+-- The head is read, then the lines.
+use mathlib.Core.Path.{_≡_, sym, ap, _∙_}
+use native.Mathlib.Omega.{arith}
+use borrow.Author.Needs.{needs}
+use lib.ListN.{take}
+use Rattle.text.specs.Told.{told}
+use Rattle.lines.proofs.LineLaws.{line-fits}
+use Rattle.lists.proofs.Kept.{kept-all}
+use Rattle.plans.proofs.PlanText.{plan-long, plan-head-bad, plan-head-no, plan-next}
+use Rattle.plans.proofs.plans.load_plan.Statement.{statement}
+use Rattle.plans.proofs.plans.load_plan.Tie as tie
+
+returns : tie.Need-returns
+returns c = (kept-all, plan-long (c .before .before .before .args .mem .now) (c .before .before .before .args .s .now) _ (c .before .before .before .args .mem .now) (c .if1 .taken))
+
+slice-aggregate-read-line : tie.Need-slice-aggregate-read-line
+slice-aggregate-read-line c = search needs
+
+slice-aggregate-read-line-2 : tie.Need-slice-aggregate-read-line-2
+slice-aggregate-read-line-2 c = search needs
+
+read-line-requires : tie.Need-read-line-requires
+read-line-requires c κs = search needs
+
+enum-known-p : tie.Need-enum-known-p
+enum-known-p c = search needs
+
+slice-aggregate-check-head : tie.Need-slice-aggregate-check-head
+slice-aggregate-check-head c = search needs
+
+check-head-requires : tie.Need-check-head-requires
+check-head-requires c κs = search needs
+
+same-length : tie.Need-same-length
+same-length c = search needs
+
+returns-2 : tie.Need-returns-2
+returns-2 c = let d = c .before .before .before .before .before .before .before .before .before .before .before .before .before .before .args .mem .now in
+    let s = c .before .before .before .before .before .before .before .before .before .before .before .before .before .before .args .s .now in
+    let ys = c .before .before .before .before .before .before .before .before .read-line .last .1 .1 .1 .1 .0 in
+    (kept-all, plan-head-no d s (c .before .before .before .before .before .before .before .before .before .before .before .if1 .left) ys (c .before .before .before .before .before .p .given .0 .0) (sym (c .before .before .before .before .before .before .before .before .read-line .ensures .0 ∙ line-fits 5 _ 5 _ (omega arith)) ∙ ap (told s (take 5 ys)) (c .before .before .before .before .before .p .given .1)) _ d _ (c .before .check-head .ensures) (c .if2 .taken))
+
+array-read-load-lines : tie.Need-array-read-load-lines
+array-read-load-lines c = search needs
+
+array-read-load-lines-2 : tie.Need-array-read-load-lines-2
+array-read-load-lines-2 c = search needs
+
+load-lines-requires : tie.Need-load-lines-requires
+load-lines-requires c κs = c .before .before .before .before .before .before .before .before .before .before .before .before .before .before .before .pre
+
+enum-known-x : tie.Need-enum-known-x
+enum-known-x c = search needs
+
+same-length-2 : tie.Need-same-length-2
+same-length-2 c = search needs
+
+returns-3 : tie.Need-returns-3
+returns-3 c = let d = c .before .before .before .before .before .before .before .before .before .before .before .before .before .before .before .before .before .before .args .mem .now in
+    let s = c .before .before .before .before .before .before .before .before .before .before .before .before .before .before .before .before .before .before .args .s .now in
+    let ys = c .before .before .before .before .before .before .before .before .before .before .before .before .read-line .last .1 .1 .1 .1 .0 in
+    let z : 0 ≡ c .before .before .before .before .before .check-head .result = omega (arith, c .before .before .before .before .if2 .left) in
+    (c .before .before .load-lines .ensures .0, rw (plan-next d s (c .before .before .before .before .before .before .before .before .before .before .before .before .before .before .before .if1 .left) ys (c .before .before .before .before .before .before .before .before .before .p .given .0 .0) (sym (c .before .before .before .before .before .before .before .before .before .before .before .before .read-line .ensures .0 ∙ line-fits 5 _ 5 _ (omega arith)) ∙ ap (told s (take 5 ys)) (c .before .before .before .before .before .before .before .before .before .p .given .1)) (z ∙ c .before .before .before .before .before .check-head .ensures)) (c .before .before .load-lines .ensures .1))
+
+returns-4 : tie.Need-returns-4
+returns-4 c = let d = c .before .before .before .before .before .before .before .before .before .before .args .mem .now in
+    let s = c .before .before .before .before .before .before .before .before .before .before .args .s .now in
+    let ys = c .before .before .before .before .read-line .last .1 .1 .1 .1 .0 in
+    (kept-all, plan-head-bad d s (c .before .before .before .before .before .before .before .if1 .left) _ d _ (sym (c .before .before .before .before .read-line .ensures .0 ∙ line-fits 5 _ 5 _ (omega arith)) ∙ ap (told s (take 5 ys)) (c .before .x .given .1)))
+
+pub load-plan-spec : {M : Type 1} → statement M
+load-plan-spec =
+    tie.close
+    (tie.spec
+    returns
+    slice-aggregate-read-line
+    slice-aggregate-read-line-2
+    read-line-requires
+    enum-known-p
+    slice-aggregate-check-head
+    check-head-requires
+    same-length
+    returns-2
+    array-read-load-lines
+    array-read-load-lines-2
+    load-lines-requires
+    enum-known-x
+    same-length-2
+    returns-3
+    returns-4)

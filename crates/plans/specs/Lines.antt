@@ -1,0 +1,69 @@
+-- The lines of a plan in a memory, and the times in its cells.
+use mathlib.Core.Path.{_≡_}
+use mathlib.Core.Logic.{_⊎_}
+use mathlib.Core.List.{List, [], _∷_, _++_}
+use mathlib.Core.Bool.{Bool}
+use Prim.Native.Nat.{ℕ, zero, suc, _+_, _*_, _-_, _<_, _≤_}
+use lib.Dec.{eqb}
+use Rattle.definitions.specs.Lists.{if_then_else_, nth}
+use Rattle.definitions.specs.Limits.{document01}
+use Rattle.definitions.specs.Plan.{Replica, Line}
+use Rattle.definitions.specs.Times.{Time, tick, never, Outcome}
+use Rattle.jobs.specs.Layout.{lineAt, rowAt}
+use Rattle.jobs.specs.Held.{JobHeld, LinkedIn}
+
+-- Never in a cell: the greatest 64-bit number.
+abbrev pub neverCell : ℕ
+neverCell = 18_446_744_073_709_551_615
+
+-- The time that a cell holds.
+abbrev pub timeIn : ℕ → Time
+timeIn x = if eqb x neverCell then never else tick x
+
+-- The first c replicas of the line at a, newest first, with their early or their late times.
+unfoldable pub rowOutcomes : Bool → ℕ → ℕ → List ℕ → List Outcome
+rowOutcomes late a zero mem = []
+rowOutcomes late a (suc c) mem =
+    record { task = nth mem a; processor = nth mem (a + (1 + 3 * c)); time = timeIn (nth mem (a + ((if late then 3 else 2) + 3 * c))) }
+    ∷ rowOutcomes late a c mem
+
+-- The replicas of the first k lines, w in each, newest first.
+unfoldable pub placedIn : ℕ → Bool → ℕ → ℕ → List ℕ → List Outcome
+placedIn rooms late w zero mem = []
+placedIn rooms late w (suc k) mem = rowOutcomes late (rowAt rooms k) w mem ++ placedIn rooms late w k mem
+
+-- The first c replicas of the line at a, as a plan's line has them.
+unfoldable pub rowReplicas : ℕ → ℕ → List ℕ → List Replica
+rowReplicas a zero mem = []
+rowReplicas a (suc c) mem =
+    rowReplicas a c mem
+    ++ record { processor = nth mem (a + (1 + 3 * c)); early = nth mem (a + (2 + 3 * c)); late = nth mem (a + (3 + 3 * c)) } ∷ []
+
+-- The first k lines of a plan, w replicas in each.
+unfoldable pub linesIn : ℕ → ℕ → ℕ → List ℕ → List Line
+linesIn rooms w zero mem = []
+linesIn rooms w (suc k) mem = linesIn rooms w k mem ++ record { task = nth mem (rowAt rooms k); replicas = rowReplicas (rowAt rooms k) w mem } ∷ []
+
+-- The line of a task that is placed.
+abbrev pub rowOf : ℕ → ℕ → List ℕ → ℕ
+rowOf rooms t mem = rowAt rooms (nth mem (lineAt rooms + t) - 1)
+
+-- A cell holds never, or a tick that does not pass b.
+abbrev pub Small : ℕ → ℕ → Type 0
+Small b x = (x ≡ neverCell) ⊎ (x ≤ b)
+
+-- The line at a has processors of the job and ticks of a plan's range.
+pub record RowHeld (a : ℕ) (mem : List ℕ) : Type 0 where
+  pub processor-of : (c : ℕ) → c < nth mem 3 + 1 → nth mem (a + (1 + 3 * c)) < nth mem 1
+  pub early-of : (c : ℕ) → c < nth mem 3 + 1 → Small (document01 .tick) (nth mem (a + (2 + 3 * c)))
+  pub late-of : (c : ℕ) → c < nth mem 3 + 1 → Small (document01 .tick) (nth mem (a + (3 + 3 * c)))
+
+-- A job with its links, and k lines of a plan, each task in one line at the most.
+pub record Standing (rooms k : ℕ) (mem : List ℕ) : Type 0 where
+  pub job : JobHeld rooms mem
+  pub linked : LinkedIn rooms mem
+  pub count : k ≤ nth mem 0
+  pub task-of : (i : ℕ) → i < k → nth mem (rowAt rooms i) < nth mem 0
+  pub line-of : (i : ℕ) → i < k → nth mem (lineAt rooms + nth mem (rowAt rooms i)) ≡ suc i
+  pub placed : (t : ℕ) → t < nth mem 0 → (nth mem (lineAt rooms + t) ≡ 0) ⊎ ((i : ℕ) × (i < k) × (nth mem (lineAt rooms + t) ≡ suc i) × (nth mem (rowAt rooms i) ≡ t))
+  pub row : (i : ℕ) → i < k → RowHeld (rowAt rooms i) mem

@@ -1,0 +1,80 @@
+-- What the memory holds after a plan, a job with a plan for it, and a stop list were read.
+use mathlib.Core.Path.{_≡_}
+use mathlib.Core.List.{List, [], _∷_, _++_}
+use Prim.Native.Nat.{ℕ, suc, _+_, _<_}
+use lib.Dec.{ltb}
+use lib.ListN.{length, drop}
+use Rattle.definitions.specs.Lists.{if_then_else_, nth}
+use Rattle.definitions.specs.Limits.{document01}
+use Rattle.definitions.specs.Text.{next, return, lines, Result, good, bad, andThen, ended}
+use Rattle.definitions.specs.Job.{Job, JobHead, readJob}
+use Rattle.definitions.specs.Plan.{Line, Plan, planLine, planLineRule, readPlan}
+use Rattle.definitions.specs.Stops.{Stop, readStops}
+use Rattle.definitions.specs.Times.{stopTime}
+use Rattle.text.specs.declared.Step.{Step}
+use Rattle.text.specs.declared.Step.the-variants.{Next}
+use Rattle.text.specs.Told.{told, stepTold, ruled}
+use Rattle.lists.specs.Kept.{KeptOutside}
+use Rattle.jobs.specs.Layout.{bestAt, worstAt, lineAt, farAt}
+use Rattle.jobs.specs.Held.{jobIn, LinkedOut}
+use Rattle.jobs.specs.Loading.{jobFrom}
+use Rattle.plans.specs.Lines.{rowReplicas, linesIn, timeIn, Small, Standing}
+use Rattle.definitions.proofs.Facts.{PlanFacts}
+
+-- The line at a, with the job's number of replicas.
+abbrev pub lineIn : ℕ → List ℕ → Line
+lineIn a mem = record { task = nth mem a; replicas = rowReplicas a (nth mem 3 + 1) mem }
+
+-- The answer r to the T line at a place of the text s, which becomes row k of the memory: the line, which then stands after the k lines before it, or the refusal.
+pub record LineRead (rooms k : ℕ) (s : List ℕ) (at : ℕ) (d mem : List ℕ) (r : Step) : Type 0 where
+  pub kept : KeptOutside (lineAt rooms) (farAt rooms) d mem
+  pub latest : Line
+  pub answer : told s latest r ≡ ruled (planLine document01 (jobIn d)) (planLineRule document01 (jobIn d)) (linesIn rooms (nth d 3 + 1) k d) (drop at s)
+  pub standing : (n : ℕ) → r ≡ Next n → Standing rooms (suc k) mem
+  pub more : (n : ℕ) → r ≡ Next n → linesIn rooms (nth d 3 + 1) (suc k) mem ≡ linesIn rooms (nth d 3 + 1) k d ++ latest ∷ []
+
+-- The plan in a memory: M*, M and a line for each task.
+unfoldable pub planIn : ℕ → List ℕ → Plan
+planIn rooms mem = record { best = nth mem (bestAt rooms); worst = nth mem (worstAt rooms); lines = linesIn rooms (nth mem 3 + 1) (nth mem 0) mem }
+
+-- A plan of this M* and M for a job, from its T lines on.
+unfoldable pub planFrom : Job → ℕ → ℕ → List ℕ → Result Plan
+planFrom j best worst s =
+    ended
+    (next (lines (planLine document01 j) (planLineRule document01 j) (j .tasks) [] s) (λ ns. return (record { best = best; worst = worst; lines = ns })))
+
+-- The plan that was read stands in the memory, each line in its row; or the refusal.
+abbrev pub PlanLoaded : ℕ → Result Plan → List ℕ → Step → Type 0
+PlanLoaded rooms (good p) mem r = ((n : ℕ) × (stepTold r ≡ good n)) × (planIn rooms mem ≡ p) × Standing rooms (nth mem 0) mem
+PlanLoaded rooms (bad n) mem r = stepTold r ≡ bad n
+
+-- A job that was read, then a plan's text for it.
+unfoldable pub withPlan : Result Job → List ℕ → Result (Job × Plan)
+withPlan x plan = andThen x λ j. andThen (readPlan document01 j plan) λ p. good (j, p)
+
+-- A job's text, then a plan's for that job.
+abbrev pub readBoth : List ℕ → List ℕ → Result (Job × Plan)
+readBoth job plan = withPlan (readJob document01 job) plan
+
+-- The same after the job's head, for a memory of so many cells.
+abbrev pub bothFrom : ℕ → ℕ → JobHead → List ℕ → List ℕ → Result (Job × Plan)
+bothFrom rooms size h s plan = withPlan (jobFrom rooms size h s) plan
+
+-- The job and the plan that were read stand in one memory, with all links between edges; or the refusal.
+abbrev pub BothLoaded : ℕ → Result (Job × Plan) → List ℕ → Step → Type 0
+BothLoaded rooms (good (j, p)) mem r = ((n : ℕ) × (stepTold r ≡ good n)) × (jobIn mem ≡ j) × (planIn rooms mem ≡ p) × Standing rooms (nth mem 0) mem × LinkedOut rooms mem
+BothLoaded rooms (bad n) mem r = stepTold r ≡ bad n
+
+-- A stop list's text for a job, if there are so many cells: 8 if they are fewer than the processors.
+unfoldable pub stopsFrom : ℕ → Job → List ℕ → Result (List Stop)
+stopsFrom size j s = if ltb size (j .processors) then bad 8 else readStops document01 j s
+
+-- The stop tick of each processor is in its cell, never in all others; or the refusal.
+abbrev pub StopsLoaded : Result (List Stop) → List ℕ → Step → Type 0
+StopsLoaded (good ss) cells r = ((n : ℕ) × (stepTold r ≡ good n)) × ((p : ℕ) → p < length cells → (timeIn (nth cells p) ≡ stopTime ss p) × Small (document01 .tick) (nth cells p))
+StopsLoaded (bad n) cells r = stepTold r ≡ bad n
+
+-- A plan that was read stands in a memory with its job, a line for each task.
+pub record PlanHeld (rooms : ℕ) (mem : List ℕ) : Type 0 where
+  pub standing : Standing rooms (nth mem 0) mem
+  pub facts : PlanFacts document01 (jobIn mem) (planIn rooms mem)

@@ -1,0 +1,262 @@
+// A plan's text, read into a memory that holds its job.
+ghost use mathlib.Core.Path.{_≡_};
+ghost use mathlib.Core.List.{[]};
+ghost use mathlib.Core.Bool.{not, _||_};
+ghost use Prim.Native.Nat.{ℕ, _+_, _*_, _%_, _≤_, _<_};
+ghost use lib.Dec.{eqb};
+ghost use lib.ListN.{length, drop};
+ghost use Rattle.definitions.specs.Lists.{nth, all};
+ghost use Rattle.definitions.specs.Limits.{document01};
+ghost use Rattle.definitions.specs.Text.{lines};
+ghost use Rattle.definitions.specs.Job.{outside, incoming};
+ghost use Rattle.definitions.specs.Plan.{processorsOf, planHeadOf, planHeadRule, planLine, planLineRule, readPlan};
+ghost use Rattle.definitions.specs.Plan as Plan;
+ghost use Rattle.text.specs.Told.{told};
+ghost use Rattle.text.specs.declared.Step.the-variants.{Next};
+ghost use Rattle.jobs.specs.Layout.{memorySize, lineAt, blockedAt, farAt};
+ghost use Rattle.jobs.specs.Held.{edgeAt, jobIn, JobHeld, JobStands, LinkedIn};
+ghost use Rattle.plans.specs.Lines.{linesIn, RowHeld, Standing};
+ghost use Rattle.lists.specs.Kept.{KeptOutside};
+ghost use Rattle.plans.specs.Loading.{lineIn, LineRead, planFrom, PlanLoaded};
+use jobs::layout::BEST;
+use jobs::layout::IN_HEAD;
+use jobs::layout::IN_NEXT;
+use jobs::layout::LINE;
+use jobs::layout::ROWS;
+use jobs::layout::WORST;
+use text::Step;
+
+const LAST_TICK: u64 = 4294967295;
+
+// Some number of a plan's head is outside its range.
+fn head_strays(tasks: u64, processors: u64, losses: u64, best: u64, worst: u64) -> bool
+    ensures { λ r. ⌜ r ≡ (outside 1 255 tasks || outside 1 16 processors || outside 0 7 losses || outside 0 4294967295 best || outside 0 4294967295 worst) ⌝ }
+{
+    if tasks < 1 {
+        return true;
+    }
+    if tasks > 255 {
+        return true;
+    }
+    if processors < 1 {
+        return true;
+    }
+    if processors > 16 {
+        return true;
+    }
+    if losses > 7 {
+        return true;
+    }
+    if best > LAST_TICK {
+        return true;
+    }
+    worst > LAST_TICK
+}
+
+// The number of the refusal of a plan's head, or 0. Its five numbers stand at the front of `head`.
+fn check_head(mem: &[u64], head: &[u64]) -> u64
+    requires { ⌜ (4 ≤ length (now mem)) × (5 ≤ length (now head)) ⌝ }
+    ensures { λ r. ⌜ r ≡ planHeadRule document01 (jobIn (now (mem .entry))) (planHeadOf (now (head .entry))) ⌝ }
+{
+    let tasks = head[0];
+    let processors = head[1];
+    let losses = head[2];
+    if head_strays(tasks, processors, losses, head[3], head[4]) {
+        return 3;
+    }
+    if tasks != mem[0] {
+        return 9;
+    }
+    if processors != mem[1] {
+        return 9;
+    }
+    if losses != mem[3] {
+        return 9;
+    }
+    0
+}
+
+// The task, a processor or a tick of the line at `a` is outside its range.
+fn strays(mem: &[u64], a: usize) -> bool
+    requires { ⌜ JobStands (now mem) × (a + 25 ≤ length (now mem)) ⌝ }
+    ensures { λ r. ⌜ r ≡ Plan.strays document01 (jobIn (now (mem .entry))) (lineIn a (now (mem .entry))) ⌝ }
+{
+    if mem[a] >= mem[0] {
+        return true;
+    }
+    let m = mem[1];
+    let mut c = mem[3] as usize + 1;
+    while c > 0 {
+        c -= 1;
+        if mem[a + (1 + 3 * c)] >= m {
+            return true;
+        }
+        if mem[a + (2 + 3 * c)] > LAST_TICK {
+            return true;
+        }
+        if mem[a + (3 + 3 * c)] > LAST_TICK {
+            return true;
+        }
+    }
+    false
+}
+
+// In the line at `a` a processor is less than the one before.
+fn descends(mem: &[u64], a: usize) -> bool
+    requires { ⌜ JobStands (now mem) × (a + 25 ≤ length (now mem)) ⌝ }
+    ensures { λ r. ⌜ r ≡ Plan.descends (processorsOf (lineIn a (now (mem .entry)))) ⌝ }
+{
+    let mut c = mem[3] as usize;
+    while c > 0 {
+        if mem[a + (1 + 3 * c)] < mem[a + (1 + 3 * (c - 1))] {
+            return true;
+        }
+        c -= 1;
+    }
+    false
+}
+
+// The task that edge k leaves has no line.
+fn sender_unplaced(mem: &[u64], rooms: usize, k: usize) -> bool
+    requires { ⌜ JobHeld rooms (now mem) × (k < nth (now mem) 2) ⌝ }
+    ensures { λ r. ⌜ r ≡ eqb (nth (now (mem .entry)) (lineAt rooms + nth (now (mem .entry)) (edgeAt (now (mem .entry)) k) % 256)) 0 ⌝ }
+{
+    let v = mem[0] as usize;
+    let m = mem[1] as usize;
+    let g = 4 + (v + m) * (m + 1);
+    let from = (mem[g + k] % 256) as usize;
+    mem[LINE * rooms + from] == 0
+}
+
+// Every predecessor of t has a line.
+fn fed(mem: &[u64], rooms: usize, t: usize) -> bool
+    requires { ⌜ JobHeld rooms (now mem) × LinkedIn rooms (now mem) × (t < nth (now mem) 0) ⌝ }
+    ensures { λ r. ⌜ r ≡ all (λ e. not (eqb (nth (now (mem .entry)) (lineAt rooms + e .from)) 0)) (incoming (jobIn (now (mem .entry))) t) ⌝ }
+{
+    let in_next = IN_NEXT * rooms;
+    let mut k = mem[IN_HEAD * rooms + t] as usize;
+    while k > 0 {
+        if sender_unplaced(mem, rooms, k - 1) {
+            return false;
+        }
+        k = mem[in_next + (k - 1)] as usize;
+    }
+    true
+}
+
+// The number of the refusal of the line at `a`, after the lines that have a place in the table, or 0.
+fn check_line(mem: &[u64], rooms: usize, a: usize) -> u64
+    requires { ⌜ JobHeld rooms (now mem) × LinkedIn rooms (now mem) × (a + 25 ≤ length (now mem)) ⌝ }
+    ensures { λ r. ⌜ ((k : ℕ) → Standing rooms k (now (mem .entry)) → r ≡ planLineRule document01 (jobIn (now (mem .entry))) (linesIn rooms (nth (now (mem .entry)) 3 + 1) k (now (mem .entry))) (lineIn a (now (mem .entry)))) × (r ≡ 0 → (nth (now (mem .entry)) a < nth (now (mem .entry)) 0) × (nth (now (mem .entry)) (lineAt rooms + nth (now (mem .entry)) a) ≡ 0) × RowHeld a (now (mem .entry))) ⌝ }
+{
+    let line = LINE * rooms;
+    if strays(mem, a) {
+        return 3;
+    }
+    if descends(mem, a) {
+        return 11;
+    }
+    let t = mem[a] as usize;
+    if mem[line + t] != 0 {
+        return 10;
+    }
+    if fed(mem, rooms, t) {
+        return 0;
+    }
+    10
+}
+
+// No task has a line.
+fn clear_lines(mem: &mut [u64], rooms: usize)
+    requires { ⌜ length (now mem) ≡ memorySize rooms ⌝ }
+    ensures { λ _. ⌜ KeptOutside (lineAt rooms) (blockedAt rooms) (now (mem .entry)) (now (mem .exit)) × ((t : ℕ) → t < 8 * rooms → nth (now (mem .exit)) (lineAt rooms + t) ≡ 0) ⌝ }
+{
+    let line = LINE * rooms;
+    let n = 8 * rooms;
+    let mut t = 0;
+    while t < n {
+        mem[line + t] = 0;
+        t += 1;
+    }
+}
+
+// The T line at `at`, kept as row k, after the k lines before it.
+fn read_plan_line(s: &[u8], at: usize, mem: &mut [u64], rooms: usize, k: usize) -> Step
+    requires { ⌜ Standing rooms k (now mem) × (k < nth (now mem) 0) ⌝ }
+    ensures { λ r. ⌜ LineRead rooms k (now (s .entry)) at (now (mem .entry)) (now (mem .exit)) r ⌝ }
+{
+    let line = LINE * rooms;
+    let n = 4 + 3 * mem[3] as usize;
+    let a = ROWS * rooms + k * 25;
+    let b = a + n;
+    match lines::read_line(s, at, b"T,", n, &mut mem[a..b]) {
+        Step::Next(p) => {
+            let x = check_line(&mem[..], rooms, a);
+            if x > 0 {
+                return Step::Refused(x);
+            }
+            let t = mem[a] as usize;
+            mem[line + t] = (k + 1) as u64;
+            Step::Next(p)
+        }
+        Step::Refused(x) => Step::Refused(x),
+    }
+}
+
+// The T lines, kept as rows.
+fn read_plan_lines(s: &[u8], at: usize, mem: &mut [u64], rooms: usize) -> Step
+    requires { ⌜ Standing rooms 0 (now mem) ⌝ }
+    ensures { λ r. ⌜ KeptOutside (lineAt rooms) (farAt rooms) (now (mem .entry)) (now (mem .exit)) × (told (now (s .entry)) (linesIn rooms (nth (now (mem .exit)) 3 + 1) (nth (now (mem .exit)) 0) (now (mem .exit))) r ≡ lines (planLine document01 (jobIn (now (mem .entry)))) (planLineRule document01 (jobIn (now (mem .entry)))) (nth (now (mem .entry)) 0) [] (drop at (now (s .entry)))) × ((n : ℕ) → r ≡ Next n → Standing rooms (nth (now (mem .exit)) 0) (now (mem .exit))) ⌝ }
+{
+    let v = mem[0] as usize;
+    let mut p = at;
+    let mut k = 0;
+    while k < v {
+        match read_plan_line(s, p, mem, rooms, k) {
+            Step::Next(next) => p = next,
+            Step::Refused(x) => return Step::Refused(x),
+        }
+        k += 1;
+    }
+    Step::Next(p)
+}
+
+// The T lines, and then M* and M, which the head has.
+fn load_lines(s: &[u8], at: usize, best: u64, worst: u64, mem: &mut [u64], rooms: usize) -> Step
+    requires { ⌜ JobHeld rooms (now mem) × LinkedIn rooms (now mem) ⌝ }
+    ensures { λ r. ⌜ KeptOutside (lineAt rooms) (farAt rooms) (now (mem .entry)) (now (mem .exit)) × PlanLoaded rooms (planFrom (jobIn (now (mem .entry))) best worst (drop at (now (s .entry)))) (now (mem .exit)) r ⌝ }
+{
+    clear_lines(mem, rooms);
+    match read_plan_lines(s, at, mem, rooms) {
+        Step::Next(p) => {
+            if p < s.len() {
+                return Step::Refused(2);
+            }
+            mem[BEST * rooms] = best;
+            mem[WORST * rooms] = worst;
+            Step::Next(p)
+        }
+        Step::Refused(x) => Step::Refused(x),
+    }
+}
+
+// A plan's text for the job in memory, whose edges are linked.
+pub fn load_plan(s: &[u8], mem: &mut [u64], rooms: usize) -> Step
+    requires { ⌜ JobHeld rooms (now mem) × LinkedIn rooms (now mem) ⌝ }
+    ensures { λ r. ⌜ KeptOutside (lineAt rooms) (farAt rooms) (now (mem .entry)) (now (mem .exit)) × PlanLoaded rooms (readPlan document01 (jobIn (now (mem .entry))) (now (s .entry))) (now (mem .exit)) r ⌝ }
+{
+    if s.len() > 65536 {
+        return Step::Refused(1);
+    }
+    let mut head = [0u64; 5];
+    match lines::read_line(s, 0, b"PLAN,", 5, &mut head) {
+        Step::Next(p) => {
+            let x = check_head(&mem[..], &head);
+            if x > 0 {
+                return Step::Refused(x);
+            }
+            load_lines(s, p, head[3], head[4], mem, rooms)
+        }
+        Step::Refused(x) => Step::Refused(x),
+    }
+}

@@ -1,0 +1,209 @@
+-- The checker's tests on a plan that was read.
+use mathlib.Core.Path.{_≡_, refl, ap, _∙_, sym}
+use mathlib.Core.Logic.{_⊎_, inl, inr, ⊎-elim}
+use mathlib.Core.List.{List, [], _∷_, _++_, map, map-append, append-assoc}
+use mathlib.Core.Bool.{Bool, true, false, not}
+use Prim.Native.Nat.{ℕ, zero, suc, _+_, _*_, _<_, _≤_}
+use native.Mathlib.Omega.{arith}
+use native.Mathlib.Numerals.{add-one}
+use borrow.Author.Tests.{ltb-false, not-false}
+use lib.Dec.{ltb}
+use Rattle.definitions.specs.Lists.{if_then_else_, nth, In, keep, distinct}
+use Rattle.definitions.specs.Job.{Job}
+use Rattle.definitions.specs.Plan.{Line, processorsOf, descends}
+use Rattle.definitions.specs.Refusals.{doubledTasks}
+use Rattle.definitions.proofs.Lists.{neither, neither-false, append-left, append-right, in-append, apart-head, head-apart, map-in, keep-in}
+use Rattle.definitions.proofs.Facts.{Ordered, LineFacts}
+use Rattle.definitions.proofs.Tasks.{lineTasks}
+use Rattle.jobs.specs.Layout.{rowAt}
+use Rattle.jobs.specs.Held.{jobIn}
+use Rattle.plans.specs.Lines.{rowReplicas, linesIn}
+use Rattle.plans.specs.Loading.{lineIn, planIn}
+use Rattle.plans.specs.Loading.{PlanHeld}
+use Rattle.lists.proofs.Counting.{last-or-before}
+use Rattle.plans.proofs.PlanLaws.{in-tasks-row}
+
+-- Numbers that do not descend, and numbers that differ --------------------------------------------------------------
+
+descends-front : (xs : List ℕ) (y : ℕ) → descends (xs ++ y ∷ []) ≡ false → descends xs ≡ false
+unfolding descends
+descends-front [] y h = refl
+descends-front (x ∷ []) y h = refl
+descends-front (x ∷ z ∷ xs) y h =
+    let (a, b) = neither (ltb z x) (descends (z ∷ xs ++ y ∷ [])) h in
+    neither-false a (descends-front (z ∷ xs) y b)
+
+descends-last : (xs : List ℕ) (x y : ℕ) → descends ((xs ++ x ∷ []) ++ y ∷ []) ≡ false → x ≤ y
+unfolding descends
+descends-last [] x y h = ltb-false y x (neither (ltb y x) false h .0)
+descends-last (z ∷ []) x y h = descends-last [] x y (neither (ltb x z) (descends (x ∷ y ∷ [])) h .1)
+descends-last (z ∷ u ∷ xs) x y h = descends-last (u ∷ xs) x y (neither (ltb u z) (descends ((u ∷ xs ++ x ∷ []) ++ y ∷ [])) h .1)
+
+distinct-front : (xs : List ℕ) (y : ℕ) → distinct (xs ++ y ∷ []) ≡ true → (distinct xs ≡ true) × (In y xs → ⊥)
+unfolding distinct
+distinct-front [] y d = (refl, λ i. i)
+distinct-front (x ∷ xs) y d =
+    let (n, e) = apart-head x (xs ++ y ∷ []) d in
+    let (f, m) = distinct-front xs y e in
+    (head-apart x xs (λ i. n (append-left x xs (y ∷ []) i)) f, ⊎-elim (λ q. n (append-right x xs (y ∷ []) (inl (sym q)))) m)
+
+distinct-last : (xs : List ℕ) (y : ℕ) → distinct xs ≡ true → (In y xs → ⊥) → distinct (xs ++ y ∷ []) ≡ true
+unfolding distinct
+distinct-last [] y d n = head-apart y [] (λ i. i) refl
+distinct-last (x ∷ xs) y d n =
+    let (m, e) = apart-head x xs d in
+    head-apart x (xs ++ y ∷ []) (λ i. ⊎-elim m (⊎-elim (λ q. n (inl (sym q))) (λ i. i)) (in-append x xs (y ∷ []) i)) (distinct-last xs y e (λ i. n (inr i)))
+
+-- The processors of a line ------------------------------------------------------------------------------------------
+
+-- The processors of the first c replicas of the line at a.
+unfoldable pub rowProcessors : ℕ → ℕ → List ℕ → List ℕ
+rowProcessors a c mem = map (λ r. r .processor) (rowReplicas a c mem)
+
+module _ (a : ℕ) (mem : List ℕ) where
+  abbrev on : ℕ → ℕ
+  on c = nth mem (a + (1 + 3 * c))
+
+  processors-more : (c : ℕ) → rowProcessors a (suc c) mem ≡ rowProcessors a c mem ++ on c ∷ []
+  unfolding rowProcessors rowReplicas
+  processors-more c = map-append (λ r. r .processor) (rowReplicas a c mem) (record { processor = on c; early = nth mem (a + (2 + 3 * c)); late = nth mem (a + (3 + 3 * c)) } ∷ [])
+
+  -- Of processors that do not descend each is at least the one before.
+  ascends : (w c : ℕ) → descends (rowProcessors a w mem) ≡ false → suc c < w → on c ≤ on (suc c)
+  ascends zero c h l = absurd (omega arith)
+  ascends (suc w) c h l =
+      let f : descends (rowProcessors a w mem ++ on w ∷ []) ≡ false = rw (processors-more w) at h in
+      ⊎-elim
+      (λ (e : suc c ≡ w). descends-last (rowProcessors a c mem) (on c) (on (suc c)) (rw (← e, processors-more c) at f))
+      (λ (g : suc c < w). ascends w c (descends-front (rowProcessors a w mem) (on w) f) g)
+      (last-or-before w (suc c) l)
+
+  -- What differs in the first c + 1 differs in the first c.
+  apart-before : (w c : ℕ) → c ≤ w → distinct (rowProcessors a w mem) ≡ true → distinct (rowProcessors a c mem) ≡ true
+  apart-before zero c l d = let e : c ≡ 0 = omega arith in rw e d
+  apart-before (suc w) c l d =
+      ⊎-elim
+      (λ (e : c ≡ suc w). rw e d)
+      (λ (g : c < suc w). apart-before w c (omega arith) (distinct-front (rowProcessors a w mem) (on w) (rw (processors-more w) at d) .0))
+      (last-or-before (suc w) c (omega arith))
+
+  -- The first c + 1 processors differ, and the last of them is the greatest.
+  pub record Rising (c : ℕ) : Type 0 where
+    pub apart : distinct (rowProcessors a (suc c) mem) ≡ true
+    pub most : (p : ℕ) → In p (rowProcessors a (suc c) mem) → p ≤ on c
+
+  pub rising-first : Rising 0
+  unfolding rowProcessors rowReplicas distinct
+  rising-first = record { apart = distinct-last [] (on 0) refl (λ i. i); most = λ p. ⊎-elim (λ e. omega arith) absurd }
+
+  -- The processor of the next replica.
+  on-next : (c : ℕ) → nth mem (a + (4 + 3 * c)) ≡ on (suc c)
+  on-next c = let e : 4 + 3 * c ≡ 1 + 3 * suc c = omega arith in rw e
+
+  module _ (c : ℕ) (l : c + 1 < nth mem 3 + 1) where
+    pub rising-next : descends (processorsOf (lineIn a mem)) ≡ false → (on c ≡ nth mem (a + (4 + 3 * c)) → ⊥) → Rising c → Rising (c + 1)
+    unfolding rowProcessors
+    rising-next h n r =
+        let up = ascends (nth mem 3 + 1) c h (omega arith) in
+        let q = on-next c in
+        let ps = rowProcessors a (suc c) mem in
+        let f : Rising (suc c) =
+        record {
+          apart = rw (processors-more (suc c)) (distinct-last ps (on (suc c)) (r .apart) (λ i. n (omega (arith, r .most (on (suc c)) i))));
+          most = λ p i. ⊎-elim (λ k. omega (arith, r .most p k)) (⊎-elim (λ e. omega arith) absurd) (in-append p ps (on (suc c) ∷ []) (rw (processors-more (suc c)) at i));
+        } in
+        rw (add-one c) f
+
+    -- Two equal neighbours.
+    pub rising-twice : on c ≡ nth mem (a + (4 + 3 * c)) → true ≡ not (distinct (processorsOf (lineIn a mem)))
+    unfolding rowProcessors
+    rising-twice e = by (distinct (rowProcessors a (nth mem 3 + 1) mem)) refl
+      where
+        by : (b : Bool) → distinct (rowProcessors a (nth mem 3 + 1) mem) ≡ b → true ≡ not b
+        by false d = refl
+        by true d =
+            let ps = rowProcessors a c mem in
+            let (_, n) = distinct-front (rowProcessors a (suc c) mem) (on (suc c)) (rw (processors-more (suc c)) at (apart-before (nth mem 3 + 1) (suc (suc c)) (omega arith) d)) in
+            absurd (n (rw (processors-more c) (append-right (on (suc c)) ps (on c ∷ []) (inl (e ∙ on-next c)))))
+
+  pub rising-done : (c : ℕ) → c < nth mem 3 + 1 → nth mem 3 + 1 ≤ c + 1 → Rising c → false ≡ not (distinct (processorsOf (lineIn a mem)))
+  unfolding rowProcessors
+  rising-done c h l r =
+      let e : nth mem 3 + 1 ≡ suc c = omega arith in
+      let d : distinct (rowProcessors a (nth mem 3 + 1) mem) ≡ true = rw e (r .apart) in
+      rw d
+
+-- Line by line ------------------------------------------------------------------------------------------------------
+
+lines-split : (rooms : ℕ) (k v : ℕ) (mem : List ℕ) → k < v → (ys : List Line) × (linesIn rooms (nth mem 3 + 1) v mem ≡ linesIn rooms (nth mem 3 + 1) k mem ++ lineIn (rowAt rooms k) mem ∷ ys)
+unfolding linesIn
+lines-split rooms k zero mem l = absurd (omega arith)
+lines-split rooms k (suc v) mem l =
+    ⊎-elim
+    (λ (e : k ≡ v). rw (← e) ([], refl))
+    (λ (g : k < v).
+    let (ys, e) = lines-split rooms k v mem g in
+    (ys ++ lineIn (rowAt rooms v) mem ∷ [], rw e (append-assoc (linesIn rooms (nth mem 3 + 1) k mem) (lineIn (rowAt rooms k) mem ∷ ys) (lineIn (rowAt rooms v) mem ∷ []))))
+    (last-or-before v k l)
+
+pub line-among : (rooms : ℕ) (k v : ℕ) (mem : List ℕ) → k < v → In (lineIn (rowAt rooms k) mem) (linesIn rooms (nth mem 3 + 1) v mem)
+line-among rooms k v mem l =
+    let (ys, e) = lines-split rooms k v mem l in
+    rw e (append-right (lineIn (rowAt rooms k) mem) (linesIn rooms (nth mem 3 + 1) k mem) (lineIn (rowAt rooms k) mem ∷ ys) (inl refl))
+
+-- Tasks with two copies on one processor ----------------------------------------------------------------------------
+
+doubled-more : (ns : List Line) (n : Line) → distinct (processorsOf n) ≡ true → doubledTasks (ns ++ n ∷ []) ≡ doubledTasks ns
+unfolding doubledTasks keep
+doubled-more [] n d = rw d
+doubled-more (m ∷ ns) n d = by (distinct (processorsOf m)) (doubled-more ns n d)
+  where
+    by : (b : Bool) → doubledTasks (ns ++ n ∷ []) ≡ doubledTasks ns
+        → map (λ n. n .task) (if not b then m ∷ keep (λ n. not (distinct (processorsOf n))) (ns ++ n ∷ []) else keep (λ n. not (distinct (processorsOf n))) (ns ++ n ∷ []))
+        ≡ map (λ n. n .task) (if not b then m ∷ keep (λ n. not (distinct (processorsOf n))) ns else keep (λ n. not (distinct (processorsOf n))) ns)
+    by true e = e
+    by false e = ap (m .task ∷_) e
+
+pub doubled-in : (n : Line) (ns : List Line) → In n ns → true ≡ not (distinct (processorsOf n)) → In (n .task) (doubledTasks ns)
+unfolding doubledTasks
+doubled-in n ns i d = map-in (λ n. n .task) n (keep (λ n. not (distinct (processorsOf n))) ns) (keep-in (λ n. not (distinct (processorsOf n))) n ns i (sym d))
+
+module _ (mem : List ℕ) (k : ℕ) where
+  -- The first k lines, none of which has a processor twice; and line k.
+  pub doubled-none : (rooms : ℕ) → doubledTasks (linesIn rooms (nth mem 3 + 1) 0 mem) ≡ []
+  unfolding doubledTasks keep linesIn
+  doubled-none rooms = refl
+
+  pub doubled-next : (rooms : ℕ) → false ≡ not (distinct (processorsOf (lineIn (rowAt rooms k) mem))) → doubledTasks (linesIn rooms (nth mem 3 + 1) k mem) ≡ [] → doubledTasks (linesIn rooms (nth mem 3 + 1) (k + 1) mem) ≡ []
+  unfolding linesIn
+  doubled-next rooms d e = rw (add-one k) (doubled-more (linesIn rooms (nth mem 3 + 1) k mem) (lineIn (rowAt rooms k) mem) (not-false (distinct (processorsOf (lineIn (rowAt rooms k) mem))) (sym d)) ∙ e)
+
+  pub doubled-here : (rooms : ℕ) → k < nth mem 0 → true ≡ not (distinct (processorsOf (lineIn (rowAt rooms k) mem))) → In (nth mem (rowAt rooms k)) (doubledTasks (planIn rooms mem .lines))
+  unfolding planIn
+  doubled-here rooms l d = doubled-in (lineIn (rowAt rooms k) mem) (linesIn rooms (nth mem 3 + 1) (nth mem 0) mem) (line-among rooms k (nth mem 0) mem l) d
+
+  pub doubled-done : (rooms : ℕ) → nth mem 0 ≤ k → k ≤ nth mem 0 → doubledTasks (linesIn rooms (nth mem 3 + 1) k mem) ≡ [] → doubledTasks (planIn rooms mem .lines) ≡ []
+  unfolding planIn
+  doubled-done rooms l h e = let q : k ≡ nth mem 0 = omega arith in rw q at e
+
+-- A line of a plan that was read ------------------------------------------------------------------------------------
+
+-- What is known of a line, after the lines before it.
+ordered-at : (j : Job) (seen : List ℕ) (ms : List Line) (n : Line) (ns : List Line) → Ordered j seen (ms ++ n ∷ ns)
+    → (us : List ℕ) × LineFacts j us n × ((u : ℕ) → In u us → In u seen ⊎ In u (lineTasks ms))
+ordered-at j seen [] n ns (o, os) = (seen, o, λ u i. inl i)
+ordered-at j seen (m ∷ ms) n ns (o, os) =
+    let (us, f, h) = ordered-at j (m .task ∷ seen) ms n ns os in
+    (us, f, λ u i. ⊎-elim (⊎-elim (λ e. inr (inl e)) inl) (λ k. inr (inr k)) (h u i))
+
+module _ {rooms : ℕ} {mem : List ℕ} (h : PlanHeld rooms mem) (k : ℕ) (l : k < nth mem 0) where
+  pub line-facts : (us : List ℕ) × LineFacts (jobIn mem) us (lineIn (rowAt rooms k) mem) × ((u : ℕ) → In u us → (i : ℕ) × (i < k) × (nth mem (rowAt rooms i) ≡ u))
+  unfolding planIn
+  line-facts =
+      let w = nth mem 3 + 1 in
+      let (ns, e) = lines-split rooms k (nth mem 0) mem l in
+      let (us, f, m) = ordered-at (jobIn mem) [] (linesIn rooms w k mem) (lineIn (rowAt rooms k) mem) ns (rw e at (h .facts .ordered)) in
+      (us, f, λ u i. in-tasks-row rooms w mem k u (⊎-elim absurd (λ k. k) (m u i)))
+
+  pub line-ascends : descends (processorsOf (lineIn (rowAt rooms k) mem)) ≡ false
+  line-ascends = let (us, f, m) = line-facts in f .ascends

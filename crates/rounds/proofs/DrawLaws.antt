@@ -1,0 +1,230 @@
+-- One turn of the planner: the free tasks, the critical one, its line, and what waits after it.
+use mathlib.Core.Path.{_≡_, refl, ap, ap₂, _∙_, sym}
+use mathlib.Core.Logic.{inl, inr}
+use mathlib.Core.List.{List, [], _∷_, map, map-map, reverseAux}
+use mathlib.Core.Bool.{Bool, true, false, not, _&&_}
+use Prim.Native.Nat.{ℕ, zero, suc, _+_, _-_, _<_, _≤_, max, min}
+use native.Mathlib.Omega.{arith}
+use borrow.Author.Tests.{ne-eqb}
+use lib.Dec.{eqb, ltb}
+use lib.ListN.{length}
+use Rattle.definitions.specs.Lists.{if_then_else_, In, nth, keep, all, distinct, countFrom, below}
+use Rattle.definitions.specs.Job.{Edge, Job, incoming}
+use Rattle.definitions.specs.Times.{Time, tick, later, sooner, after, least, largest, Copy, Outcome, outcome, ofTask, ready, arrival, dataReady, start, finish, walk, copiesOf}
+use Rattle.definitions.specs.Planner.{tickOf, Waiting, waitingFrom, freeTasks, ranked, criticalTask, trial, goesBefore, chosen, replicas, place}
+use Rattle.definitions.proofs.Lists.{map-same, apart-head, in-below, nth-below}
+use Rattle.definitions.proofs.Tasks.{copyOf}
+use Rattle.definitions.proofs.Chosen.{chosen-count}
+use Rattle.definitions.proofs.Placing.{greatest-in}
+use Rattle.rounds.specs.Schedule.{choiceOf}
+use Rattle.rounds.specs.Planning.{bestOf}
+use Rattle.lists.proofs.ListLaws.{keep-same, keep-keep}
+use Rattle.lists.proofs.Upward.{count-yes, count-no}
+
+-- Lists -----------------------------------------------------------------------------------------------------------
+
+and-comm : (a b : Bool) → (a && b) ≡ (b && a)
+and-comm true true = refl
+and-comm true false = refl
+and-comm false true = refl
+and-comm false false = refl
+
+pub keep-swap : {A : Type 0} (f g : A → Bool) (xs : List A) → keep f (keep g xs) ≡ keep g (keep f xs)
+keep-swap f g xs = keep-keep f g xs ∙ keep-same (λ x. g x && f x) (λ x. f x && g x) xs (λ x i. and-comm (g x) (f x)) ∙ sym (keep-keep g f xs)
+
+-- Those that f keeps are those that g keeps, and those that h keeps besides.
+pub count-split : {A : Type 0} (f g h : A → Bool) (xs : List A)
+    → ((x : A) → In x xs → (h x ≡ true → (f x ≡ true) × (g x ≡ false)) × (h x ≡ false → f x ≡ g x))
+    → length (keep f xs) ≡ length (keep g xs) + length (keep h xs)
+unfolding keep
+count-split f g h [] p = refl
+count-split {A} f g h (x ∷ xs) p = by (h x) refl (count-split f g h xs (λ y i. p y (inr i)))
+  where
+    same : (b : Bool) → length (keep f xs) ≡ length (keep g xs) + length (keep h xs)
+        → length (if b then x ∷ keep f xs else keep f xs) ≡ length (if b then x ∷ keep g xs else keep g xs) + length (keep h xs)
+    same true r = omega arith
+    same false r = r
+
+    by : (b : Bool) → h x ≡ b → length (keep f xs) ≡ length (keep g xs) + length (keep h xs)
+        → length (if f x then x ∷ keep f xs else keep f xs)
+        ≡ length (if g x then x ∷ keep g xs else keep g xs) + length (if b then x ∷ keep h xs else keep h xs)
+    by true e r = let (a, c) = p x (inl refl) .0 e in rw (a, c) (omega arith)
+    by false e r = rw (p x (inl refl) .1 e) (same (g x) r)
+
+pub count-reverse : {A : Type 0} (f : A → Bool) (xs ys : List A) → length (keep f (reverseAux xs ys)) ≡ length (keep f xs) + length (keep f ys)
+unfolding keep
+count-reverse f [] ys = omega arith
+count-reverse f (x ∷ xs) ys = count-reverse f xs (x ∷ ys) ∙ by (f x)
+  where
+    by : (b : Bool) → length (keep f xs) + length (if b then x ∷ keep f ys else keep f ys) ≡ length (if b then x ∷ keep f xs else keep f xs) + length (keep f ys)
+    by true = omega arith
+    by false = refl
+
+-- None is kept exactly if f is true of none.
+pub none-kept : {A : Type 0} (f : A → Bool) (xs : List A) → eqb (length (keep f xs)) 0 ≡ all (λ x. not (f x)) xs
+unfolding keep all
+none-kept f [] = refl
+none-kept f (x ∷ xs) = by (f x) (none-kept f xs)
+  where
+    by : (b : Bool) → eqb (length (keep f xs)) 0 ≡ all (λ x. not (f x)) xs
+        → eqb (length (if b then x ∷ keep f xs else keep f xs)) 0 ≡ (not b && all (λ x. not (f x)) xs)
+    by true e = ne-eqb (suc (length (keep f xs))) 0 (λ q. omega arith)
+    by false e = e
+
+-- The greatest is one of them ---------------------------------------------------------------------------------------
+
+pub best-in : (d : ℕ) (xs : List (ℕ × ℕ)) → 0 < length xs → In (bestOf d xs) (map (λ y. y .0) xs)
+best-in d [] h = absurd (omega arith)
+best-in d (x ∷ xs) h = greatest-in x xs
+
+-- The tasks that wait at first: the numbers from k on, with their bottom levels.
+pub waiting-from : (f : ℕ → ℕ) (k n : ℕ) → waitingFrom k (map f (countFrom k n)) ≡ map (λ t. record { task = t; bottom = f t }) (countFrom k n)
+unfolding waitingFrom countFrom
+waiting-from f k zero = refl
+waiting-from f k (suc n) = ap₂ _∷_ refl (waiting-from f (suc k) n)
+
+-- A turn of the planner ---------------------------------------------------------------------------------------------
+
+module _ (j : Job) (losses n : ℕ) (waiting : List Waiting) (es ls : List Outcome) (h : 0 < length (place j losses (suc n) waiting es ls)) where
+  pub some-free : 0 < length (freeTasks j es waiting)
+  unfolding place
+  some-free = by (freeTasks j es waiting) refl
+    where
+      by : (fs : List Waiting) → freeTasks j es waiting ≡ fs → 0 < length fs
+      by [] e = absurd (omega (arith, rw (e, place) at h))
+      by (w ∷ ws) e = omega arith
+
+  -- The task of greatest rank among these is placed, and the others wait.
+  abbrev Turn : ℕ → List Waiting → Type 0
+  Turn d fs =
+      let t = bestOf d (map (ranked j es) fs) in
+      let cs = copiesOf j t (chosen j (losses + 1) (trial j es t)) in
+      let e = walk j least [] es cs in
+      let x = walk j largest [] ls cs in
+      place j losses (suc n) waiting es ls
+      ≡ record { task = t; replicas = replicas e x } ∷ place j losses n (keep (λ w. not (eqb (w .task) t)) waiting) (reverseAux e es) (reverseAux x ls)
+
+  pub place-turn : (d : ℕ) → Turn d (freeTasks j es waiting)
+  unfolding place criticalTask
+  place-turn d = by (freeTasks j es waiting) refl some-free
+    where
+      by : (fs : List Waiting) → freeTasks j es waiting ≡ fs → 0 < length fs → Turn d fs
+      by [] e g = absurd (omega arith)
+      by (w ∷ ws) e g = rw (e, place)
+
+-- A line's replicas -------------------------------------------------------------------------------------------------
+
+other-task : (u : ℕ) (d : Outcome) (ds : List Outcome) → (d .task ≡ u → ⊥) → ofTask u (d ∷ ds) ≡ ofTask u ds
+unfolding ofTask keep
+other-task u d ds h = rw (ne-eqb (d .task) u h)
+
+module _ (j : Job) (choose : List Time → Time) where
+  -- The outcome of t on p after what is placed.
+  abbrev pub outcomeOn : List Outcome → ℕ → ℕ → Outcome
+  outcomeOn placed t p = outcome (copyOf j t p) (finish j choose [] placed (copyOf j t p))
+
+  -- A replica that does not feed t, on another processor, changes nothing for t on p.
+  finish-other : (placed : List Outcome) (d : Outcome) (t p : ℕ) → ((e : Edge) → In e (incoming j t) → d .task ≡ e .from → ⊥) → (d .processor ≡ p → ⊥)
+      → finish j choose [] (d ∷ placed) (copyOf j t p) ≡ finish j choose [] placed (copyOf j t p)
+  unfolding finish start dataReady arrival ready
+  finish-other placed d t p h n =
+      let a : map (arrival j choose (d ∷ placed) p) (incoming j t) ≡ map (arrival j choose placed p) (incoming j t) =
+      map-same (arrival j choose (d ∷ placed) p) (arrival j choose placed p) (incoming j t) (λ e i. rw (other-task (e .from) d placed (h e i))) in
+      rw (ne-eqb (d .processor) p n, a)
+
+  -- The copies of a task that does not feed itself, on different processors: each as if it were alone.
+  pub walk-apart : (t : ℕ) → ((e : Edge) → In e (incoming j t) → t ≡ e .from → ⊥) → (ps : List ℕ) → distinct ps ≡ true → (placed : List Outcome)
+      → walk j choose [] placed (copiesOf j t ps) ≡ map (outcomeOn placed t) ps
+  unfolding walk
+  walk-apart t h [] d placed = refl
+  walk-apart t h (p ∷ ps) d placed =
+      let (new, apart) = apart-head p ps d in
+      ap (outcomeOn placed t p ∷_)
+      (walk-apart t h ps apart (outcomeOn placed t p ∷ placed)
+      ∙ map-same (outcomeOn (outcomeOn placed t p ∷ placed) t) (outcomeOn placed t) ps
+      (λ q i. ap (outcome (copyOf j t q)) (finish-other placed (outcomeOn placed t p) t q h (λ e. new (rw (← e) at i)))))
+
+pub replicas-map : (f g : ℕ → Outcome) (ps : List ℕ)
+    → replicas (map f ps) (map g ps) ≡ map (λ p. record { processor = f p .processor; early = tickOf (f p .time); late = tickOf (g p .time) }) ps
+unfolding replicas
+replicas-map f g [] = refl
+replicas-map f g (p ∷ ps) = ap₂ _∷_ refl (replicas-map f g ps)
+
+-- Times that come by a tick -----------------------------------------------------------------------------------------
+
+-- x is a tick that does not pass b.
+abbrev pub Comes : ℕ → Time → Type 0
+Comes b x = (y : ℕ) × (x ≡ tick y) × (y ≤ b)
+
+pub comes-wider : {b c : ℕ} {x : Time} → b ≤ c → Comes b x → Comes c x
+comes-wider h (y, e, l) = (y, e, omega arith)
+
+pub comes-after : {b : ℕ} {x : Time} (m n : ℕ) → n ≤ m → Comes b x → Comes (b + m) (after n x)
+comes-after m n h (y, e, l) = (y + n, rw e, omega arith)
+
+pub comes-later : {b : ℕ} {x y : Time} → Comes b x → Comes b y → Comes b (later x y)
+comes-later (x, e, l) (y, f, m) = (max x y, rw (e, f), omega arith)
+
+comes-sooner : {b : ℕ} {x y : Time} → Comes b x → Comes b y → Comes b (sooner x y)
+comes-sooner (x, e, l) (y, f, m) = (min x y, rw (e, f), omega arith)
+
+pub comes-largest : {A : Type 0} {b : ℕ} (f : A → Time) (xs : List A) → ((x : A) → In x xs → Comes b (f x)) → Comes b (largest (map f xs))
+unfolding largest
+comes-largest f [] h = (0, refl, omega arith)
+comes-largest f (x ∷ xs) h = comes-later (h x (inl refl)) (comes-largest f xs (λ y i. h y (inr i)))
+
+comes-least : {A : Type 0} {b : ℕ} (f : A → Time) (x : A) (xs : List A) → ((y : A) → In y (x ∷ xs) → Comes b (f y)) → Comes b (least (map f (x ∷ xs)))
+unfolding least
+comes-least f x [] h = let (y, e, l) = h x (inl refl) in (y, rw e, l)
+comes-least f x (z ∷ xs) h = comes-sooner (h x (inl refl)) (comes-least f z xs (λ y i. h y (inr i)))
+
+pub comes-choice : {A : Type 0} {b : ℕ} (late : Bool) (f : A → Time) (xs : List A) → 0 < length xs → ((x : A) → In x xs → Comes b (f x)) → Comes b (choiceOf late (map f xs))
+comes-choice late f [] h g = absurd (omega arith)
+comes-choice true f (x ∷ xs) h g = comes-largest f (x ∷ xs) g
+comes-choice false f (x ∷ xs) h g = comes-least f x xs g
+
+pub tick-back : {b : ℕ} {x : Time} → Comes b x → tick (tickOf x) ≡ x
+tick-back (y, e, l) = rw e
+
+pub tick-most : {b : ℕ} {x : Time} → Comes b x → tickOf x ≤ b
+tick-most (y, e, l) = rw e l
+
+-- The processors that are chosen ------------------------------------------------------------------------------------
+
+-- One of the w processors of least finish, of m.
+abbrev pub isChosen : List ℕ → ℕ → ℕ → ℕ → Bool
+isChosen finishes m w p = ltb (length (keep (goesBefore finishes p) (below m))) w
+
+pub chosen-same : (j : Job) (w : ℕ) (xs ys : List ℕ) → ((p : ℕ) → p < j .processors → nth xs p ≡ nth ys p)
+    → keep (isChosen xs (j .processors) w) (below (j .processors)) ≡ chosen j w ys
+unfolding chosen
+chosen-same j w xs ys h =
+    let m = j .processors in
+    keep-same (isChosen xs m w) (isChosen ys m w) (below m)
+    (λ p i. ap (λ (ps : List ℕ). ltb (length ps) w)
+    (keep-same (goesBefore xs p) (goesBefore ys p) (below m) (λ q k. rw (h p (in-below m p i), h q (in-below m q k)))))
+
+pub trial-nth : (j : Job) (placed : List Outcome) (t p : ℕ) → p < j .processors → nth (trial j placed t) p ≡ tickOf (finish j least [] placed (copyOf j t p))
+unfolding trial
+trial-nth j placed t p h =
+    let f : Copy → ℕ = λ c. tickOf (finish j least [] placed c) in
+    ap (λ (xs : List ℕ). nth xs p) (map-map f (copyOf j t) (below (j .processors))) ∙ nth-below (λ p. f (copyOf j t p)) (j .processors) p h
+
+count-most : (f : ℕ → Bool) (n k : ℕ) → length (keep f (below n)) ≤ length (keep f (below (n + k)))
+count-most f n zero = let e : n + 0 ≡ n = omega arith in rw e (omega arith)
+count-most f n (suc k) = let e : n + suc k ≡ n + k + 1 = omega arith in rw e (by (f (n + k)) refl (count-most f n k))
+  where
+    by : (b : Bool) → f (n + k) ≡ b → length (keep f (below n)) ≤ length (keep f (below (n + k))) → length (keep f (below n)) ≤ length (keep f (below (n + k + 1)))
+    by true e h = omega (arith, count-yes f (n + k) e)
+    by false e h = omega (arith, count-no f (n + k) e)
+
+-- While one more is chosen, fewer than w were.
+pub chosen-room : (j : Job) (xs : List ℕ) (w p : ℕ) → w ≤ j .processors → p < j .processors → isChosen xs (j .processors) w p ≡ true
+    → length (keep (isChosen xs (j .processors) w) (below p)) < w
+unfolding chosen
+chosen-room j xs w p h l e =
+    let f = isChosen xs (j .processors) w in
+    let n : p + 1 + (j .processors - (p + 1)) ≡ j .processors = omega arith in
+    let m = count-most f (p + 1) (j .processors - (p + 1)) in
+    let c : length (keep f (below (j .processors))) ≡ w = chosen-count j xs w h in
+    omega (arith, count-yes f p e, rw n at m)

@@ -1,0 +1,446 @@
+-- The memory while a plan is drawn up: its ticks, a line more, and what a change elsewhere leaves as it was.
+use mathlib.Core.Path.{_≡_, refl, ap, _∙_, sym}
+use mathlib.Core.Logic.{inl, inr, ⊎-elim}
+use mathlib.Core.List.{List, [], _∷_, _++_, map, map-map, map-append, reverse, reverseAux-append, append-nil}
+use mathlib.Core.Bool.{Bool, true, false, not, _&&_}
+use Prim.Native.Nat.{ℕ, zero, suc, _+_, _*_, _-_, _<_, _≤_}
+use native.Mathlib.Omega.{arith}
+use native.Mathlib.Nat.{mul-le-mul, add-zero}
+use native.Mathlib.Numerals.{add-one}
+use borrow.Author.Tests.{eqb-true, eqb-false, eq-eqb, ne-eqb, lt-ltb, not-true}
+use lib.Dec.{eqb, ltb}
+use lib.ListN.{length, set, length-append, length-map, length-set}
+use lib.Seq.{getD-set-same, getD-set-other}
+use Rattle.definitions.specs.Lists.{if_then_else_, In, nth, keep, all, has, below}
+use Rattle.definitions.specs.Limits.{document01}
+use Rattle.definitions.specs.Job.{Edge, Job, runTime, delay, incoming}
+use Rattle.definitions.specs.Plan.{Replica}
+use Rattle.definitions.specs.Times.{tick, later, after, Outcome, ready, arrival, dataReady, start, stopTime, finish}
+use Rattle.definitions.specs.Planner.{tickOf, Waiting, freeTasks, ranked, scale, topLevel, trial, replicas, place, planFor}
+use Rattle.definitions.proofs.Lists.{both, in-map, in-keep, map-same, map-keep, in-append, append-left, append-right, in-below, all-in}
+use Rattle.definitions.proofs.Tasks.{copyOf, in-incoming}
+use Rattle.definitions.proofs.Placing.{placed-count}
+use Rattle.jobs.specs.Layout.{memorySize, jobSize, levelAt, lineAt, blockedAt, priorityAt, rowAt, farAt}
+use Rattle.jobs.specs.Held.{jobIn}
+use Rattle.plans.specs.Lines.{neverCell, timeIn, rowOutcomes, placedIn, rowReplicas, linesIn, rowOf, Standing}
+use Rattle.rounds.specs.Schedule.{choiceOf, dataIn, topIn, FedIn, lineTicks, ShortTo}
+use Rattle.lists.specs.Kept.{KeptOutside}
+use Rattle.rounds.specs.Arrivals.{lastShort, BothFed, ShortClocks}
+use Rattle.ticks.specs.declared.clocks.Clocks.{Clocks}
+use Rattle.rounds.specs.Planning.{isFree, freeIn, bestOf, FreeList, waitingIn, earliesIn, latesIn, finishOn, replicaOn, ClocksHeld, Drawn, Ranked, Tried, boxesFor, Wrote, Begun}
+use Rattle.lists.proofs.Counting.{zero-or-more}
+use Rattle.jobs.proofs.Held.{tasks-in, processors-in, Sizes, sizes, job-same, linked-out-same}
+use Rattle.lists.proofs.Kept.{Same, same-part, same-before, same-behind, kept-all, kept-set, kept-then, kept-wider}
+use Rattle.plans.proofs.Lines.{placed-same, replicas-same, lines-same, standing-same}
+use Rattle.rounds.proofs.Tables.{levels-same, far-same}
+use Rattle.lists.proofs.Upward.{below-more, keep-yes, keep-no}
+use Rattle.rounds.proofs.TimeLaws.{time-tick}
+use Rattle.rounds.proofs.Placed.{has-placed, feeding-line, fed-all, start-placed, level-placed, FedBy}
+use Rattle.lists.proofs.ListLaws.{keep-same, keep-keep}
+use Rattle.rounds.proofs.DrawLaws.{isChosen, chosen-room, chosen-same, trial-nth, none-kept, some-free, best-in, waiting-from, Comes, comes-wider, comes-after, comes-later, comes-largest, comes-choice}
+use Rattle.lists.proofs.ListLaws.{all-same}
+
+-- The cells of a line -----------------------------------------------------------------------------------------------
+
+-- Replica c of a line, as its cells say.
+abbrev pub replicaAt : ℕ → ℕ → List ℕ → Replica
+replicaAt a c mem = record { processor = nth mem (a + (1 + 3 * c)); early = nth mem (a + (2 + 3 * c)); late = nth mem (a + (3 + 3 * c)) }
+
+pub in-replicas : (a n c : ℕ) (mem : List ℕ) → c < n → In (replicaAt a c mem) (rowReplicas a n mem)
+unfolding rowReplicas
+in-replicas a zero c mem h = absurd (omega arith)
+in-replicas a (suc n) c mem h = by (eqb c n) refl (in-replicas a n c mem)
+  where
+    by : (b : Bool) → eqb c n ≡ b → (c < n → In (replicaAt a c mem) (rowReplicas a n mem)) → In (replicaAt a c mem) (rowReplicas a n mem ++ replicaAt a n mem ∷ [])
+    by true e r = append-right (replicaAt a c mem) (rowReplicas a n mem) (replicaAt a n mem ∷ []) (rw (eqb-true c n e) (inl refl))
+    by false e r = let q = eqb-false c n e in append-left (replicaAt a c mem) (rowReplicas a n mem) (replicaAt a n mem ∷ []) (r (omega arith))
+
+-- The outcome of a line's replica, early or late.
+abbrev pub outcomeOf : Bool → ℕ → Replica → Outcome
+outcomeOf late t r = record { task = t; processor = r .processor; time = timeIn (if late then r .late else r .early) }
+
+pub outcomes-row : (late : Bool) (a c : ℕ) (mem : List ℕ) → rowOutcomes late a c mem ≡ reverse (map (outcomeOf late (nth mem a)) (rowReplicas a c mem))
+unfolding rowOutcomes rowReplicas
+outcomes-row late a zero mem = refl
+outcomes-row late a (suc c) mem =
+    let f = outcomeOf late (nth mem a) in
+    let xs = rowReplicas a c mem in
+    let r = replicaAt a c mem in
+    let back : reverse (map f (xs ++ r ∷ [])) ≡ f r ∷ reverse (map f xs) = rw (map-append f xs (r ∷ [])) (reverseAux-append (map f xs) (f r ∷ []) []) in
+    rw (back, outcomes-row late a c mem) (by late)
+  where
+    by : (late : Bool)
+        → _≡_ {A = List Outcome} (record { task = nth mem a; processor = nth mem (a + (1 + 3 * c)); time = timeIn (nth mem (a + ((if late then 3 else 2) + 3 * c))) }
+        ∷ reverse (map (outcomeOf late (nth mem a)) (rowReplicas a c mem)))
+        (outcomeOf late (nth mem a) (replicaAt a c mem) ∷ reverse (map (outcomeOf late (nth mem a)) (rowReplicas a c mem)))
+    by true = refl
+    by false = refl
+
+-- The ticks of lines ------------------------------------------------------------------------------------------------
+
+-- Every outcome comes by a tick that does not pass b.
+abbrev pub AllCome : ℕ → List Outcome → Type 0
+AllCome b ds = (d : Outcome) → In d ds → Comes b (d .time)
+
+time-back : (x b : ℕ) → x ≤ b → b < neverCell → Comes b (timeIn x)
+time-back x b h g = (x, time-tick x (λ e. omega arith), h)
+
+row-come : (late : Bool) (a c b : ℕ) (mem : List ℕ) → b < neverCell → ((i : ℕ) → i < c → nth mem (a + ((if late then 3 else 2) + 3 * i)) ≤ b) → AllCome b (rowOutcomes late a c mem)
+unfolding rowOutcomes
+row-come late a (suc c) b mem g h d (inl e) = rw (← e) (time-back (nth mem (a + ((if late then 3 else 2) + 3 * c))) b (h c (omega arith)) g)
+row-come late a (suc c) b mem g h d (inr i) = row-come late a c b mem g (λ i l. h i (omega arith)) d i
+
+pub placed-come : (rooms : ℕ) (late : Bool) (w k b : ℕ) (mem : List ℕ) → b < neverCell → ((i c : ℕ) → i < k → c < w → nth mem (rowAt rooms i + ((if late then 3 else 2) + 3 * c)) ≤ b) → AllCome b (placedIn rooms late w k mem)
+unfolding placedIn
+placed-come rooms late w (suc k) b mem g h d i =
+    ⊎-elim (row-come late (rowAt rooms k) w b mem g (λ c l. h k c (omega arith) l) d) (placed-come rooms late w k b mem g (λ i c l m. h i c (omega arith) m) d)
+    (in-append d (rowOutcomes late (rowAt rooms k) w mem) (placedIn rooms late w k mem) i)
+
+pub ready-comes : (j : Job) (p b : ℕ) (ds : List Outcome) → AllCome b ds → Comes b (ready j p ds)
+unfolding ready
+ready-comes j p b [] h = (0, refl, omega arith)
+ready-comes j p b (d ∷ ds) h = by (eqb (d .processor) p) (ready-comes j p b ds (λ x i. h x (inr i)))
+  where
+    by : (a : Bool) → Comes b (ready j p ds) → Comes b (if a then d .time else ready j p ds)
+    by true r = h d (inl refl)
+    by false r = r
+
+row-length : (late : Bool) (a c : ℕ) (mem : List ℕ) → length (rowOutcomes late a c mem) ≡ c
+unfolding rowOutcomes
+row-length late a zero mem = refl
+row-length late a (suc c) mem = ap suc (row-length late a c mem)
+
+pub row-on : (late : Bool) (a c m : ℕ) (mem : List ℕ) → ((i : ℕ) → i < c → nth mem (a + (1 + 3 * i)) < m) → (d : Outcome) → In d (rowOutcomes late a c mem) → d .processor < m
+unfolding rowOutcomes
+row-on late a (suc c) m mem h d (inl e) = rw (← e) (h c (omega arith))
+row-on late a (suc c) m mem h d (inr i) = row-on late a c m mem (λ i l. h i (omega arith)) d i
+
+-- From the tick at which p is ready: the finish of t on p is that of the definition.
+pub finish-at : {rooms n k : ℕ} {mem : List ℕ} → Standing rooms n mem → k ≤ n → (late : Bool) (t p x : ℕ) → FedBy rooms k t mem
+    → tick x ≡ ready (jobIn mem) p (placedIn rooms late (nth mem 3 + 1) k mem)
+    → after (runTime (jobIn mem) t p) (later (tick x) (dataIn rooms late t p mem)) ≡ finishOn rooms late k mem t p
+unfolding finishOn finish stopTime
+finish-at {k = k} s l late t p x f e = rw (e, start-placed s k t l f late p)
+
+-- The first k lines have ticks that do not pass k times those of a line.
+module _ {rooms n k : ℕ} {mem : List ℕ} (s : Standing rooms n mem) (l : k ≤ n) (h : ShortTo rooms k mem) where
+  -- So they are short.
+  pub short-most : k * lineTicks ≤ lastShort
+  short-most = let w = sizes (s .job) in let c = s .count in omega arith
+
+  pub cells-most : (late : Bool) (i c : ℕ) → i < k → c < nth mem 3 + 1 → nth mem (rowAt rooms i + ((if late then 3 else 2) + 3 * c)) ≤ k * lineTicks
+  cells-most true i c g m = h i c g m .1
+  cells-most false i c g m = h i c g m .0
+
+  pub all-come : (late : Bool) → AllCome (k * lineTicks) (placedIn rooms late (nth mem 3 + 1) k mem)
+  all-come late = let f = short-most in placed-come rooms late (nth mem 3 + 1) k (k * lineTicks) mem (omega arith) (cells-most late)
+
+  -- A processor's ready tick.
+  clock-most : (late : Bool) (p x : ℕ) → tick x ≡ ready (jobIn mem) p (placedIn rooms late (nth mem 3 + 1) k mem) → x ≤ lastShort
+  clock-most late p x e =
+      let (y, f, m) = ready-comes (jobIn mem) p (k * lineTicks) (placedIn rooms late (nth mem 3 + 1) k mem) (all-come late) in
+      let q : x ≡ y = ap tickOf (e ∙ f) in
+      omega (arith, short-most)
+
+  -- The clocks have short ticks.
+  pub clocks-short : {clocks : Clocks} → ClocksHeld clocks (jobIn mem) (earliesIn rooms k mem) (latesIn rooms k mem) → ShortClocks clocks mem
+  clocks-short {clocks} c =
+      record {
+        early-size = c .early-size;
+        late-size = c .late-size;
+        early-short = λ p l. clock-most false p (nth (clocks .early) p) (c .early-ready p (rw (processors-in mem) l));
+        late-short = λ p l. clock-most true p (nth (clocks .late) p) (c .late-ready p (rw (processors-in mem) l));
+      }
+
+  -- The lines of a task's predecessors have short ticks.
+  pub fed-short : (t : ℕ) → FedBy rooms k t mem → BothFed rooms t mem
+  fed-short t f e i =
+      let (g, m) = f e i in
+      let b = short-most in
+      (g, λ c o. let (x, y) = h (nth mem (lineAt rooms + e .from) - 1) c (omega arith) o in (omega arith, omega arith))
+
+module _ {rooms k : ℕ} {mem : List ℕ} (s : Drawn rooms k mem) where
+  abbrev wide : ℕ
+  wide = nth mem 3 + 1
+
+  -- The top level of a task whose predecessors are placed is that of the definition.
+  pub top-here : (t : ℕ) → FedIn rooms t mem → tickOf (topIn rooms t mem) * scale (jobIn mem) ≡ topLevel (jobIn mem) (earliesIn rooms k mem) t
+  top-here t f = sym (level-placed (s .standing) k t (omega arith) (fed-all (s .standing) t f) (s .far))
+
+  module _ (t p : ℕ) (f : FedIn rooms t mem) (ht : t < nth mem 0) (hp : p < nth mem 1) where
+    -- The data of one predecessor comes a message after its replicas.
+    arrival-comes : (late : Bool) (e : Edge) → In e (incoming (jobIn mem) t) → Comes (k * lineTicks + 1044225) (arrival (jobIn mem) (choiceOf late) (placedIn rooms late wide k mem) p e)
+    unfolding arrival
+    arrival-comes late e i =
+        let b = fed-all (s .standing) t f in
+        let (l, m) = b e i in
+        let a = rowOf rooms (e .from) mem in
+        let n = nth mem (lineAt rooms + e .from) - 1 in
+        let g : n < k = omega arith in
+        let (o, _) = in-incoming (jobIn mem) t e i in
+        rw (feeding-line (s .standing) k t (omega arith) b late e i)
+        (comes-choice late (λ d. after (e .volume * delay (jobIn mem) (d .processor) p) (d .time)) (rowOutcomes late a wide mem) (omega (arith, row-length late a wide mem)) (λ d i.
+        comes-after 1044225 (e .volume * delay (jobIn mem) (d .processor) p)
+        (mul-le-mul {n₁ = e .volume} {m₁ = delay (jobIn mem) (d .processor) p} {n₂ = 4095} {m₂ = 255} (s .standing .job .facts .volume-most e o)
+        (s .standing .job .facts .delay-most (d .processor) p (rw (processors-in mem) (row-on late a wide (nth mem 1) mem (s .standing .row n g .processor-of) d i)) (rw (processors-in mem) hp)))
+        (row-come late a wide (k * lineTicks) mem (omega (arith, short-most (s .standing) (omega arith) (s .ticks))) (λ c h. cells-most (s .standing) (omega arith) (s .ticks) late n c g h) d i)))
+
+    -- The finish of t on p.
+    pub finish-comes : (late : Bool) → Comes (k * lineTicks + lineTicks) (finish (jobIn mem) (choiceOf late) [] (placedIn rooms late wide k mem) (copyOf (jobIn mem) t p))
+    unfolding finish start dataReady stopTime
+    finish-comes late =
+        let r = s .standing .job .facts .run-most t p (rw (tasks-in mem) ht) (rw (processors-in mem) hp) in
+        let d = comes-largest (arrival (jobIn mem) (choiceOf late) (placedIn rooms late wide k mem) p) (incoming (jobIn mem) t) (arrival-comes late) in
+        let a = comes-wider {c = k * lineTicks + 1044225} (omega arith) (ready-comes (jobIn mem) p (k * lineTicks) (placedIn rooms late wide k mem) (all-come (s .standing) (omega arith) (s .ticks) late)) in
+        comes-wider (omega arith) (comes-after 1000000 (runTime (jobIn mem) t p) r (comes-later a d))
+
+-- What a change elsewhere leaves as it was --------------------------------------------------------------------------
+
+-- Task t as it waits.
+abbrev pub waitingAt : ℕ → List ℕ → ℕ → Waiting
+waitingAt rooms mem t = record { task = t; bottom = nth mem (levelAt rooms + t) }
+
+pub waiting-map : (rooms : ℕ) (mem : List ℕ) → waitingIn rooms mem ≡ map (waitingAt rooms mem) (keep (λ t. eqb (nth mem (lineAt rooms + t)) 0) (below (nth mem 0)))
+unfolding waitingIn
+waiting-map rooms mem =
+    rw (waiting-from (λ t. nth mem (levelAt rooms + t)) 0 (nth mem 0))
+    (sym (map-keep (waitingAt rooms mem) (λ w. eqb (nth mem (lineAt rooms + w .task)) 0) (below (nth mem 0))))
+
+module _ {rooms : ℕ} {d e : List ℕ} (w : Sizes rooms d) (j : Same 0 (blockedAt rooms) d e) where
+  waiting-same : waitingIn rooms e ≡ waitingIn rooms d
+  waiting-same =
+      let v : nth e 0 ≡ nth d 0 = j .cell 0 (omega arith) (omega arith) in
+      let low : (t : ℕ) → In t (below (nth d 0)) → t < nth d 0 = in-below (nth d 0) in
+      let kept = keep (λ t. eqb (nth d (lineAt rooms + t)) 0) (below (nth d 0)) in
+      waiting-map rooms e
+      ∙ rw (v, keep-same (λ t. eqb (nth e (lineAt rooms + t)) 0) (λ t. eqb (nth d (lineAt rooms + t)) 0) (below (nth d 0)) (λ t i. rw (j .cell (lineAt rooms + t) (omega arith) (omega (arith, low t i)))))
+      (map-same (waitingAt rooms e) (waitingAt rooms d) kept
+      (λ t i. rw (j .cell (levelAt rooms + t) (omega arith) (omega (arith, low t (in-keep (λ t. eqb (nth d (lineAt rooms + t)) 0) t (below (nth d 0)) i .0))))))
+      ∙ sym (waiting-map rooms d)
+
+-- The job with its links and levels, the table of lines, the first k lines and the table of largest delays are as they were.
+drawn-same : {rooms k : ℕ} {d e : List ℕ} → length e ≡ length d → Same 0 (blockedAt rooms) d e → Same (rowAt rooms 0) (rowAt rooms k) d e → Same (farAt rooms) (memorySize rooms) d e → Drawn rooms k d → Drawn rooms k e
+drawn-same {rooms} {k} {d} {e} z j r f s =
+    let h = s .standing .job in
+    let w = sizes h in
+    let a : Same 0 (jobSize rooms) d e = same-part 0 (jobSize rooms) j (omega arith) (omega arith) in
+    let b : Same 0 (levelAt rooms) d e = same-part 0 (levelAt rooms) j (omega arith) (omega arith) in
+    let v : nth e 0 ≡ nth d 0 = j .cell 0 (omega arith) (omega arith) in
+    let l : nth e 3 ≡ nth d 3 = j .cell 3 (omega arith) (omega arith) in
+    let c = s .standing .count in
+    let few : nth d 3 + 1 ≤ 8 = omega (arith, w .losses-most) in
+    record {
+      standing = standing-same z b (same-part (lineAt rooms) (blockedAt rooms) j (omega arith) (omega arith)) r (s .standing);
+      linked = linked-out-same h b (s .linked);
+      far = far-same h a f (s .far);
+      levels = levels-same h a (same-part (levelAt rooms) (lineAt rooms) j (omega arith) (omega arith)) (s .levels);
+      ticks = λ i c g m.
+          let n : c < nth d 3 + 1 = rw l at m in
+          let (x, y) = s .ticks i c g n in
+          (rw (r .cell (rowAt rooms i + (2 + 3 * c)) (omega arith) (omega arith)) x, rw (r .cell (rowAt rooms i + (3 + 3 * c)) (omega arith) (omega arith)) y);
+      rest = rw (l, v, job-same w a, waiting-same w j, lines-same d e rooms (nth d 3 + 1) k few r, placed-same d e rooms false (nth d 3 + 1) k few r, placed-same d e rooms true (nth d 3 + 1) k few r) (s .rest);
+    }
+
+-- A change among what serves the choice of a task.
+pub drawn-choice : {rooms k low high : ℕ} {d e : List ℕ} → KeptOutside low high d e → Drawn rooms k d → blockedAt rooms ≤ low → high ≤ rowAt rooms 0 → Drawn rooms k e
+drawn-choice {rooms} {k} c s a b = drawn-same (c .size) (same-before 0 (blockedAt rooms) c a) (same-behind (rowAt rooms 0) (rowAt rooms k) c b) (same-behind (farAt rooms) (memorySize rooms) c (omega arith)) s
+
+-- The clocks, when what serves the choice of a task changes.
+pub clocks-choice : {rooms k : ℕ} {d e : List ℕ} {clocks : Clocks} → KeptOutside (blockedAt rooms) (rowAt rooms 0) d e → Drawn rooms k d → ClocksHeld clocks (jobIn d) (earliesIn rooms k d) (latesIn rooms k d)
+    → ClocksHeld clocks (jobIn e) (earliesIn rooms k e) (latesIn rooms k e)
+clocks-choice {rooms} {k} {d} {e} c s h =
+    let w = sizes (s .standing .job) in
+    let r : Same (rowAt rooms 0) (rowAt rooms k) d e = same-behind (rowAt rooms 0) (rowAt rooms k) c (omega arith) in
+    let few : nth d 3 + 1 ≤ 8 = omega (arith, w .losses-most) in
+    rw (job-same w (same-before 0 (jobSize rooms) c (omega arith)), c .before 3 (omega arith), placed-same d e rooms false (nth d 3 + 1) k few r, placed-same d e rooms true (nth d 3 + 1) k few r) h
+
+-- A line that is begun ----------------------------------------------------------------------------------------------
+
+pub wrote : (a c p early late : ℕ) (d : List ℕ) → a + (4 + 3 * c) ≤ length d
+    → Wrote a c p early late d (set (set (set d (a + (1 + 3 * c)) p) (a + (2 + 3 * c)) early) (a + (3 + 3 * c)) late)
+wrote a c p early late d h =
+    let one = set d (a + (1 + 3 * c)) p in
+    let two = set one (a + (2 + 3 * c)) early in
+    let x : length one ≡ length d = length-set d (a + (1 + 3 * c)) p in
+    let y : length two ≡ length one = length-set one (a + (2 + 3 * c)) early in
+    record {
+      kept = kept-set (a + (3 + 3 * c)) late (kept-set (a + (2 + 3 * c)) early (kept-set (a + (1 + 3 * c)) p kept-all (omega arith) (omega arith)) (omega arith) (omega arith)) (omega arith) (omega arith);
+      processor = getD-set-other two (a + (3 + 3 * c)) (a + (1 + 3 * c)) late 0 (λ q. omega arith) ∙ getD-set-other one (a + (2 + 3 * c)) (a + (1 + 3 * c)) early 0 (λ q. omega arith) ∙ getD-set-same d (a + (1 + 3 * c)) p 0 (omega arith);
+      early-finish = getD-set-other two (a + (3 + 3 * c)) (a + (2 + 3 * c)) late 0 (λ q. omega arith) ∙ getD-set-same one (a + (2 + 3 * c)) early 0 (omega arith);
+      late-finish = getD-set-same two (a + (3 + 3 * c)) late 0 (omega arith);
+    }
+
+module _ {k t : ℕ} {d : List ℕ} where
+  pub begun-none : {rooms : ℕ} → Begun rooms k t [] d d
+  unfolding rowReplicas
+  begun-none = record { kept = kept-all; replicas = refl }
+
+  -- One replica more.
+  begun-more : {rooms : ℕ} {ps : List ℕ} {mem e : List ℕ} → Begun rooms k t ps d mem → (p x y : ℕ) → Wrote (rowAt rooms k) (length ps) p x y mem e
+      → tick x ≡ finishOn rooms false k d t p → tick y ≡ finishOn rooms true k d t p → k < 8 * rooms → length ps < 8 → Begun rooms k t (ps ++ p ∷ []) d e
+  unfolding rowReplicas
+  begun-more {rooms} {ps} {mem} {e} b p x y f early late hk few =
+      let a = rowAt rooms k in
+      let c = length ps in
+      let n : length (ps ++ p ∷ []) ≡ suc c = length-append ps (p ∷ []) ∙ add-one c in
+      let r : replicaAt a c e ≡ replicaOn rooms k d t p = rw (f .processor, f .early-finish, f .late-finish, ← early, ← late) in
+      record {
+        kept = kept-then (b .kept) (kept-wider (rowAt rooms k) (farAt rooms) (f .kept) (omega arith) (omega arith));
+        replicas = rw (n, replicas-same mem e a c (same-before a (a + (1 + 3 * c)) (f .kept) (omega arith)), r, b .replicas) (sym (map-append (replicaOn rooms k d t) ps (p ∷ [])));
+      }
+
+-- Processor by processor.
+module _ {rooms k t : ℕ} {early late : List ℕ} {d : List ℕ} (o : Tried rooms k t early late d) where
+  -- The processors that are chosen.
+  abbrev takes : ℕ → Bool
+  takes = isChosen early (nth d 1) (nth d 3 + 1)
+
+  few-tasks : k < 8 * rooms
+  few-tasks = omega (arith, o .more, sizes (o .drawn .standing .job) .tasks-most)
+
+  module _ {p c : ℕ} {mem : List ℕ} (l : p < nth d 1) (n : c ≡ length (keep takes (below p))) (b : Begun rooms k t (keep takes (below p)) d mem) where
+    pub pass-box : takes p ≡ false → (c ≡ length (keep takes (below (p + 1)))) × Begun rooms k t (keep takes (below (p + 1))) d mem
+    pass-box f = rw (below-more p, keep-no takes (below p) p f) (n, b)
+
+    module _ (f : takes p ≡ true) where
+      pub box-room : c < 8
+      unfolding jobIn
+      box-room = let w = sizes (o .drawn .standing .job) in omega (arith, chosen-room (jobIn d) early (nth d 3 + 1) p (w .enough) l f)
+
+      pub box-within : rowAt rooms k + (4 + 3 * c) ≤ length mem
+      box-within = omega (arith, few-tasks, box-room, b .kept .size, o .drawn .standing .job .size)
+
+      pub take-box : {e : List ℕ} → Wrote (rowAt rooms k) c p (nth early p) (nth late p) mem e
+          → (c + 1 ≡ length (keep takes (below (p + 1)))) × Begun rooms k t (keep takes (below (p + 1))) d e
+      take-box a =
+          let ps = keep takes (below p) in
+          let m : length ps < 8 = omega (arith, box-room) in
+          rw (below-more p, keep-yes takes (below p) p f) (
+            ap (λ (i : ℕ). i + 1) n ∙ sym (length-append ps (p ∷ [])),
+            begun-more b p (nth early p) (nth late p) (rw n at a) (o .early-finishes p l) (o .late-finishes p l) few-tasks m,
+          )
+
+  -- All processors have been asked.
+  pub boxes-taken : {p : ℕ} {mem : List ℕ} → p ≡ nth d 1 → Begun rooms k t (keep takes (below p)) d mem → Begun rooms k t (boxesFor rooms k t d) d mem
+  unfolding jobIn finishOn
+  boxes-taken {p} {mem} e b =
+      let same = chosen-same (jobIn d) (nth d 3 + 1) early (trial (jobIn d) (earliesIn rooms k d) t) (λ q l. ap tickOf (o .early-finishes q l) ∙ sym (trial-nth (jobIn d) (earliesIn rooms k d) t q l)) in
+      rw (← same) (rw e at b)
+
+-- The free tasks ----------------------------------------------------------------------------------------------------
+
+-- A task that no edge blocks has its predecessors placed.
+pub fed-none : (rooms : ℕ) (t : ℕ) (mem : List ℕ) → length (keep (λ e. eqb (nth mem (lineAt rooms + e .from)) 0) (incoming (jobIn mem) t)) ≡ 0 → FedIn rooms t mem
+fed-none rooms t mem h e i =
+    let blocks : Edge → Bool = λ e. eqb (nth mem (lineAt rooms + e .from)) 0 in
+    let every : all (λ e. not (blocks e)) (incoming (jobIn mem) t) ≡ true = sym (none-kept blocks (incoming (jobIn mem) t)) ∙ eq-eqb (length (keep blocks (incoming (jobIn mem) t))) 0 h in
+    let n = eqb-false (nth mem (lineAt rooms + e .from)) 0 (not-true (blocks e) (all-in (λ e. not (blocks e)) e (incoming (jobIn mem) t) every i)) in
+    ⊎-elim (λ z. absurd (n z)) (λ l. l) (zero-or-more (nth mem (lineAt rooms + e .from)))
+
+some-test : (x : ℕ) → ltb 0 x ≡ not (eqb x 0)
+some-test x = ⊎-elim (λ (e : x ≡ 0). rw e) (λ h. lt-ltb 0 x h ∙ sym (ap not (ne-eqb x 0 (λ e. omega arith)))) (zero-or-more x)
+
+module _ {rooms k : ℕ} {mem : List ℕ} (s : Drawn rooms k mem) (r : Ranked rooms [] mem) where
+  -- A task's predecessors are all placed exactly if no edge blocks it.
+  fed-test : (t : ℕ) → t < nth mem 0 → all (λ e. has (e .from) (map (λ d. d .task) (earliesIn rooms k mem))) (incoming (jobIn mem) t) ≡ eqb (nth mem (blockedAt rooms + t)) 0
+  unfolding keep
+  fed-test t h =
+      let blocks : Edge → Bool = λ e. eqb (nth mem (lineAt rooms + e .from)) 0 in
+      let n : nth mem (blockedAt rooms + t) ≡ length (keep blocks (incoming (jobIn mem) t)) = r .blocked t h ∙ add-zero (length (keep blocks (incoming (jobIn mem) t))) in
+      all-same (λ e. has (e .from) (map (λ d. d .task) (earliesIn rooms k mem))) (λ e. not (blocks e)) (incoming (jobIn mem) t)
+      (λ e i. has-placed (s .standing) false (nth mem 3 + 1) (e .from) (omega arith) (rw (tasks-in mem) at (s .standing .job .facts .from-task e (in-incoming (jobIn mem) t e i .0))) ∙ some-test (nth mem (lineAt rooms + e .from)))
+      ∙ sym (none-kept blocks (incoming (jobIn mem) t)) ∙ ap (λ (x : ℕ). eqb x 0) (sym n)
+
+  free-tasks : freeTasks (jobIn mem) (earliesIn rooms k mem) (waitingIn rooms mem) ≡ map (waitingAt rooms mem) (keep (isFree rooms mem) (below (nth mem 0)))
+  unfolding freeTasks
+  free-tasks =
+      let fed : Waiting → Bool = λ w. all (λ e. has (e .from) (map (λ d. d .task) (earliesIn rooms k mem))) (incoming (jobIn mem) (w .task)) in
+      let waits : ℕ → Bool = λ t. eqb (nth mem (lineAt rooms + t)) 0 in
+      let ts = below (nth mem 0) in
+      ap (keep fed) (waiting-map rooms mem) ∙ sym (map-keep (waitingAt rooms mem) fed (keep waits ts))
+      ∙ ap (map (waitingAt rooms mem))
+      (keep-keep (λ t. fed (waitingAt rooms mem t)) waits ts
+      ∙ keep-same (λ t. waits t && fed (waitingAt rooms mem t)) (isFree rooms mem) ts (λ t i. ap (λ (b : Bool). waits t && b) (fed-test t (in-below (nth mem 0) t i))))
+
+  -- A free task has its predecessors placed.
+  pub free-fed : (t : ℕ) → t < nth mem 0 → isFree rooms mem t ≡ true → FedIn rooms t mem
+  free-fed t l f =
+      let z = eqb-true (nth mem (blockedAt rooms + t)) 0 (both (eqb (nth mem (lineAt rooms + t)) 0) (eqb (nth mem (blockedAt rooms + t)) 0) f .1) in
+      fed-none rooms t mem (omega (arith, r .blocked t l))
+
+  pub free-ranked : map (ranked (jobIn mem) (earliesIn rooms k mem)) (freeTasks (jobIn mem) (earliesIn rooms k mem) (waitingIn rooms mem)) ≡ freeIn rooms mem
+  unfolding freeIn ranked
+  free-ranked =
+      let ts = keep (isFree rooms mem) (below (nth mem 0)) in
+      ap (map (ranked (jobIn mem) (earliesIn rooms k mem))) free-tasks
+      ∙ map-map (ranked (jobIn mem) (earliesIn rooms k mem)) (waitingAt rooms mem) ts
+      ∙ map-same (λ t. ranked (jobIn mem) (earliesIn rooms k mem) (waitingAt rooms mem t)) (λ t. (t, nth mem (priorityAt rooms + t))) ts
+      (λ t i.
+      let (a, b) = in-keep (isFree rooms mem) t (below (nth mem 0)) i in
+      let l = in-below (nth mem 0) t a in
+      ap (λ (x : ℕ). (t, x)) (sym (r .priorities t l b ∙ ap (λ (x : ℕ). x + nth mem (levelAt rooms + t)) (top-here s t (free-fed t l b)))))
+
+lines-length : (rooms : ℕ) (w k : ℕ) (mem : List ℕ) → length (linesIn rooms w k mem) ≡ k
+unfolding linesIn
+lines-length rooms w zero mem = refl
+lines-length rooms w (suc k) mem = length-append (linesIn rooms w k mem) _ ∙ ap (_+ 1) (lines-length rooms w k mem) ∙ add-one k
+
+module _ {rooms k : ℕ} {mem : List ℕ} (s : Drawn rooms k mem) (h : k < nth mem 0) where
+  -- The lines that are still to be placed.
+  abbrev left : ℕ
+  left = nth mem 0 - (k + 1)
+
+  turns : nth mem 0 - k ≡ suc left
+  turns = omega arith
+
+  pub rest-here : linesIn rooms (nth mem 3 + 1) k mem ++ place (jobIn mem) (nth mem 3) (suc left) (waitingIn rooms mem) (earliesIn rooms k mem) (latesIn rooms k mem) ≡ planFor (jobIn mem) (nth mem 3) .lines
+  rest-here = rw turns at (s .rest)
+
+  pub lines-left : 0 < length (place (jobIn mem) (nth mem 3) (suc left) (waitingIn rooms mem) (earliesIn rooms k mem) (latesIn rooms k mem))
+  unfolding jobIn
+  lines-left =
+      let all = place (jobIn mem) (nth mem 3) (suc left) (waitingIn rooms mem) (earliesIn rooms k mem) (latesIn rooms k mem) in
+      let n : length (linesIn rooms (nth mem 3 + 1) k mem) + length all ≡ nth mem 0 =
+      sym (length-append (linesIn rooms (nth mem 3 + 1) k mem) all) ∙ ap length rest-here ∙ placed-count document01 (jobIn mem) (s .standing .job .facts) in
+      omega (arith, lines-length rooms (nth mem 3 + 1) k mem)
+
+  -- Some task is free.
+  frees : Ranked rooms [] mem → 0 < length (freeIn rooms mem)
+  frees r =
+      let some = some-free (jobIn mem) (nth mem 3) left (waitingIn rooms mem) (earliesIn rooms k mem) (latesIn rooms k mem) lines-left in
+      let n = length-map (freeTasks (jobIn mem) (earliesIn rooms k mem) (waitingIn rooms mem)) (ranked (jobIn mem) (earliesIn rooms k mem)) in
+      rw (← free-ranked s r, n) some
+
+  -- The task that is chosen.
+  module _ (r : Ranked rooms [] mem) (t : ℕ) (e : t ≡ bestOf (nth mem 0) (freeIn rooms mem)) where
+    free : In t (keep (isFree rooms mem) (below (nth mem 0)))
+    unfolding freeIn
+    free =
+        let more = frees r in
+        let (x, i, f) = in-map (λ y. y .0) t (freeIn rooms mem) (rw e (best-in (nth mem 0) (freeIn rooms mem) more)) in
+        let (u, o, g) = in-map (λ t. (t, nth mem (priorityAt rooms + t))) x (keep (isFree rooms mem) (below (nth mem 0))) i in
+        let q : u ≡ t = ap (λ y. y .0) g ∙ f in
+        rw q at o
+
+    pub task-below : t < nth mem 0
+    task-below = in-below (nth mem 0) t (in-keep (isFree rooms mem) t (below (nth mem 0)) free .0)
+
+    pub task-waits : nth mem (lineAt rooms + t) ≡ 0
+    task-waits = eqb-true (nth mem (lineAt rooms + t)) 0 (both (eqb (nth mem (lineAt rooms + t)) 0) (eqb (nth mem (blockedAt rooms + t)) 0) (in-keep (isFree rooms mem) t (below (nth mem 0)) free .1) .0)
+
+    pub task-fed : FedIn rooms t mem
+    task-fed = free-fed s r t task-below (in-keep (isFree rooms mem) t (below (nth mem 0)) free .1)
+
+  -- The list of free tasks is not empty.
+  pub listed-some : Ranked rooms [] mem → (cells : List ℕ) (n : ℕ) → FreeList rooms cells n mem → 0 < n
+  listed-some r cells n f =
+      let t = bestOf (nth mem 0) (freeIn rooms mem) in
+      let (k, l, e) = f .tasks .every t (task-below r t refl) (in-keep (isFree rooms mem) t (below (nth mem 0)) (free r t refl) .1) in
+      omega arith
+
+-- With a line for each task the lines are the plan's.
+pub drawn-lines : {rooms : ℕ} {mem : List ℕ} → Drawn rooms (nth mem 0) mem → linesIn rooms (nth mem 3 + 1) (nth mem 0) mem ≡ planFor (jobIn mem) (nth mem 3) .lines
+unfolding place
+drawn-lines {rooms} {mem} s =
+    let none : nth mem 0 - nth mem 0 ≡ 0 = omega arith in
+    sym (append-nil (linesIn rooms (nth mem 3 + 1) (nth mem 0) mem)) ∙ (rw none at (s .rest))

@@ -1,0 +1,160 @@
+-- M* and M of a plan whose ticks are the equations', and the checker's answer.
+use mathlib.Core.Path.{_≡_, refl, ap, _∙_, sym}
+use mathlib.Core.Logic.{_⊎_, ⊎-elim}
+use mathlib.Core.List.{List, [], _∷_, reverse, reverseAux}
+use mathlib.Core.Bool.{Bool, true, false}
+use Prim.Native.Nat.{ℕ, _+_, _<_, _≤_, min}
+use native.Mathlib.Omega.{arith}
+use borrow.Author.Tests.{eqb-true, eq-eqb, ne-eqb}
+use lib.Dec.{eqb}
+use Rattle.definitions.specs.Lists.{if_then_else_, nth, In, keep}
+use Rattle.definitions.specs.Limits.{document01}
+use Rattle.definitions.specs.Text.{firstOf, good}
+use Rattle.definitions.specs.Job.{Job}
+use Rattle.definitions.specs.Plan.{Plan}
+use Rattle.definitions.specs.Times.{Time, tick, never, later, sooner, same, least, largest, Outcome, ofTask, times, earlies, lates, exits, end, bestEnd, worstEnd}
+use Rattle.definitions.specs.Refusals.{doubledTasks, ticksAgree, endsAgree, planRefusal}
+use Rattle.definitions.specs.Tools.{verdictFor}
+use Rattle.definitions.proofs.Lists.{map-same, in-some}
+use Rattle.jobs.specs.Layout.{rowAt, bestAt, worstAt}
+use Rattle.jobs.specs.Held.{jobIn}
+use Rattle.plans.specs.Lines.{neverCell, timeIn, placedIn}
+use Rattle.rounds.specs.Schedule.{choiceOf}
+use Rattle.plans.specs.Loading.{planIn}
+use Rattle.plans.specs.Loading.{PlanHeld}
+use Rattle.rounds.specs.Verdicts.{Judged}
+use Rattle.rounds.specs.declared.Checked.the-variants.{Accepted, Doubled, Refused}
+use Rattle.rounds.proofs.TimeLaws.{later-comm, later-assoc, later-zero}
+use Rattle.rounds.proofs.AgreeLaws.{agreed-walk, ticks-all}
+
+-- The choice among times, in whatever order -----------------------------------------------------------------------
+
+sooner-comm : (x y : Time) → sooner x y ≡ sooner y x
+sooner-comm (tick x) (tick y) = let e : min x y ≡ min y x = omega arith in ap tick e
+sooner-comm (tick x) never = refl
+sooner-comm never (tick y) = refl
+sooner-comm never never = refl
+
+sooner-assoc : (x y z : Time) → sooner (sooner x y) z ≡ sooner x (sooner y z)
+sooner-assoc (tick x) (tick y) (tick z) = let e : min (min x y) z ≡ min x (min y z) = omega arith in ap tick e
+sooner-assoc (tick x) (tick y) never = refl
+sooner-assoc (tick x) never z = refl
+sooner-assoc never y z = refl
+
+-- The later of two times, or the sooner.
+abbrev joined : Bool → Time → Time → Time
+joined late x y = if late then later x y else sooner x y
+
+joined-comm : (late : Bool) (x y : Time) → joined late x y ≡ joined late y x
+joined-comm true = later-comm
+joined-comm false = sooner-comm
+
+joined-assoc : (late : Bool) (x y z : Time) → joined late (joined late x y) z ≡ joined late x (joined late y z)
+joined-assoc true = later-assoc
+joined-assoc false = sooner-assoc
+
+joined-none : (late : Bool) (x : Time) → joined late (choiceOf late []) x ≡ x
+unfolding least largest
+joined-none true x = later-zero x
+joined-none false x = refl
+
+module _ (late : Bool) (t : ℕ) where
+  -- The choice among the times of task t.
+  abbrev chosen : List Outcome → Time
+  chosen ds = choiceOf late (times (ofTask t ds))
+
+  chosen-more : (d : Outcome) (ds : List Outcome) → chosen (d ∷ ds) ≡ (if eqb (d .task) t then joined late (d .time) (chosen ds) else chosen ds)
+  unfolding ofTask keep least largest
+  chosen-more d ds = by late (eqb (d .task) t)
+    where
+      by : (late b : Bool) → choiceOf late (times (if b then d ∷ ofTask t ds else ofTask t ds)) ≡ (if b then joined late (d .time) (choiceOf late (times (ofTask t ds))) else choiceOf late (times (ofTask t ds)))
+      by true true = refl
+      by true false = refl
+      by false true = refl
+      by false false = refl
+
+  chosen-none : (x : Time) → joined late (chosen []) x ≡ x
+  unfolding ofTask keep
+  chosen-none x = joined-none late x
+
+  chosen-reverse : (xs ys : List Outcome) → chosen (reverseAux xs ys) ≡ joined late (chosen xs) (chosen ys)
+  chosen-reverse [] ys = sym (chosen-none (chosen ys))
+  chosen-reverse (x ∷ xs) ys = chosen-reverse xs (x ∷ ys) ∙ rw (chosen-more x ys, chosen-more x xs) (by (eqb (x .task) t))
+    where
+      by : (b : Bool) → joined late (chosen xs) (if b then joined late (x .time) (chosen ys) else chosen ys) ≡ joined late (if b then joined late (x .time) (chosen xs) else chosen xs) (chosen ys)
+      by true = sym (joined-assoc late (chosen xs) (x .time) (chosen ys)) ∙ ap (λ (z : Time). joined late z (chosen ys)) (joined-comm late (chosen xs) (x .time))
+      by false = refl
+
+end-reverse : (j : Job) (late : Bool) (ds : List Outcome) → end j (choiceOf late) (reverse ds) ≡ end j (choiceOf late) ds
+unfolding end
+end-reverse j late ds =
+    ap largest
+    (map-same (λ t. chosen late t (reverse ds)) (λ t. chosen late t ds) (exits j)
+    (λ t i. chosen-reverse late t ds [] ∙ joined-comm late (chosen late t ds) (chosen late t []) ∙ chosen-none late t (chosen late t ds)))
+
+-- M* and M ----------------------------------------------------------------------------------------------------------
+
+-- A time in a cell is a tick exactly if the cell is that number.
+same-cell : (x y : ℕ) → y < neverCell → same (timeIn x) (tick y) ≡ eqb x y
+same-cell x y l = by (eqb x neverCell) refl
+  where
+    by : (b : Bool) → eqb x neverCell ≡ b → same (if b then never else tick x) (tick y) ≡ eqb x y
+    by true p = let q = eqb-true x neverCell p in sym (ne-eqb x y (λ e. omega arith))
+    by false p = refl
+
+module _ {rooms : ℕ} {mem : List ℕ} (h : PlanHeld rooms mem) (one : doubledTasks (planIn rooms mem .lines) ≡ []) (t : ticksAgree (jobIn mem) (planIn rooms mem .lines) ≡ true) where
+  best-same : (x : ℕ) → timeIn x ≡ end (jobIn mem) (choiceOf false) (placedIn rooms false (nth mem 3 + 1) (nth mem 0) mem)
+      → same (bestEnd (jobIn mem) (planIn rooms mem .lines)) (tick (planIn rooms mem .best)) ≡ eqb x (nth mem (bestAt rooms))
+  unfolding bestEnd earlies planIn
+  best-same x e =
+      let ds = placedIn rooms false (nth mem 3 + 1) (nth mem 0) mem in
+      rw (agreed-walk h one false (nth mem 0) (omega arith) (ticks-all h one t), end-reverse (jobIn mem) false ds, ← e) (same-cell x (nth mem (bestAt rooms)) (omega (arith, h .facts .best-most)))
+
+  worst-same : (y : ℕ) → timeIn y ≡ end (jobIn mem) (choiceOf true) (placedIn rooms true (nth mem 3 + 1) (nth mem 0) mem)
+      → same (worstEnd (jobIn mem) (planIn rooms mem .lines)) (tick (planIn rooms mem .worst)) ≡ eqb y (nth mem (worstAt rooms))
+  unfolding worstEnd lates planIn
+  worst-same y e =
+      let ds = placedIn rooms true (nth mem 3 + 1) (nth mem 0) mem in
+      rw (agreed-walk h one true (nth mem 0) (omega arith) (ticks-all h one t), end-reverse (jobIn mem) true ds, ← e) (same-cell y (nth mem (worstAt rooms)) (omega (arith, h .facts .worst-most)))
+
+  module _ (x : ℕ) (e : timeIn x ≡ end (jobIn mem) (choiceOf false) (placedIn rooms false (nth mem 3 + 1) (nth mem 0) mem)) where
+    pub best-differs : (x ≡ nth mem (bestAt rooms) → ⊥) → false ≡ endsAgree (jobIn mem) (planIn rooms mem)
+    unfolding endsAgree
+    best-differs n = rw (best-same x e, ne-eqb x (nth mem (bestAt rooms)) n)
+
+    pub worst-decides : x ≡ nth mem (bestAt rooms) → (y : ℕ) → timeIn y ≡ end (jobIn mem) (choiceOf true) (placedIn rooms true (nth mem 3 + 1) (nth mem 0) mem)
+        → eqb y (nth mem (worstAt rooms)) ≡ endsAgree (jobIn mem) (planIn rooms mem)
+    unfolding endsAgree
+    worst-decides q y f = rw (best-same x e, eq-eqb x (nth mem (bestAt rooms)) q, worst-same y f)
+
+-- The line that was found ------------------------------------------------------------------------------------------
+
+-- What the search for a doubled task ensures, by its result.
+module _ (rooms : ℕ) (mem : List ℕ) (r : ℕ)
+    (found : ((r ≡ nth mem 0) × (doubledTasks (planIn rooms mem .lines) ≡ [])) ⊎ ((r < nth mem 0) × In (nth mem (rowAt rooms r)) (doubledTasks (planIn rooms mem .lines)))) where
+  pub some-doubled : r < nth mem 0 → In (nth mem (rowAt rooms r)) (doubledTasks (planIn rooms mem .lines))
+  some-doubled l = ⊎-elim (λ f. absurd (omega (arith, f .0))) (λ f. f .1) found
+
+  pub none-doubled : nth mem 0 ≤ r → doubledTasks (planIn rooms mem .lines) ≡ []
+  none-doubled l = ⊎-elim (λ f. f .1) (λ f. absurd (omega (arith, f .0))) found
+
+-- The answer --------------------------------------------------------------------------------------------------------
+
+module _ (j : Job) (p : Plan) where
+  pub answer-doubled : (t : ℕ) → In t (doubledTasks (p .lines)) → Judged (verdictFor document01 j (good p)) (Doubled t)
+  unfolding planRefusal firstOf
+  answer-doubled t i = rw (in-some t (doubledTasks (p .lines)) i) (t, refl, i)
+
+  module _ (one : doubledTasks (p .lines) ≡ []) where
+    pub answer-ticks : ticksAgree j (p .lines) ≡ false → Judged (verdictFor document01 j (good p)) (Refused 13)
+    unfolding planRefusal firstOf
+    answer-ticks e = rw (one, e)
+
+    module _ (e : ticksAgree j (p .lines) ≡ true) where
+      pub answer-ends : endsAgree j p ≡ false → Judged (verdictFor document01 j (good p)) (Refused 14)
+      unfolding planRefusal firstOf
+      answer-ends f = rw (one, e, f)
+
+      pub answer-accepted : endsAgree j p ≡ true → Judged (verdictFor document01 j (good p)) Accepted
+      unfolding planRefusal firstOf
+      answer-accepted f = rw (one, e, f)

@@ -1,0 +1,178 @@
+-- The planner's answer: the plan in memory is the one of the definition, and it is written if it fits.
+use mathlib.Core.Path.{_≡_, refl, ap, _∙_, sym}
+use mathlib.Core.Logic.{⊎-elim}
+use mathlib.Core.List.{List, []}
+use mathlib.Core.Bool.{Bool, true, false, true≢false}
+use Prim.Native.Nat.{ℕ, _+_, _<_, _≤_}
+use native.Mathlib.Omega.{arith}
+use borrow.Author.Tests.{lt-ltb, le-ltb, eqb-true}
+use lib.ListN.{length, set, length-set}
+use lib.Seq.{getD-set-same, getD-set-other}
+use Rattle.definitions.specs.Lists.{nth}
+use Rattle.definitions.specs.Limits.{document01}
+use Rattle.definitions.specs.Text.{Result, good}
+use Rattle.definitions.specs.Job.{Job}
+use Rattle.definitions.specs.Plan.{Plan, planText}
+use Rattle.definitions.specs.Times.{end}
+use Rattle.definitions.specs.Refusals.{doubledTasks, ticksAgree, endsAgree}
+use Rattle.definitions.specs.Planner.{planFor}
+use Rattle.definitions.specs.Tools.{fitting, planned}
+use Rattle.definitions.proofs.Placing.{placed-apart, placed-agrees, placed-ends}
+use Rattle.definitions.proofs.Claims.{own-facts, own-fits, roomy01}
+use Rattle.lists.specs.Over.{over}
+use Rattle.text.specs.declared.Step.the-variants.{Next, Refused}
+use Rattle.jobs.specs.Layout.{memorySize, inHeadAt, bestAt, worstAt, rowAt}
+use Rattle.jobs.specs.Answers.{Answered}
+use Rattle.jobs.specs.Loading.{JobLoaded}
+use Rattle.jobs.specs.Held.{jobIn, LinkedOut, JobHeld}
+use Rattle.plans.specs.Lines.{timeIn, placedIn, linesIn, Standing}
+use Rattle.rounds.specs.Schedule.{choiceOf}
+use Rattle.lists.specs.Kept.{KeptOutside}
+use Rattle.rounds.specs.Planning.{Drawn}
+use Rattle.plans.specs.Loading.{planIn}
+use Rattle.plans.specs.Loading.{PlanHeld}
+use Rattle.rounds.specs.Tools.{planOf}
+use Rattle.jobs.specs.declared.Answer.{Answer}
+use Rattle.jobs.specs.declared.Answer.the-variants.{Done, Refusal}
+use Rattle.lists.proofs.Counting.{equal-or-not}
+use Rattle.jobs.proofs.Held.{sizes, job-kept}
+use Rattle.plans.proofs.Lines.{placed-same, lines-same, standing-choice}
+use Rattle.lists.proofs.Kept.{same-behind, kept-all, kept-set}
+use Rattle.jobs.proofs.Loads.{loaded-job, refused-job}
+use Rattle.rounds.proofs.Drawing.{drawn-lines}
+use Rattle.rounds.proofs.JudgeLaws.{best-differs, worst-decides}
+
+-- The lines of the job's own plan stand in a memory.
+module _ {rooms : ℕ} {mem : List ℕ} (s : Standing rooms (nth mem 0) mem) (e : linesIn rooms (nth mem 3 + 1) (nth mem 0) mem ≡ planFor (jobIn mem) (jobIn mem .losses) .lines) where
+  abbrev own : Plan
+  own = planFor (jobIn mem) (jobIn mem .losses)
+
+  -- Two cells more.
+  abbrev ended : ℕ → ℕ → List ℕ
+  ended x y = set (set mem (bestAt rooms) x) (worstAt rooms) y
+
+  module _ (x y : ℕ) where
+    ended-kept : KeptOutside (bestAt rooms) (rowAt rooms 0) mem (ended x y)
+    ended-kept = kept-set (worstAt rooms) y (kept-set (bestAt rooms) x kept-all (omega arith) (omega arith)) (omega arith) (omega arith)
+
+    ended-job : jobIn (ended x y) ≡ jobIn mem
+    ended-job = job-kept (s .job) ended-kept (omega arith)
+
+    ended-tasks : nth (ended x y) 0 ≡ nth mem 0
+    ended-tasks = ended-kept .before 0 (omega arith)
+
+    ended-losses : nth (ended x y) 3 ≡ nth mem 3
+    ended-losses = ended-kept .before 3 (omega arith)
+
+    ended-best : nth (ended x y) (bestAt rooms) ≡ x
+    ended-best =
+        getD-set-other (set mem (bestAt rooms) x) (worstAt rooms) (bestAt rooms) y 0 (λ q. omega arith)
+        ∙ getD-set-same mem (bestAt rooms) x 0 (omega (arith, s .job .size))
+
+    ended-worst : nth (ended x y) (worstAt rooms) ≡ y
+    ended-worst = getD-set-same (set mem (bestAt rooms) x) (worstAt rooms) y 0 (omega (arith, s .job .size, length-set mem (bestAt rooms) x))
+
+    ended-lines : linesIn rooms (nth (ended x y) 3 + 1) (nth (ended x y) 0) (ended x y) ≡ own .lines
+    ended-lines =
+        rw (ended-losses, ended-tasks)
+        (lines-same mem (ended x y) rooms (nth mem 3 + 1) (nth mem 0) (omega (arith, sizes (s .job))) (same-behind (rowAt rooms 0) (rowAt rooms (nth mem 0)) ended-kept (omega arith)) ∙ e)
+
+    ended-placed : (late : Bool) → placedIn rooms late (nth (ended x y) 3 + 1) (nth (ended x y) 0) (ended x y) ≡ placedIn rooms late (nth mem 3 + 1) (nth mem 0) mem
+    ended-placed late =
+        rw (ended-losses, ended-tasks)
+        (placed-same mem (ended x y) rooms late (nth mem 3 + 1) (nth mem 0) (omega (arith, sizes (s .job))) (same-behind (rowAt rooms 0) (rowAt rooms (nth mem 0)) ended-kept (omega arith)))
+
+  -- With its M* and M it is the plan, and the checker's tests would find no fault.
+  abbrev whole : List ℕ
+  whole = ended (own .best) (own .worst)
+
+  whole-plan : planIn rooms whole ≡ own
+  unfolding planIn
+  whole-plan = rw (ended-best (own .best) (own .worst), ended-worst (own .best) (own .worst), ended-lines (own .best) (own .worst))
+
+  whole-job : jobIn whole ≡ jobIn mem
+  whole-job = ended-job (own .best) (own .worst)
+
+  whole-held : PlanHeld rooms whole
+  whole-held =
+      record {
+        standing = rw (ended-tasks (own .best) (own .worst)) (standing-choice (ended-kept (own .best) (own .worst)) s (omega arith) (omega arith));
+        facts = rw (whole-job, whole-plan) (own-facts document01 (jobIn mem) (s .job .facts) roomy01);
+      }
+
+  none-twice : doubledTasks (planIn rooms whole .lines) ≡ []
+  none-twice = rw whole-plan (placed-apart document01 (jobIn mem) (s .job .facts))
+
+  ticks-right : ticksAgree (jobIn whole) (planIn rooms whole .lines) ≡ true
+  ticks-right = rw (whole-job, whole-plan) (placed-agrees document01 (jobIn mem) (s .job .facts))
+
+  ends-right : endsAgree (jobIn whole) (planIn rooms whole) ≡ true
+  ends-right = rw (whole-job, whole-plan) (placed-ends document01 (jobIn mem) (s .job .facts))
+
+  -- So the ends of what is placed are its M* and M.
+  module _ (x y : ℕ) (f : timeIn x ≡ end (jobIn mem) (choiceOf false) (placedIn rooms false (nth mem 3 + 1) (nth mem 0) mem))
+      (g : timeIn y ≡ end (jobIn mem) (choiceOf true) (placedIn rooms true (nth mem 3 + 1) (nth mem 0) mem)) where
+    best-end : timeIn x ≡ end (jobIn whole) (choiceOf false) (placedIn rooms false (nth whole 3 + 1) (nth whole 0) whole)
+    best-end = rw (whole-job, ended-placed (own .best) (own .worst) false) f
+
+    best-found : x ≡ nth whole (bestAt rooms)
+    best-found =
+        ⊎-elim (λ q. q) (λ n. absurd (true≢false (sym (best-differs whole-held none-twice ticks-right x best-end n ∙ ends-right)))) (equal-or-not x (nth whole (bestAt rooms)))
+
+    worst-found : y ≡ nth whole (worstAt rooms)
+    worst-found =
+        eqb-true y (nth whole (worstAt rooms))
+        (worst-decides whole-held none-twice ticks-right x best-end best-found y (rw (whole-job, ended-placed (own .best) (own .worst) true) g) ∙ ends-right)
+
+    ended-whole : ended x y ≡ whole
+    ended-whole = rw (best-found ∙ ended-best (own .best) (own .worst), worst-found ∙ ended-worst (own .best) (own .worst))
+
+    ended-text : planText document01 (jobIn (ended x y)) (planIn rooms (ended x y)) ≡ planned document01 (jobIn mem)
+    unfolding planned
+    ended-text = rw (ended-whole, whole-job, whole-plan)
+
+-- The plan of the job in d was drawn up, and then M* and M were stored.
+module _ {rooms : ℕ} {d mem : List ℕ} (h : JobHeld rooms d) (k : KeptOutside (inHeadAt rooms) (memorySize rooms) d mem) (w : Drawn rooms (nth d 0) mem) where
+  drawn-all : Drawn rooms (nth mem 0) mem
+  drawn-all = rw (k .before 0 (omega arith)) w
+
+  own-lines : linesIn rooms (nth mem 3 + 1) (nth mem 0) mem ≡ planFor (jobIn mem) (jobIn mem .losses) .lines
+  unfolding jobIn
+  own-lines = drawn-lines drawn-all
+
+  pub ends-asked : Standing rooms (nth mem 0) mem × LinkedOut rooms mem
+  ends-asked = (drawn-all .standing, drawn-all .linked)
+
+  module _ (x y : ℕ) (f : timeIn x ≡ end (jobIn mem) (choiceOf false) (placedIn rooms false (nth mem 3 + 1) (nth mem 0) mem))
+      (g : timeIn y ≡ end (jobIn mem) (choiceOf true) (placedIn rooms true (nth mem 3 + 1) (nth mem 0) mem)) where
+    abbrev complete : List ℕ
+    complete = set (set mem (bestAt rooms) x) (worstAt rooms) y
+
+    pub text-asked : JobHeld rooms complete
+    text-asked = rw (ended-whole (drawn-all .standing) own-lines x y f g) (whole-held (drawn-all .standing) own-lines .standing .job)
+
+    text-is : planText document01 (jobIn complete) (planIn rooms complete) ≡ planned document01 (jobIn d)
+    text-is = ended-text (drawn-all .standing) own-lines x y f g ∙ ap (planned document01) (job-kept h k (omega arith))
+
+    -- It fits a text.
+    pub text-most : length (planText document01 (jobIn complete) (planIn rooms complete)) ≤ 65536
+    text-most = rw text-is (own-fits document01 (jobIn d) (h .facts) roomy01)
+
+    -- It does not fit, or it was written.
+    module _ (out : List ℕ) (n : ℕ) (e : n ≡ length (planText document01 (jobIn complete) (planIn rooms complete))) where
+      pub put-short : length out < n → Answered (fitting (length out) (planned document01 (jobIn d))) out out (Refusal 8)
+      put-short l = rw (lt-ltb (length out) (length (planned document01 (jobIn d))) (omega (arith, ap length text-is))) (refl, refl)
+
+      pub put-done : n ≤ length out → (r : ℕ) (z : List ℕ) → r ≡ length (planText document01 (jobIn complete) (planIn rooms complete))
+          → z ≡ over out 0 (planText document01 (jobIn complete) (planIn rooms complete)) → Answered (fitting (length out) (planned document01 (jobIn d))) out z (Done r)
+      put-done l r z q o =
+          rw (le-ltb (length out) (length (planned document01 (jobIn d))) (omega (arith, ap length text-is)))
+          (ap good (q ∙ ap length text-is), o ∙ ap (over out 0) text-is)
+
+-- The job's text was refused, or loaded.
+pub plan-no : (rooms : ℕ) (x : Result Job) (mem d : List ℕ) (n : ℕ) → JobLoaded rooms x mem (Refused n) → Answered (planOf x (length d)) d d (Refusal n)
+plan-no rooms x mem d n h = rw (refused-job rooms x mem n h) (refl, refl)
+
+pub plan-put : (rooms : ℕ) (x : Result Job) (mem d : List ℕ) (n : ℕ) → JobLoaded rooms x mem (Next n) → (e : List ℕ) (r : Answer)
+    → Answered (fitting (length d) (planned document01 (jobIn mem))) d e r → Answered (planOf x (length d)) d e r
+plan-put rooms x mem d n h e r a = rw (loaded-job rooms x mem n h .0) a

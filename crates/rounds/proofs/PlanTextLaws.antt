@@ -1,0 +1,135 @@
+-- The text of a plan that stands in a memory, line by line.
+use mathlib.Core.Path.{_≡_, refl, ap, sym, _∙_}
+use mathlib.Core.List.{List, [], _∷_, _++_, append-assoc, append-nil}
+use Prim.Native.Nat.{ℕ, zero, suc, _+_, _*_, _-_, _%_, _^_, _<_, _≤_}
+use native.Mathlib.Omega.{arith}
+use native.Mathlib.Numerals.{add-one}
+use lib.ListN.{length, take, drop, length-append, length-take, length-drop}
+use lib.Seq.{drop-cons, getD-drop, take-suc}
+use Rattle.definitions.specs.Lists.{bytes, nth}
+use Rattle.definitions.specs.Limits.{document01}
+use Rattle.definitions.specs.Text.{lineText}
+use Rattle.definitions.specs.Plan.{Replica, Line, replicaNumbers, planLinesText, planText}
+use Rattle.definitions.proofs.Decimal.{length-line}
+use Rattle.lists.specs.Over.{over}
+use Rattle.lists.proofs.Over.{length-over, over-then}
+use Rattle.text.specs.Told.{written, placeAfter}
+use Rattle.text.proofs.Writing.{front-whole}
+use Rattle.lines.proofs.WriteLaws.{numbers-most, line-exact}
+use Rattle.jobs.specs.Layout.{rowAt}
+use Rattle.jobs.specs.Held.{jobIn}
+use Rattle.jobs.proofs.Held.{Sizes}
+use Rattle.plans.specs.Lines.{rowReplicas, linesIn}
+use Rattle.plans.specs.Loading.{planIn}
+use Rattle.rounds.specs.Texts.{headIn, headLine, rowLine, rowLines}
+
+-- The numbers of replicas, with one replica more.
+numbers-last : (rs : List Replica) (r : Replica) → replicaNumbers (rs ++ r ∷ []) ≡ replicaNumbers rs ++ r .processor ∷ r .early ∷ r .late ∷ []
+unfolding replicaNumbers
+numbers-last [] r = refl
+numbers-last (q ∷ rs) r = rw (numbers-last rs r)
+
+-- The first n cells from a on, and the next one.
+take-next : (mem : List ℕ) (a n : ℕ) → a + n < length mem → take (suc n) (drop a mem) ≡ take n (drop a mem) ++ nth mem (a + n) ∷ []
+take-next mem a n h =
+    take-suc (drop a mem) n 0 (rw (length-drop a mem) (omega arith)) ∙ rw (getD-drop a mem n 0)
+
+-- A line's numbers stand in the cells of its row.
+row-numbers : (mem : List ℕ) (a w : ℕ) → a + (1 + 3 * w) ≤ length mem → nth mem a ∷ replicaNumbers (rowReplicas a w mem) ≡ take (1 + 3 * w) (drop a mem)
+unfolding rowReplicas replicaNumbers
+row-numbers mem a zero h = sym (rw (drop-cons mem a 0 (omega arith)))
+row-numbers mem a (suc w) h =
+    let r : Replica = record { processor = nth mem (a + (1 + 3 * w)); early = nth mem (a + (2 + 3 * w)); late = nth mem (a + (3 + 3 * w)) } in
+    let n : 1 + 3 * suc w ≡ suc (3 + 3 * w) = omega arith in
+    let x : 3 + 3 * w ≡ suc (2 + 3 * w) = omega arith in
+    let y : 2 + 3 * w ≡ suc (1 + 3 * w) = omega arith in
+    let t : take (3 + 3 * w) (drop a mem) ≡ take (1 + 3 * w) (drop a mem) ++ r .processor ∷ [] ++ r .early ∷ [] =
+    ap (λ (i : ℕ). take i (drop a mem)) x ∙ take-next mem a (2 + 3 * w) (omega arith) ∙ ap (λ (i : ℕ). take i (drop a mem) ++ r .early ∷ []) y ∙ ap (λ (l : List ℕ). l ++ r .early ∷ []) (take-next mem a (1 + 3 * w) (omega arith)) in
+    rw (numbers-last (rowReplicas a w mem) r, n, take-next mem a (3 + 3 * w) (omega arith), t, ← row-numbers mem a w (omega arith))
+    (simp append-assoc)
+
+lines-last : (ns : List Line) (n : Line)
+    → planLinesText document01 (ns ++ n ∷ []) ≡ planLinesText document01 ns ++ lineText document01 (bytes "T,") (n .task ∷ replicaNumbers (n .replicas))
+unfolding planLinesText
+lines-last [] n = append-nil (lineText document01 (bytes "T,") (n .task ∷ replicaNumbers (n .replicas)))
+lines-last (m ∷ ns) n = rw (lines-last ns n) (sym (append-assoc (lineText document01 (bytes "T,") (m .task ∷ replicaNumbers (m .replicas))) (planLinesText document01 ns) (lineText document01 (bytes "T,") (n .task ∷ replicaNumbers (n .replicas)))))
+
+module _ {rooms : ℕ} {mem : List ℕ} (s : Sizes rooms mem) where
+  -- The cells of row k are in the memory, 25 at the most.
+  pub row-within : (k : ℕ) → k < nth mem 0 → rowAt rooms k + 25 ≤ length mem
+  row-within k h = omega (arith, s, h)
+
+  pub row-few : 4 + 3 * nth mem 3 ≤ 25
+  row-few = omega (arith, s .losses-most)
+
+  pub rows-none : rowLines rooms 0 mem ≡ []
+  unfolding rowLines linesIn planLinesText
+  rows-none = refl
+
+  pub rows-next : (k : ℕ) → k < nth mem 0 → rowLines rooms (k + 1) mem ≡ rowLines rooms k mem ++ rowLine rooms k mem
+  unfolding rowLines rowLine linesIn
+  rows-next k h =
+      let n : 1 + 3 * (nth mem 3 + 1) ≡ 4 + 3 * nth mem 3 = omega arith in
+      let r = row-numbers mem (rowAt rooms k) (nth mem 3 + 1) (omega (arith, row-within k h, row-few)) in
+      rw (add-one k, lines-last (linesIn rooms (nth mem 3 + 1) k mem) (record { task = nth mem (rowAt rooms k); replicas = rowReplicas (rowAt rooms k) (nth mem 3 + 1) mem }), r, n)
+
+-- A line of a few numbers has few bytes.
+pub line-most : (opening vals : List ℕ) (k : ℕ) → length vals ≤ k → length (lineText document01 opening vals) ≤ length opening + 11 * k
+line-most opening vals k h = omega (arith, length-line document01 opening vals, numbers-most vals, h)
+
+pub line-counted : (opening vals : List ℕ) (k r : ℕ) → length vals ≤ k → length opening + 11 * k < 2 ^ 64 → r ≡ length (lineText document01 opening vals) % 2 ^ 64
+    → (r ≡ length (lineText document01 opening vals)) × (r ≤ length opening + 11 * k)
+line-counted opening vals k r h b e =
+    let f = line-exact opening vals r (omega (arith, h, b)) e in
+    (f, omega (arith, f, line-most opening vals k h))
+
+-- The cells of row k, as they are passed.
+abbrev rowPart : ℕ → ℕ → List ℕ → List ℕ
+rowPart rooms k mem = take (rowAt rooms k + (4 + 3 * nth mem 3) - rowAt rooms k) (drop (rowAt rooms k) mem)
+
+pub row-part : (rooms k : ℕ) (mem : List ℕ) → lineText document01 (bytes "T,") (rowPart rooms k mem) ≡ rowLine rooms k mem
+unfolding rowLine
+row-part rooms k mem = let e : rowAt rooms k + (4 + 3 * nth mem 3) - rowAt rooms k ≡ 4 + 3 * nth mem 3 = omega arith in rw e
+
+pub row-counted : {rooms : ℕ} {mem : List ℕ} → Sizes rooms mem → (k r : ℕ) → r ≡ length (lineText document01 (bytes "T,") (rowPart rooms k mem)) % 2 ^ 64
+    → (r ≡ length (rowLine rooms k mem)) × (r ≤ 277)
+row-counted {rooms} {mem} s k r e =
+    let m : length (rowPart rooms k mem) ≤ 25 = omega (arith, length-take (rowAt rooms k + (4 + 3 * nth mem 3) - rowAt rooms k) (drop (rowAt rooms k) mem), row-few s) in
+    let (f, g) = line-counted (bytes "T,") (rowPart rooms k mem) 25 r m (omega arith) e in
+    (f ∙ ap length (row-part rooms k mem), g)
+
+pub head-counted : (rooms : ℕ) (mem vals : List ℕ) (r : ℕ) → vals ≡ headIn rooms mem → r ≡ length (lineText document01 (bytes "PLAN,") vals) % 2 ^ 64
+    → (r ≡ length (headLine rooms mem)) × (r ≤ 60)
+unfolding headLine
+head-counted rooms mem vals r q e = line-counted (bytes "PLAN,") (headIn rooms mem) 5 r (omega arith) (omega arith) (rw q at e)
+
+-- The head, as it is passed.
+pub head-part : (rooms : ℕ) (mem vals : List ℕ) → vals ≡ headIn rooms mem → lineText document01 (bytes "PLAN,") vals ≡ headLine rooms mem
+unfolding headLine
+head-part rooms mem vals q = rw q
+
+module _ (rooms : ℕ) (mem : List ℕ) where
+  pub plan-text : planText document01 (jobIn mem) (planIn rooms mem) ≡ headLine rooms mem ++ rowLines rooms (nth mem 0) mem
+  unfolding headLine rowLines planText jobIn planIn
+  plan-text = refl
+
+  pub plan-size : length (planText document01 (jobIn mem) (planIn rooms mem)) ≡ length (headLine rooms mem) + length (rowLines rooms (nth mem 0) mem)
+  plan-size = ap length plan-text ∙ length-append (headLine rooms mem) (rowLines rooms (nth mem 0) mem)
+
+  -- The head was written over d, then the rows behind it.
+  module _ (d x : List ℕ) (p : ℕ) (h : length (planText document01 (jobIn mem) (planIn rooms mem)) ≤ length d) (e : p ≡ placeAfter d 0 (headLine rooms mem)) (f : x ≡ written d 0 (headLine rooms mem)) where
+    head-fits : length (headLine rooms mem) ≤ length d
+    head-fits = omega (arith, plan-size, h)
+
+    head-is : (p ≡ length (headLine rooms mem)) × (x ≡ over d 0 (headLine rooms mem))
+    head-is = front-whole d (headLine rooms mem) head-fits p x e f
+
+    pub rows-room : p + length (rowLines rooms (nth mem 0) mem) ≤ length x
+    rows-room = omega (arith, head-is .0, plan-size, h, ap length (head-is .1), length-over d 0 (headLine rooms mem) (omega (arith, head-fits)))
+
+    pub plan-place : (q : ℕ) → q ≡ p + length (rowLines rooms (nth mem 0) mem) → q ≡ length (planText document01 (jobIn mem) (planIn rooms mem))
+    plan-place q g = omega (arith, g, head-is .0, plan-size)
+
+    pub plan-whole : (y : List ℕ) → y ≡ over x p (rowLines rooms (nth mem 0) mem) → y ≡ over d 0 (planText document01 (jobIn mem) (planIn rooms mem))
+    plan-whole y g =
+        over-then d x y 0 (headLine rooms mem) (rowLines rooms (nth mem 0) mem) p (head-is .1) g (omega (arith, head-is .0)) (omega (arith, head-fits)) ∙ ap (over d 0) (sym plan-text)

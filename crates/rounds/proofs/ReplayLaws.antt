@@ -1,0 +1,150 @@
+-- The replay's answer: it does not depend on the order of the outcomes, and what the memory gives is what the texts say.
+use mathlib.Core.Path.{_≡_, refl, ap, ap₂}
+use mathlib.Core.Logic.{⊎-elim}
+use mathlib.Core.List.{List, [], _∷_, _++_, map, reverse}
+use mathlib.Core.Bool.{Bool}
+use Prim.Native.Nat.{ℕ, _<_, _≤_}
+use native.Mathlib.Omega.{arith}
+use borrow.Author.Tests.{lt-ltb, le-ltb}
+use lib.Dec.{eqb}
+use lib.ListN.{length}
+use Rattle.definitions.specs.Lists.{nth, below, keep, In}
+use Rattle.definitions.specs.Limits.{Limits, document01}
+use Rattle.definitions.specs.Text.{Result, good, bad, andThen}
+use Rattle.definitions.specs.Job.{Job}
+use Rattle.definitions.specs.Plan.{Plan}
+use Rattle.definitions.specs.Stops.{Stop, readStops}
+use Rattle.definitions.specs.Times.{Time, same, largest, Outcome, ofTask, exits, end}
+use Rattle.definitions.specs.Replay.{replay, firstFinish, firstBox, roundEnd, resultLines, endLine, replayText}
+use Rattle.definitions.proofs.Lists.{map-same, in-map, map-in, in-keep, keep-in, in-reverse, reverse-left}
+use Rattle.lists.specs.Over.{over}
+use Rattle.text.specs.declared.Step.the-variants.{Next, Refused}
+use Rattle.jobs.specs.Layout.{levelAt}
+use Rattle.jobs.specs.Answers.{Answered}
+use Rattle.jobs.specs.Held.{jobIn, LinkedOut, JobHeld}
+use Rattle.plans.specs.Lines.{Standing}
+use Rattle.plans.specs.Loading.{planIn, BothLoaded, stopsFrom, StopsLoaded, PlanHeld}
+use Rattle.rounds.specs.Tools.{replayBoth}
+use Rattle.rounds.specs.Replaying.{StopsIn, outcomesIn, RisingIn, RoundRun, replayIn}
+use Rattle.jobs.specs.declared.Answer.{Answer}
+use Rattle.jobs.specs.declared.Answer.the-variants.{Done, Refusal}
+use Rattle.lists.proofs.Kept.{same-before}
+use Rattle.jobs.proofs.Held.{processors-in, sizes, job-kept, linked-out-same}
+use Rattle.plans.proofs.JobAndPlan.{both-no, both-next}
+use Rattle.rounds.proofs.FirstLaws.{least-same, lowest-same}
+
+-- The order of outcomes -------------------------------------------------------------------------------------------------
+
+-- Two lists have the same members.
+record Alike {A : Type 0} (xs ys : List A) : Type 0 where
+  pub there : (x : A) → In x xs → In x ys
+  pub back : (x : A) → In x ys → In x xs
+
+alike-reverse : {A : Type 0} (xs : List A) → Alike (reverse xs) xs
+alike-reverse xs = record { there = λ x i. ⊎-elim (λ k. k) absurd (in-reverse x xs [] i); back = λ x i. reverse-left x xs [] i }
+
+alike-keep : {A : Type 0} {xs ys : List A} → Alike xs ys → (f : A → Bool) → Alike (keep f xs) (keep f ys)
+alike-keep {A} {xs} {ys} a f =
+    record {
+      there = λ x i. let (k, e) = in-keep f x xs i in keep-in f x ys (a .there x k) e;
+      back = λ x i. let (k, e) = in-keep f x ys i in keep-in f x xs (a .back x k) e;
+    }
+
+alike-map : {A B : Type 0} {xs ys : List A} → Alike xs ys → (f : A → B) → Alike (map f xs) (map f ys)
+alike-map {A} {B} {xs} {ys} a f =
+    record {
+      there = λ y i. let (x, k, e) = in-map f y xs i in rw e at (map-in f x ys (a .there x k));
+      back = λ y i. let (x, k, e) = in-map f y ys i in rw e at (map-in f x xs (a .back x k));
+    }
+
+module _ {ds es : List Outcome} (a : Alike ds es) where
+  task-alike : (t : ℕ) → Alike (ofTask t ds) (ofTask t es)
+  unfolding ofTask
+  task-alike t = alike-keep a (λ d. eqb (d .task) t)
+
+  finish-alike : (t : ℕ) → firstFinish t ds ≡ firstFinish t es
+  unfolding firstFinish
+  finish-alike t = let b = alike-map (task-alike t) (λ d. d .time) in least-same _ _ (b .there) (b .back)
+
+  box-alike : (t : ℕ) (x : Time) → firstBox t x ds ≡ firstBox t x es
+  unfolding firstBox
+  box-alike t x = let b = alike-map (alike-keep (task-alike t) (λ d. same (d .time) x)) (λ d. d .processor) in lowest-same _ _ (b .there) (b .back)
+
+  end-alike : (j : Job) → roundEnd j ds ≡ roundEnd j es
+  unfolding roundEnd end firstFinish
+  end-alike j = ap largest (map-same (λ t. firstFinish t ds) (λ t. firstFinish t es) (exits j) (λ t i. finish-alike t))
+
+  lines-alike : (l : Limits) (ts : List ℕ) → resultLines l ts ds ≡ resultLines l ts es
+  unfolding resultLines
+  lines-alike l [] = refl
+  lines-alike l (t ∷ ts) = rw (finish-alike t, box-alike t (firstFinish t es), lines-alike l ts)
+
+  text-alike : (l : Limits) (j : Job) → replayText l j ds ≡ replayText l j es
+  unfolding replayText
+  text-alike l j = ap₂ _++_ (lines-alike l (below (j .tasks))) (ap (endLine l) (end-alike j))
+
+-- A round that has run ----------------------------------------------------------------------------------------------------
+
+-- There is a cell for every processor.
+stops-all : (size : ℕ) (j : Job) (s : List ℕ) → j .processors ≤ size → stopsFrom size j s ≡ readStops document01 j s
+unfolding stopsFrom
+stops-all size j s h = rw (le-ltb size (j .processors) h)
+
+few-processors : {rooms : ℕ} {mem : List ℕ} → JobHeld rooms mem → jobIn mem .processors ≤ 16
+few-processors {mem = mem} h = rw (processors-in mem) (sizes h .processors-most)
+
+-- The stops' text was refused, or gave stops.
+stops-refused : (x : Result (List Stop)) (cells : List ℕ) (n : ℕ) → StopsLoaded x cells (Refused n) → x ≡ bad n
+stops-refused (good ss) cells n ((k, e), _) = absurd (let z : _≡_ {A = ℕ} 0 1 = cc in omega arith)
+stops-refused (bad k) cells n e = cc
+
+stops-read : (x : Result (List Stop)) (cells : List ℕ) (n : ℕ) → length cells ≡ 16 → StopsLoaded x cells (Next n) → (ss : List Stop) × (x ≡ good ss) × StopsIn ss cells
+stops-read (good ss) cells n z (_, f) = (ss, refl, λ p h. f p (omega (arith, h, z)) .0)
+stops-read (bad k) cells n z e = absurd (let z : _≡_ {A = ℕ} 0 1 = cc in omega arith)
+
+-- The plan in d has run under the stops in the cells, and e is the memory after it.
+module _ {rooms : ℕ} {d e cells : List ℕ} (h : PlanHeld rooms d) (r : RoundRun rooms cells d e) where
+  pub run-asked : LinkedOut rooms d → Standing rooms (nth e 0) e × RisingIn rooms e × LinkedOut rooms e
+  run-asked l = (r .standing, r .rising, linked-out-same (h .standing .job) (same-before 0 (levelAt rooms) (r .outside) (omega arith)) l)
+
+  run-text : (ss : List Stop) → StopsIn ss cells
+      → replayText document01 (jobIn e) (outcomesIn rooms e) ≡ replayText document01 (jobIn d) (replay (jobIn d) ss (planIn rooms d .lines))
+  run-text ss i =
+      rw (r .outcomes ss i, job-kept (h .standing .job) (r .outside) (omega arith))
+      (text-alike (alike-reverse (replay (jobIn d) ss (planIn rooms d .lines))) document01 (jobIn d))
+
+  -- Its lines do not fit, or they were written.
+  module _ (stops out : List ℕ) (k n : ℕ) (l : length cells ≡ 16) (g : StopsLoaded (stopsFrom 16 (jobIn d) stops) cells (Next k))
+      (q : n ≡ length (replayText document01 (jobIn e) (outcomesIn rooms e))) where
+    told : (ss : List Stop) × (readStops document01 (jobIn d) stops ≡ good ss) × StopsIn ss cells
+    told = stops-read (readStops document01 (jobIn d) stops) cells k l (rw (stops-all 16 (jobIn d) stops (few-processors (h .standing .job))) at g)
+
+    pub run-short : length out < n → Answered (replayIn rooms d stops (length out)) out out (Refusal 8)
+    unfolding replayIn
+    run-short b =
+        let (ss, f, i) = told in
+        rw (f, ← run-text ss i, lt-ltb (length out) (length (replayText document01 (jobIn e) (outcomesIn rooms e))) (omega arith)) (refl, refl)
+
+    pub run-done : n ≤ length out → (m : ℕ) (z : List ℕ) → m ≡ length (replayText document01 (jobIn e) (outcomesIn rooms e))
+        → z ≡ over out 0 (replayText document01 (jobIn e) (outcomesIn rooms e)) → Answered (replayIn rooms d stops (length out)) out z (Done m)
+    unfolding replayIn
+    run-done b m z a o =
+        let (ss, f, i) = told in
+        rw (f, ← run-text ss i, le-ltb (length out) (length (replayText document01 (jobIn e) (outcomesIn rooms e))) (omega arith)) (ap good a, o)
+
+pub run-refused : (rooms : ℕ) (d cells stops out : List ℕ) (n : ℕ) → JobHeld rooms d → StopsLoaded (stopsFrom 16 (jobIn d) stops) cells (Refused n)
+    → Answered (replayIn rooms d stops (length out)) out out (Refusal n)
+unfolding replayIn
+run-refused rooms d cells stops out n j h =
+    rw (stops-refused (readStops document01 (jobIn d) stops) cells n (rw (stops-all 16 (jobIn d) stops (few-processors j)) at h)) (refl, refl)
+
+-- The three texts -----------------------------------------------------------------------------------------------------------
+
+module _ (rooms : ℕ) (x : Result (Job × Plan)) (mem stops out : List ℕ) (n : ℕ) where
+  pub replay-refused : BothLoaded rooms x mem (Refused n) → Answered (replayBoth x stops (length out)) out out (Refusal n)
+  replay-refused h = rw (both-no rooms mem n x h) (refl, refl)
+
+  pub replay-put : BothLoaded rooms x mem (Next n) → (z : List ℕ) (r : Answer)
+      → Answered (replayIn rooms mem stops (length out)) out z r → Answered (replayBoth x stops (length out)) out z r
+  unfolding replayIn
+  replay-put h z r a = rw (both-next rooms mem n x h .0) a

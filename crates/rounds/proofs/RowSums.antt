@@ -1,0 +1,142 @@
+-- Run times and delays in their rows, and their sums.
+use mathlib.Core.Path.{_≡_, refl, ap, _∙_, sym}
+use mathlib.Core.List.{List, [], _∷_, map}
+use mathlib.Core.Bool.{Bool, true, false, not}
+use Prim.Native.Nat.{ℕ, _+_, _*_, _-_, _%_, _^_, _<_, _≤_}
+use native.Mathlib.Omega.{arith}
+use native.Mathlib.Nat.{mul-le-mul}
+use borrow.Author.Tests.{eqb-true, eqb-false, ne-eqb}
+use lib.Dec.{eqb}
+use lib.ListN.{length, take, drop, length-drop, length-map}
+use lib.Seq.{length-take-le, getD-take, getD-drop, ext-getD}
+use borrow.Rule.Slice.PartMut.{midOf}
+use Rattle.definitions.specs.Lists.{if_then_else_, nth, countFrom, below, keep, sum}
+use Rattle.definitions.specs.Job.{runTime, delay}
+use Rattle.definitions.specs.Planner.{scaledRun, totalDelay}
+use Rattle.definitions.proofs.Lists.{length-count, in-below, sum-most}
+use Rattle.jobs.specs.Layout.{jobSize}
+use Rattle.jobs.specs.Held.{jobIn, JobHeld}
+use Rattle.lists.proofs.Counting.{below-same, getD-below}
+use Rattle.jobs.proofs.Held.{tasks-in, processors-in, run-in, delay-in, Sizes, sizes, row-below}
+
+-- Rows --------------------------------------------------------------------------------------------------------
+
+-- The cells of row r end within the job.
+pub row-room : {rooms : ℕ} {mem : List ℕ} → Sizes rooms mem → (r : ℕ) → r < nth mem 0 + nth mem 1 → 4 + r * (nth mem 1 + 1) + 1 + nth mem 1 ≤ jobSize rooms
+row-room {mem} s r h = omega (arith, row-below s r (nth mem 1 - 1) h (omega arith))
+
+module _ (mem : List ℕ) where
+  -- The run times of task t, and the delays from processor p, are the cells of a row.
+  pub run-cells : (t : ℕ) → t < nth mem 0
+      → map (runTime (jobIn mem) t) (below (jobIn mem .processors)) ≡ map (λ q. nth mem (4 + t * (nth mem 1 + 1) + 1 + q)) (below (nth mem 1))
+  run-cells t h =
+      let a = 4 + t * (nth mem 1 + 1) in
+      below-same (runTime (jobIn mem) t) (λ q. nth mem (a + 1 + q)) (processors-in mem)
+      (λ q g. let e : a + (q + 1) ≡ a + 1 + q = omega arith in run-in mem t q h g ∙ ap (λ (x : ℕ). nth mem x) e)
+
+  pub delay-cells : (p : ℕ) → p < nth mem 1
+      → map (delay (jobIn mem) p) (below (jobIn mem .processors)) ≡ map (λ q. nth mem (4 + (nth mem 0 + p) * (nth mem 1 + 1) + 1 + q)) (below (nth mem 1))
+  delay-cells p h =
+      let a = 4 + (nth mem 0 + p) * (nth mem 1 + 1) in
+      below-same (delay (jobIn mem) p) (λ q. nth mem (a + 1 + q)) (processors-in mem)
+      (λ q g. let e : a + (q + 1) ≡ a + 1 + q = omega arith in delay-in mem p q h g ∙ ap (λ (x : ℕ). nth mem x) e)
+
+  module _ {rooms : ℕ} (held : JobHeld rooms mem) where
+    pub run-most : (t q : ℕ) → t < nth mem 0 → q < nth mem 1 → nth mem (4 + t * (nth mem 1 + 1) + 1 + q) ≤ 1_000_000
+    run-most t q h g =
+        let e : 4 + t * (nth mem 1 + 1) + (q + 1) ≡ 4 + t * (nth mem 1 + 1) + 1 + q = omega arith in
+        rw (← e, ← run-in mem t q h g) (held .facts .run-most t q (rw (tasks-in mem) h) (rw (processors-in mem) g))
+
+    pub delay-most : (p q : ℕ) → p < nth mem 1 → q < nth mem 1 → nth mem (4 + (nth mem 0 + p) * (nth mem 1 + 1) + 1 + q) ≤ 255
+    delay-most p q h g =
+        let e : 4 + (nth mem 0 + p) * (nth mem 1 + 1) + (q + 1) ≡ 4 + (nth mem 0 + p) * (nth mem 1 + 1) + 1 + q = omega arith in
+        rw (← e, ← delay-in mem p q h g) (held .facts .delay-most p q (rw (processors-in mem) h) (rw (processors-in mem) g))
+
+-- Sums --------------------------------------------------------------------------------------------------------
+
+pub sum-below : (f : ℕ → ℕ) (b n : ℕ) → ((i : ℕ) → i < n → f i ≤ b) → sum (map f (below n)) ≤ n * b
+sum-below f b n h = rw (length-count 0 n) at (sum-most f (below n) (λ i m. h i (in-below n i m)))
+
+-- A member of which f is 0 may be left out.
+sum-others : (f : ℕ → ℕ) (p : ℕ) (xs : List ℕ) → f p ≡ 0 → sum (map f (keep (λ q. not (eqb q p)) xs)) ≡ sum (map f xs)
+unfolding sum keep
+sum-others f p [] e = refl
+sum-others f p (x ∷ xs) e = by (eqb x p) refl (sum-others f p xs e)
+  where
+    by : (b : Bool) → eqb x p ≡ b → sum (map f (keep (λ q. not (eqb q p)) xs)) ≡ sum (map f xs)
+        → sum (map f (if not b then x ∷ keep (λ q. not (eqb q p)) xs else keep (λ q. not (eqb q p)) xs)) ≡ f x + sum (map f xs)
+    by true t r = let q : f x ≡ 0 = ap f (eqb-true x p t) ∙ e in omega arith
+    by false t r = ap (λ (s : ℕ). f x + s) r
+
+-- The m cells from a on.
+part-cells : (mem : List ℕ) (a m : ℕ) → a + m ≤ length mem → take m (drop a mem) ≡ map (λ q. nth mem (a + q)) (below m)
+part-cells mem a m h =
+    let l : length (take m (drop a mem)) ≡ m = length-take-le m (drop a mem) (simp length-drop (omega arith)) in
+    ext-getD 0 (take m (drop a mem)) (map (λ q. nth mem (a + q)) (below m)) (l ∙ sym (length-map (below m) (λ q. nth mem (a + q)) ∙ length-count 0 m))
+    (λ i g. getD-take m (drop a mem) i 0 (omega arith) ∙ getD-drop a mem i 0 ∙ sym (getD-below (λ q. nth mem (a + q)) m i 0 (omega arith)))
+
+-- The sum of the m cells behind the head of row r.
+abbrev pub rowSum : List ℕ → ℕ → ℕ
+rowSum mem r = sum (map (λ q. nth mem (4 + r * (nth mem 1 + 1) + 1 + q)) (below (nth mem 1)))
+
+module _ {rooms : ℕ} (mem : List ℕ) (held : JobHeld rooms mem) where
+  pub run-sum-most : (t : ℕ) → t < nth mem 0 → rowSum mem t ≤ 16_000_000
+  run-sum-most t h =
+      let s = sizes held in
+      omega (arith, sum-below (λ q. nth mem (4 + t * (nth mem 1 + 1) + 1 + q)) 1_000_000 (nth mem 1) (λ q g. run-most mem held t q h g))
+
+  pub delay-sum-most : (p : ℕ) → p < nth mem 1 → rowSum mem (nth mem 0 + p) ≤ 4080
+  delay-sum-most p h =
+      let s = sizes held in
+      omega (arith, sum-below (λ q. nth mem (4 + (nth mem 0 + p) * (nth mem 1 + 1) + 1 + q)) 255 (nth mem 1) (λ q g. delay-most mem held p q h g))
+
+  -- The sum of a part of the memory that is row r, in 64 bits, which hold it.
+  pub row-in : (r x : ℕ) → r < nth mem 0 + nth mem 1 → rowSum mem r ≤ 16_000_000
+      → x ≡ sum (midOf (4 + r * (nth mem 1 + 1) + 1) (4 + r * (nth mem 1 + 1) + 1 + nth mem 1 - (4 + r * (nth mem 1 + 1) + 1)) mem) % 2 ^ 64
+      → x ≡ rowSum mem r
+  row-in r x h b t =
+      let s = sizes held in
+      let a = 4 + r * (nth mem 1 + 1) + 1 in
+      let n : a + nth mem 1 - a ≡ nth mem 1 = omega arith in
+      let c : sum (midOf a (a + nth mem 1 - a) mem) ≡ rowSum mem r = rw n (ap sum (part-cells mem a (nth mem 1) (omega (arith, row-room s r h, s .size)))) in
+      omega (arith, t, c, b)
+
+  -- With one processor the sum is the run time itself.
+  pub scaled-one : (t : ℕ) → t < nth mem 0 → nth mem 1 ≡ 1 → rowSum mem t ≡ scaledRun (jobIn mem) t
+  unfolding scaledRun sum countFrom
+  scaled-one t h e =
+      let m : jobIn mem .processors ≡ 1 = processors-in mem ∙ e in
+      rw (← run-cells mem t h, m) (omega arith)
+
+  pub scaled-more : (t : ℕ) → t < nth mem 0 → (nth mem 1 ≡ 1 → ⊥) → (nth mem 1 - 1) * rowSum mem t ≡ scaledRun (jobIn mem) t
+  unfolding scaledRun
+  scaled-more t h n = rw (← run-cells mem t h, processors-in mem, ne-eqb (nth mem 1) 1 n)
+
+  pub scaled-fits : (t : ℕ) → t < nth mem 0 → (nth mem 1 - 1) * rowSum mem t ≤ 240_000_000
+  scaled-fits t h =
+      let s = sizes held in
+      mul-le-mul {n₁ = nth mem 1 - 1} {m₁ = rowSum mem t} {n₂ = 15} {m₂ = 16_000_000} (omega arith) (run-sum-most t h)
+
+  -- The sum of all rows of delays.
+  pub total-in : totalDelay (jobIn mem) ≡ sum (map (λ p. rowSum mem (nth mem 0 + p)) (below (nth mem 1)))
+  unfolding totalDelay
+  total-in =
+      let others : ℕ → ℕ = λ p. sum (map (delay (jobIn mem) p) (keep (λ q. not (eqb q p)) (below (jobIn mem .processors)))) in
+      ap sum
+      (below-same others (λ p. rowSum mem (nth mem 0 + p)) (processors-in mem)
+      (λ p g.
+      sum-others (delay (jobIn mem) p) p (below (jobIn mem .processors)) (held .facts .delay-self p (rw (processors-in mem) g))
+      ∙ ap sum (delay-cells mem p g)))
+
+  pub total-most : (n : ℕ) → n ≤ nth mem 1 → sum (map (λ p. rowSum mem (nth mem 0 + p)) (below n)) ≤ 65_280
+  total-most n h =
+      let s = sizes held in
+      omega (arith, sum-below (λ p. rowSum mem (nth mem 0 + p)) 4080 n (λ p g. delay-sum-most p (omega arith)))
+
+  -- What a task's run times are at the most, scaled.
+  pub scaled-most : (t : ℕ) → t < nth mem 0 → scaledRun (jobIn mem) t ≤ 240_000_000
+  scaled-most t h = by (eqb (nth mem 1) 1) refl
+    where
+      by : (b : Bool) → eqb (nth mem 1) 1 ≡ b → scaledRun (jobIn mem) t ≤ 240_000_000
+      by true e = omega (arith, scaled-one t h (eqb-true (nth mem 1) 1 e), run-sum-most t h)
+      by false e = omega (arith, scaled-more t h (eqb-false (nth mem 1) 1 e), scaled-fits t h)

@@ -1,0 +1,420 @@
+-- The replay of a plan in memory, replica by replica and line by line.
+use mathlib.Core.Path.{_≡_, refl, ap, _∙_, sym}
+use mathlib.Core.Logic.{inl, inr, ⊎-elim}
+use mathlib.Core.List.{List, [], _∷_, _++_, map, map-append}
+use mathlib.Core.Bool.{Bool, true, false}
+use Prim.Native.Nat.{ℕ, zero, suc, _+_, _*_, _%_, _<_, _≤_}
+use native.Mathlib.Omega.{arith}
+use native.Mathlib.Nat.{add-zero}
+use native.Mathlib.Numerals.{add-one}
+use borrow.Author.Tests.{eq-eqb, ne-eqb, lt-leb, le-leb}
+use lib.Dec.{eqb}
+use lib.ListN.{length, set, length-set}
+use lib.Seq.{getD-set-same, getD-set-other}
+use Rattle.definitions.specs.Lists.{if_then_else_, nth, below, In}
+use Rattle.definitions.specs.Limits.{document01}
+use Rattle.definitions.specs.Job.{Job, runTime, incoming}
+use Rattle.definitions.specs.Stops.{Stop}
+use Rattle.definitions.specs.Times.{tick, never, later, after, least, largest, Copy, Outcome, outcome, ofTask, ready, arrival, dataReady, start, stopTime, unlessStopped, finish, walk, copiesOf}
+use Rattle.definitions.specs.Planner.{tickOf, trial}
+use Rattle.definitions.specs.Claims.{Within}
+use Rattle.definitions.proofs.Lists.{map-same, map-in, in-keep, below-in}
+use Rattle.definitions.proofs.Tasks.{in-incoming, copyOf}
+use Rattle.definitions.proofs.Bounds.{weaker, PlacedWithin, trial-most}
+use Rattle.jobs.specs.Layout.{jobSize, inHeadAt, inNextAt, lineAt, rowAt}
+use Rattle.jobs.specs.Held.{jobIn, JobHeld}
+use Rattle.plans.specs.Lines.{neverCell, timeIn, rowOutcomes, placedIn, rowReplicas, rowOf, Small, Standing}
+use Rattle.rounds.specs.Schedule.{dataIn, lineTicks}
+use Rattle.lists.specs.Kept.{KeptOutside}
+use Rattle.rounds.specs.Arrivals.{lastShort, FirstFed}
+use Rattle.rounds.specs.Replaying.{StopsIn, ranIn, Running, FedBefore, Retimed, copiesIn, walked, LineRun}
+use Rattle.lists.proofs.Counting.{equal-or-not, last-or-before}
+use Rattle.lists.proofs.Kept.{Same, same-part, same-before, kept-all, kept-then, kept-wider, kept-set}
+use Rattle.jobs.proofs.Held.{sizes, row-below, tasks-in, processors-in, run-in, job-kept, held-kept, chained-same}
+use Rattle.plans.proofs.Lines.{outcomes-same, placed-same}
+use Rattle.rounds.proofs.TimeLaws.{time-tick, small-wider, run-cell}
+use Rattle.rounds.proofs.Placed.{ofTask-append, row-none, feeding-line, data-placed}
+
+-- What changes and what does not ------------------------------------------------------------------------------------
+
+-- Where early times stand in a line, and where processors and late times do.
+early-place : (c o : ℕ) → o ≡ 2 + 3 * c → o % 3 ≡ 2
+early-place c o e = omega arith
+
+processor-place : (c : ℕ) → (1 + 3 * c) % 3 ≡ 2 → ⊥
+processor-place c e = omega arith
+
+late-place : (c : ℕ) → (3 + 3 * c) % 3 ≡ 2 → ⊥
+late-place c e = omega arith
+
+pub retimed-none : {rooms k n : ℕ} {d : List ℕ} → Retimed rooms k n d d
+retimed-none = record { outside = kept-all; row = λ i o h g. refl }
+
+pub retimed-set : {rooms k n : ℕ} {d e : List ℕ} (i c y : ℕ) → Retimed rooms k n d e → k ≤ i → i < n → c < 8 → Retimed rooms k n d (set e (rowAt rooms i + (2 + 3 * c)) y)
+retimed-set {rooms} {k} {n} {d} {e} i c y r a b h =
+    record {
+      outside = kept-set (rowAt rooms i + (2 + 3 * c)) y (r .outside) (omega arith) (omega arith);
+      row = λ m o g f. getD-set-other e (rowAt rooms i + (2 + 3 * c)) (rowAt rooms m + o) y 0 (λ q. let z : i ≡ m = omega arith in f (early-place c o (omega arith))) ∙ r .row m o g f;
+    }
+
+pub retimed-then : {rooms k n m : ℕ} {d e f : List ℕ} → Retimed rooms 0 n d e → Retimed rooms k m e f → m ≤ n → Retimed rooms 0 n d f
+retimed-then {rooms} {k} {n} {m} p q h =
+    record {
+      outside = kept-then (p .outside) (kept-wider (rowAt rooms 0) (rowAt rooms n) (q .outside) (omega arith) (omega arith));
+      row = λ i o g f. q .row i o g f ∙ p .row i o g f;
+    }
+
+module _ {rooms k n : ℕ} {d e : List ℕ} (z : Retimed rooms k n d e) where
+  pub cell-retimed : (i : ℕ) → i < rowAt rooms 0 → nth e i ≡ nth d i
+  cell-retimed i h = z .outside .before i (omega arith)
+
+  pub task-retimed : (i : ℕ) → nth e (rowAt rooms i) ≡ nth d (rowAt rooms i)
+  task-retimed i = rw (add-zero (rowAt rooms i)) at (z .row i 0 (omega arith) (λ q. omega arith))
+
+  pub processor-retimed : (i c : ℕ) → c < 8 → nth e (rowAt rooms i + (1 + 3 * c)) ≡ nth d (rowAt rooms i + (1 + 3 * c))
+  processor-retimed i c h = z .row i (1 + 3 * c) (omega arith) (processor-place c)
+
+  late-retimed : (i c : ℕ) → c < 8 → nth e (rowAt rooms i + (3 + 3 * c)) ≡ nth d (rowAt rooms i + (3 + 3 * c))
+  late-retimed i c h = z .row i (3 + 3 * c) (omega arith) (late-place c)
+
+  module _ (s : JobHeld rooms d) where
+    pub job-retimed : jobIn e ≡ jobIn d
+    job-retimed = job-kept s (z .outside) (omega arith)
+
+    pub fed-retimed : (i : ℕ) → FedBefore rooms i d → FedBefore rooms i e
+    fed-retimed i f x h =
+        let w = sizes s in
+        let g : In x (incoming (jobIn d) (nth d (rowAt rooms i))) = rw (job-retimed, task-retimed i) at h in
+        let t : x .from < nth d 0 = rw (tasks-in d) at (s .facts .from-task x (in-incoming (jobIn d) (nth d (rowAt rooms i)) x g .0)) in
+        rw (cell-retimed (lineAt rooms + x .from) (omega arith)) (f x g)
+
+  -- Lines whose early times are those of ticks still stand.
+  pub standing-retimed : Standing rooms (nth d 0) d → ((i c : ℕ) → i < nth d 0 → c < nth d 3 + 1 → Small (document01 .tick) (nth e (rowAt rooms i + (2 + 3 * c)))) → Standing rooms (nth e 0) e
+  standing-retimed s early =
+      let w = sizes (s .job) in
+      let j : Same 0 (rowAt rooms 0) d e = same-before 0 (rowAt rooms 0) (z .outside) (omega arith) in
+      let v : nth e 0 ≡ nth d 0 = cell-retimed 0 (omega arith) in
+      let m : nth e 1 ≡ nth d 1 = cell-retimed 1 (omega arith) in
+      let l : nth e 3 ≡ nth d 3 = cell-retimed 3 (omega arith) in
+      let line : (t : ℕ) → t < nth d 0 → nth e (lineAt rooms + t) ≡ nth d (lineAt rooms + t) = λ t h. cell-retimed (lineAt rooms + t) (omega arith) in
+      record {
+        job = held-kept (s .job) (z .outside) (omega arith);
+        linked = rw (job-retimed (s .job))
+            (chained-same w (same-part 0 (jobSize rooms) j (omega arith) (omega arith)) (same-part (inHeadAt rooms) (inHeadAt rooms + nth d 0) j (omega arith) (omega arith)) (same-part (inNextAt rooms) (inNextAt rooms + nth d 2) j (omega arith) (omega arith)) (s .linked));
+        count = omega arith;
+        task-of = λ i h. rw (task-retimed i, v) (s .task-of i (rw v at h));
+        line-of = λ i h. let g : i < nth d 0 = rw v at h in rw (task-retimed i, line (nth d (rowAt rooms i)) (s .task-of i g)) (s .line-of i g);
+        placed = λ t h.
+            let g : t < nth d 0 = rw v at h in
+            rw (line t g, v) (⊎-elim (λ p. inl p) (λ p. inr (p .0, p .1, p .2, task-retimed (p .0) ∙ p .3)) (s .placed t g));
+        row = λ i h.
+            let r = s .row i (rw v at h) in
+            record {
+              processor-of = λ c g. let b : c < nth d 3 + 1 = rw l at g in rw (m, processor-retimed i c (omega arith)) (r .processor-of c b);
+              early-of = λ c g. early i c (rw v at h) (rw l at g);
+              late-of = λ c g. let b : c < nth d 3 + 1 = rw l at g in rw (late-retimed i c (omega arith)) (r .late-of c b);
+            };
+      }
+
+-- A cell after a store is the one that was stored, or as it was.
+set-cell : (P : ℕ → Type 0) (l : List ℕ) (i j y : ℕ) → i < length l → (i ≡ j → P y) → ((i ≡ j → ⊥) → P (nth l j)) → P (nth (set l i y) j)
+set-cell P l i j y h f g =
+    ⊎-elim
+    (λ (e : i ≡ j). rw (← e, getD-set-same l i y 0 h) (f e))
+    (λ e. rw (getD-set-other l i j y 0 (λ q. e (sym q))) (g e))
+    (equal-or-not i j)
+
+-- One replica ---------------------------------------------------------------------------------------------------------
+
+pub small-within : (b x : ℕ) → Small b x → Within b (timeIn x)
+small-within b x =
+    ⊎-elim
+    (λ (e : x ≡ neverCell). rw e tt)
+    (λ h. by (eqb x neverCell) h)
+  where
+    by : (t : Bool) → x ≤ b → Within b (if t then never else tick x)
+    by true h = tt
+    by false h = h
+
+within-small : (b x : ℕ) → Within b (timeIn x) → Small b x
+within-small b x h = ⊎-elim inl (λ n. inr (rw (time-tick x n) at h)) (equal-or-not x neverCell)
+
+-- The early times of a line whose outcomes do not pass a bound.
+row-small : (j : Job) (b a c i : ℕ) (mem : List ℕ) → i < c → PlacedWithin j b (rowOutcomes false a c mem) → Small b (nth mem (a + (2 + 3 * i)))
+unfolding rowOutcomes
+row-small j b a zero i mem h g = absurd (omega arith)
+row-small j b a (suc c) i mem h g =
+    ⊎-elim
+    (λ (e : i ≡ c). rw e (within-small b (nth mem (a + (2 + 3 * c))) (g _ (inl refl) .1)))
+    (λ l. row-small j b a c i mem l (λ d m. g d (inr m)))
+    (last-or-before c i h)
+
+module _ {rooms : ℕ} (k c : ℕ) {cells mem : List ℕ} (r : Running rooms k c cells mem) (a : k < nth mem 0) (b : c < nth mem 3 + 1) (f : FedBefore rooms k mem) where
+  abbrev runner : ℕ
+  runner = nth mem (rowAt rooms k)
+
+  abbrev box : ℕ
+  box = nth mem (rowAt rooms k + (1 + 3 * c))
+
+  pub box-below : box < nth mem 1
+  box-below = r .standing .row k a .processor-of c b
+
+  -- The data comes from the lines before.
+  data-ran : dataReady (jobIn mem) least (ranIn rooms k c mem) runner box ≡ dataIn rooms false runner box mem
+  unfolding dataReady arrival ranIn
+  data-ran =
+      ap largest
+      (map-same (arrival (jobIn mem) least (ranIn rooms k c mem) box) (arrival (jobIn mem) least (placedIn rooms false (nth mem 3 + 1) k mem) box) (incoming (jobIn mem) runner) λ e i.
+      let l = f e i .1 in
+      let own = r .standing .line-of k a in
+      rw (ofTask-append (e .from) (rowOutcomes false (rowAt rooms k) c mem) (placedIn rooms false (nth mem 3 + 1) k mem), row-none false mem (e .from) (rowAt rooms k) c (λ q. let g : nth mem (lineAt rooms + e .from) ≡ suc k = rw q at own in omega arith)))
+      ∙ sym (data-placed (r .standing) k runner (omega arith) f false box)
+
+  module _ (x : ℕ) (e : timeIn x ≡ after (runTime (jobIn mem) runner box) (later (timeIn (nth cells box)) (dataIn rooms false runner box mem))) where
+    -- The finish under stops, from the finish without.
+    pub finish-ran : (ss : List Stop) → finish (jobIn mem) least ss (ranIn rooms k c mem) (copyOf (jobIn mem) runner box) ≡ unlessStopped (stopTime ss box) (timeIn x)
+    unfolding finish start
+    finish-ran ss = rw (e, data-ran, r .ready-of box box-below)
+
+    pub finish-small : Small ((k * 8 + c) * lineTicks + lineTicks) x
+    unfolding trial stopTime
+    finish-small =
+        let j = jobIn mem in
+        let s = r .standing .job .facts in
+        let here : ℕ = tickOf (finish j least [] (ranIn rooms k c mem) (copyOf j runner box)) in
+        let among : In here (trial j (ranIn rooms k c mem) runner) =
+        map-in (λ y. tickOf (finish j least [] (ranIn rooms k c mem) y)) (copyOf j runner box) (copiesOf j runner (below (j .processors)))
+        (map-in (copyOf j runner) box (below (j .processors)) (below-in (j .processors) box (rw (processors-in mem) box-below))) in
+        let most : here ≤ (k * 8 + c) * lineTicks + lineTicks = trial-most document01 j s ((k * 8 + c) * lineTicks) (ranIn rooms k c mem) runner (rw (tasks-in mem) (r .standing .task-of k a)) (r .within) here among in
+        ⊎-elim inl (λ n. let q : here ≡ x = ap tickOf (finish-ran [] ∙ time-tick x n) in inr (omega arith)) (equal-or-not x neverCell)
+
+    -- Its outcome y takes the place of its early tick and becomes its processor's ready time.
+    module _ (y : ℕ) (n : (b : ℕ) → Small b x → Small b y) where
+      abbrev mem′ : List ℕ
+      mem′ = set mem (rowAt rooms k + (2 + 3 * c)) y
+
+      abbrev cells′ : List ℕ
+      cells′ = set cells box y
+
+      abbrev here : Outcome
+      here = record { task = runner; processor = box; time = timeIn y }
+
+      retimed : Retimed rooms k (suc k) mem mem′
+      retimed = let w = sizes (r .standing .job) in retimed-set k c y retimed-none (omega arith) (omega arith) (omega arith)
+
+      small-here : Small ((k * 8 + (c + 1)) * lineTicks) y
+      small-here = small-wider ((k * 8 + c) * lineTicks + lineTicks) ((k * 8 + (c + 1)) * lineTicks) y (omega arith) (n ((k * 8 + c) * lineTicks + lineTicks) finish-small)
+
+      pub ran-next : ranIn rooms k (c + 1) mem′ ≡ here ∷ ranIn rooms k c mem
+      unfolding ranIn rowOutcomes
+      ran-next =
+          let w = sizes (r .standing .job) in
+          let i : ℕ = rowAt rooms k + (2 + 3 * c) in
+          let one : KeptOutside i (i + 1) mem mem′ = kept-set i y kept-all (omega arith) (omega arith) in
+          rw (
+            add-one c,
+            task-retimed retimed k,
+            processor-retimed retimed k c (omega arith),
+            getD-set-same mem (rowAt rooms k + (2 + 3 * c)) y 0 (omega arith),
+            cell-retimed retimed 3 (omega arith),
+            outcomes-same mem mem′ false (rowAt rooms k) c (same-before (rowAt rooms k) (rowAt rooms k + (1 + 3 * c)) one (omega arith)),
+            placed-same mem mem′ rooms false (nth mem 3 + 1) k (omega arith) (same-before (rowAt rooms 0) (rowAt rooms k) one (omega arith)),
+          )
+
+      running-next : Running rooms k (c + 1) cells′ mem′
+      unfolding ready
+      running-next =
+          let w = sizes (r .standing .job) in
+          let j : jobIn mem′ ≡ jobIn mem = job-retimed retimed (r .standing .job) in
+          let m : nth mem′ 1 ≡ nth mem 1 = cell-retimed retimed 1 (omega arith) in
+          let most : (k * 8 + c) * lineTicks ≤ (k * 8 + (c + 1)) * lineTicks = omega arith in
+          record {
+            standing = standing-retimed retimed (r .standing) λ i q h g.
+                set-cell (Small (document01 .tick)) mem (rowAt rooms k + (2 + 3 * c)) (rowAt rooms i + (2 + 3 * q)) y (omega arith)
+                (λ e. small-wider ((k * 8 + (c + 1)) * lineTicks) (document01 .tick) y (omega arith) small-here)
+                (λ e. r .standing .row i h .early-of q g);
+            size = length-set cells box y ∙ r .size;
+            ready-of = λ p h.
+                rw (j, ran-next)
+                (set-cell (λ z. timeIn z ≡ ready (jobIn mem) p (here ∷ ranIn rooms k c mem)) cells box p y (omega (arith, box-below, r .size))
+                (λ e. rw (eq-eqb box p e))
+                (λ e. rw (ne-eqb box p e) (r .ready-of p (rw m at h))));
+            ready-small = λ p h.
+                set-cell (Small ((k * 8 + (c + 1)) * lineTicks)) cells box p y (omega (arith, box-below, r .size))
+                (λ e. small-here)
+                (λ e. small-wider ((k * 8 + c) * lineTicks) ((k * 8 + (c + 1)) * lineTicks) (nth cells p) most (r .ready-small p (rw m at h)));
+            within = rw (j, ran-next) (λ d i.
+                ⊎-elim
+                (λ q. rw (← q, processors-in mem) (box-below, small-within ((k * 8 + (c + 1)) * lineTicks) y small-here))
+                (λ q. let (g, t) = r .within d q in (g, weaker (d .time) most t))
+                i);
+          }
+
+-- A line --------------------------------------------------------------------------------------------------------------
+
+-- One more replica runs after the others; so do more replicas.
+walked-more : (j : Job) (ss : List Stop) (placed : List Outcome) (cs : List Copy) (y : Copy)
+    → walked j ss placed (cs ++ y ∷ []) ≡ outcome y (finish j least ss (walked j ss placed cs) y) ∷ walked j ss placed cs
+unfolding walked walk
+walked-more j ss placed [] y = refl
+walked-more j ss placed (c ∷ cs) y = walked-more j ss (outcome c (finish j least ss placed c) ∷ placed) cs y
+
+pub walked-append : (j : Job) (ss : List Stop) (placed : List Outcome) (bs cs : List Copy) → walked j ss placed (bs ++ cs) ≡ walked j ss (walked j ss placed bs) cs
+unfolding walked walk
+walked-append j ss placed [] cs = refl
+walked-append j ss placed (b ∷ bs) cs = walked-append j ss (outcome b (finish j least ss placed b) ∷ placed) bs cs
+
+copies-next : (rooms : ℕ) (k c : ℕ) (mem : List ℕ) → copiesIn rooms k (c + 1) mem ≡ copiesIn rooms k c mem ++ copyOf (jobIn mem) (nth mem (rowAt rooms k)) (nth mem (rowAt rooms k + (1 + 3 * c))) ∷ []
+unfolding copiesIn rowReplicas
+copies-next rooms k c mem =
+    let t = nth mem (rowAt rooms k) in
+    rw (add-one c, map-append (λ r. r .processor) (rowReplicas (rowAt rooms k) c mem) (_ ∷ [])) (map-append (copyOf (jobIn mem) t) (map (λ r. r .processor) (rowReplicas (rowAt rooms k) c mem)) (_ ∷ []))
+
+-- The first data of line k comes from lines that have run.
+pub line-fed-short : {rooms : ℕ} (k : ℕ) {cells d : List ℕ} → Running rooms k 0 cells d → k < nth d 0 → FedBefore rooms k d → FirstFed rooms (nth d (rowAt rooms k)) d
+unfolding ranIn rowOutcomes ofTask
+line-fed-short {rooms} k {cells} {d} r a f e i =
+    let w = sizes (r .standing .job) in
+    let most : ℕ = (k * 8 + 0) * lineTicks in
+    let row = rowOf rooms (e .from) d in
+    let own : ofTask (e .from) (placedIn rooms false (nth d 3 + 1) k d) ≡ rowOutcomes false row (nth d 3 + 1) d =
+    feeding-line (r .standing) k (nth d (rowAt rooms k)) (omega arith) f false e i in
+    let among : PlacedWithin (jobIn d) most (rowOutcomes false row (nth d 3 + 1) d) =
+    rw (← own) (λ x m. r .within x (in-keep (λ x. eqb (x .task) (e .from)) x (placedIn rooms false (nth d 3 + 1) k d) m .0)) in
+    (f e i .0, λ c h. small-wider most lastShort (nth d (row + (2 + 3 * c))) (omega arith) (row-small (jobIn d) most row (nth d 3 + 1) c d h among))
+
+-- c replicas of line k have run, from a memory d.
+pub record LineRuns (rooms k c : ℕ) (stops cells d e : List ℕ) : Type 0 where
+  pub running : Running rooms k c cells e
+  pub retimed : Retimed rooms k (suc k) d e
+  pub outcomes : (ss : List Stop) → StopsIn ss stops → ranIn rooms k c e ≡ walked (jobIn d) ss (placedIn rooms false (nth d 3 + 1) k d) (copiesIn rooms k c d)
+
+pub line-first : {rooms : ℕ} (k : ℕ) (stops : List ℕ) {cells d : List ℕ} → Running rooms k 0 cells d → LineRuns rooms k 0 stops cells d d
+unfolding ranIn rowOutcomes copiesIn rowReplicas walked walk
+line-first k stops r = record { running = r; retimed = retimed-none; outcomes = λ ss h. refl }
+
+-- The next replica, of task t on p: its processor, the cell of its run time and when its processor is ready.
+pub record LineStep (rooms t p : ℕ) (cells d e : List ℕ) : Type 0 where
+  pub processor : p < nth d 1
+  pub below : p < 16
+  pub run-below : 4 + t * (nth d 1 + 1) + 1 + p < jobSize rooms
+  pub run-most : nth e (4 + t * (nth d 1 + 1) + 1 + p) ≤ 1000000
+  pub ready-small : Small 4294967295 (nth cells p)
+
+module _ {rooms : ℕ} (k c : ℕ) {stops cells d e : List ℕ} (l : LineRuns rooms k c stops cells d e) (s : Standing rooms (nth d 0) d) (a : k < nth d 0) (f : FedBefore rooms k d) where
+  abbrev ran : Running rooms k c cells e
+  ran = l .running
+
+  line-below : k < nth e 0
+  line-below = rw (cell-retimed (l .retimed) 0 (omega arith)) a
+
+  line-fed : FedBefore rooms k e
+  line-fed = fed-retimed (l .retimed) (s .job) k f
+
+  -- The data of the line is what it was before.
+  line-data : (p : ℕ) → dataIn rooms false (nth e (rowAt rooms k)) p e ≡ dataIn rooms false (nth d (rowAt rooms k)) p d
+  line-data p =
+      let w = sizes (s .job) in
+      data-placed (ran .standing) k (nth e (rowAt rooms k)) (omega (arith, line-below)) line-fed false p
+      ∙ rw (
+        job-retimed (l .retimed) (s .job),
+        task-retimed (l .retimed) k,
+        cell-retimed (l .retimed) 3 (omega arith),
+        placed-same d e rooms false (nth d 3 + 1) k (omega arith) (same-before (rowAt rooms 0) (rowAt rooms k) (l .retimed .outside) (omega arith)),
+      )
+      (sym (data-placed s k (nth d (rowAt rooms k)) (omega arith) f false p))
+
+  module _ (b : c < nth d 3 + 1) where
+    abbrev its : ℕ
+    its = nth e (rowAt rooms k + (1 + 3 * c))
+
+    abbrev run : ℕ
+    run = 4 + nth d (rowAt rooms k) * (nth d 1 + 1) + 1 + its
+
+    replica-below : c < nth e 3 + 1
+    replica-below = rw (cell-retimed (l .retimed) 3 (omega arith)) b
+
+    its-below : its < nth e 1
+    its-below = box-below k c ran line-below replica-below line-fed
+
+    run-same : run ≡ 4 + nth e (rowAt rooms k) * (nth e 1 + 1) + (its + 1)
+    run-same = rw (task-retimed (l .retimed) k, cell-retimed (l .retimed) 1 (omega arith)) (omega arith)
+
+    run-ran : nth e run ≡ runTime (jobIn e) (nth e (rowAt rooms k)) its
+    run-ran = rw run-same (sym (run-in e (nth e (rowAt rooms k)) its (ran .standing .task-of k line-below) its-below))
+
+    pub line-step : LineStep rooms (nth d (rowAt rooms k)) its cells d e
+    line-step =
+        let w = sizes (s .job) in
+        let t = ran .standing .task-of k line-below in
+        let h : its < nth d 1 = rw (cell-retimed (l .retimed) 1 (omega arith)) at its-below in
+        record {
+          processor = h;
+          below = omega arith;
+          run-below = rw run-same (row-below (sizes (ran .standing .job)) (nth e (rowAt rooms k)) its (omega arith) its-below);
+          run-most = rw run-same (run-cell (ran .standing .job) (nth e (rowAt rooms k)) its t its-below);
+          ready-small = small-wider ((k * 8 + c) * lineTicks) 4294967295 (nth cells its) (omega arith) (ran .ready-small its its-below);
+        }
+
+    pub line-next : (supplied x y : ℕ)
+        → timeIn supplied ≡ dataIn rooms false (nth d (rowAt rooms k)) its d
+        → timeIn x ≡ after (nth e run) (later (timeIn (nth cells its)) (timeIn supplied))
+        → timeIn y ≡ unlessStopped (timeIn (nth stops its)) (timeIn x)
+        → ((b : ℕ) → Small b x → Small b y)
+        → LineRuns rooms k (c + 1) stops (set cells its y) d (set e (rowAt rooms k + (2 + 3 * c)) y)
+    line-next supplied x y o p₀ q n =
+        let w = sizes (s .job) in
+        let g = line-below in
+        let u = replica-below in
+        let v = line-fed in
+        let p : timeIn x ≡ after (runTime (jobIn e) (nth e (rowAt rooms k)) its) (later (timeIn (nth cells its)) (dataIn rooms false (nth e (rowAt rooms k)) its e)) = rw (line-data its, ← o, ← run-ran) p₀ in
+        record {
+          running = running-next k c ran g u v x p y n;
+          retimed = retimed-set k c y (l .retimed) (omega arith) (omega arith) (omega arith);
+          outcomes = λ ss h.
+              let j : jobIn e ≡ jobIn d = job-retimed (l .retimed) (s .job) in
+              let o : finish (jobIn e) least ss (ranIn rooms k c e) (copyOf (jobIn e) (nth e (rowAt rooms k)) its) ≡ timeIn y =
+              finish-ran k c ran g u v x p ss ∙ rw (← h its (line-step .below)) (sym q) in
+              ran-next k c ran g u v x p y n
+              ∙ rw (
+                copies-next rooms k c d,
+                walked-more (jobIn d) ss (placedIn rooms false (nth d 3 + 1) k d) (copiesIn rooms k c d) (copyOf (jobIn d) (nth d (rowAt rooms k)) (nth d (rowAt rooms k + (1 + 3 * c)))),
+                ← l .outcomes ss h,
+                ← j,
+                ← task-retimed (l .retimed) k,
+                ← processor-retimed (l .retimed) k c (omega arith),
+                o,
+              );
+        }
+
+  pub line-done : c ≡ nth d 3 + 1 → Running rooms (suc k) 0 cells e × LineRun rooms k stops d e
+  unfolding ranIn placedIn rowOutcomes
+  line-done q =
+      let w = sizes (s .job) in
+      let three : nth e 3 ≡ nth d 3 = cell-retimed (l .retimed) 3 (omega arith) in
+      let same : ranIn rooms k c e ≡ ranIn rooms (suc k) 0 e = rw (q, three) in
+      let most : (k * 8 + c) * lineTicks ≤ (suc k * 8 + 0) * lineTicks = omega arith in (
+        record {
+          standing = ran .standing;
+          size = ran .size;
+          ready-of = λ p g. rw (← same) (ran .ready-of p g);
+          ready-small = λ p g. small-wider ((k * 8 + c) * lineTicks) ((suc k * 8 + 0) * lineTicks) (nth cells p) most (ran .ready-small p g);
+          within = rw (← same) (λ x i. let (g, t) = ran .within x i in (g, weaker (x .time) most t));
+        },
+        record { retimed = l .retimed; outcomes = λ ss h. sym same ∙ l .outcomes ss h ∙ rw q },
+      )
+
+-- A stop in a cell ------------------------------------------------------------------------------------------------------
+
+module _ (stop x : ℕ) (h : x ≤ neverCell) where
+  pub stopped-late : stop < x → timeIn neverCell ≡ unlessStopped (timeIn stop) (timeIn x)
+  stopped-late g =
+      rw (time-tick stop (λ e. omega arith))
+      (⊎-elim (λ (e : x ≡ neverCell). rw e) (λ n. rw (time-tick x n, lt-leb x stop g)) (equal-or-not x neverCell))
+
+  pub stopped-by : x ≤ stop → stop ≤ neverCell → timeIn x ≡ unlessStopped (timeIn stop) (timeIn x)
+  stopped-by g i =
+      ⊎-elim
+      (λ (e : stop ≡ neverCell). rw e)
+      (λ n. rw (time-tick stop n, time-tick x (λ e. n (omega arith)), le-leb x stop g))
+      (equal-or-not stop neverCell)

@@ -1,0 +1,24 @@
+-- The tables beside the lines, after a change elsewhere.
+use mathlib.Core.List.{List}
+use Prim.Native.Nat.{ℕ, _+_, _-_, _<_}
+use native.Mathlib.Omega.{arith}
+use Rattle.definitions.specs.Lists.{nth}
+use Rattle.jobs.specs.Layout.{memorySize, jobSize, levelAt, lineAt, farAt}
+use Rattle.jobs.specs.Held.{JobHeld}
+use Rattle.rounds.specs.Schedule.{LevelsFilled, FarFilled}
+use Rattle.lists.proofs.Kept.{Same}
+use Rattle.jobs.proofs.Held.{sizes, job-same}
+
+-- The tables beside the lines, when the job and they are as they were.
+module _ {rooms : ℕ} {d e : List ℕ} (h : JobHeld rooms d) where
+  pub levels-same : Same 0 (jobSize rooms) d e → Same (levelAt rooms) (lineAt rooms) d e → LevelsFilled rooms d → LevelsFilled rooms e
+  levels-same j l f t g =
+      let w = sizes h in
+      let b : t < nth d 0 = rw (j .cell 0 (omega arith) (omega arith)) at g in
+      rw (job-same w j, l .cell (levelAt rooms + t) (omega arith) (omega arith)) (f t b)
+
+  pub far-same : Same 0 (jobSize rooms) d e → Same (farAt rooms) (memorySize rooms) d e → FarFilled rooms d → FarFilled rooms e
+  far-same j l f p g =
+      let w = sizes h in
+      let b : p < nth d 1 = rw (j .cell 1 (omega arith) (omega arith)) at g in
+      rw (job-same w j, l .cell (farAt rooms + p) (omega arith) (omega arith)) (f p b)

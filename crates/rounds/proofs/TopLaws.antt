@@ -1,0 +1,101 @@
+-- Top levels in memory: when the data of a line is everywhere, and the largest of that over the edges that enter a task.
+use mathlib.Core.Path.{_≡_, ap, _∙_, sym}
+use mathlib.Core.List.{List}
+use Prim.Native.Nat.{ℕ, suc, _+_, _*_, _-_, _<_, _≤_, min}
+use native.Mathlib.Omega.{arith}
+use native.Mathlib.Nat.{mul-le-mul}
+use native.Mathlib.Numerals.{add-one}
+use borrow.Author.Tests.{eq-eqb, ne-eqb}
+use Rattle.definitions.specs.Lists.{nth}
+use Rattle.definitions.specs.Limits.{document01}
+use Rattle.definitions.specs.Job.{Edge}
+use Rattle.definitions.specs.Times.{Time, tick, later, sooner, least}
+use Rattle.definitions.specs.Planner.{tickOf, scale}
+use Rattle.definitions.proofs.Bounds.{largestDelay-most}
+use Rattle.jobs.specs.Layout.{lineAt, rowAt, farAt}
+use Rattle.jobs.specs.Held.{jobIn, JobHeld}
+use Rattle.plans.specs.Lines.{timeIn, rowOutcomes, rowOf, Standing}
+use Rattle.rounds.specs.Schedule.{topIn, FarFilled}
+use Rattle.rounds.specs.Planning.{Sends, spreadIn}
+use Rattle.jobs.proofs.Held.{processors-in, sizes}
+use Rattle.rounds.specs.Walks.{Feeds}
+use Rattle.rounds.proofs.TimeLaws.{time-tick, Gathering, gather-done, later-left, later-right}
+use Rattle.rounds.proofs.Placed.{line-in}
+
+-- A line's data -----------------------------------------------------------------------------------------------------
+
+module _ {rooms a volume : ℕ} {mem : List ℕ} (h : JobHeld rooms mem) (s : Sends rooms a volume mem) (c : ℕ) (l : c < nth mem 3 + 1) where
+  pub sent-on : nth mem (a + (1 + 3 * c)) < 16
+  sent-on = omega (arith, s .row .processor-of c l, sizes h .processors-most)
+
+  -- What the message to the farthest processor takes.
+  pub sent-little : volume * nth mem (farAt rooms + nth mem (a + (1 + 3 * c))) ≤ 1044225
+  sent-little =
+      let p = nth mem (a + (1 + 3 * c)) in
+      let g = s .row .processor-of c l in
+      let m : nth mem (farAt rooms + p) ≤ 255 = rw (s .far p g) (largestDelay-most document01 (jobIn mem) (h .facts) p (rw (processors-in mem) g)) in
+      mul-le-mul {n₁ = volume} {m₁ = nth mem (farAt rooms + p)} {n₂ = 4095} {m₂ = 255} (s .little) m
+
+  abbrev sentAt : ℕ
+  sentAt = nth mem (a + (2 + 3 * c)) + volume * nth mem (farAt rooms + nth mem (a + (1 + 3 * c)))
+
+  spread-cons : spreadIn rooms volume a (suc c) mem ≡ sooner (tick sentAt) (spreadIn rooms volume a c mem)
+  unfolding spreadIn rowOutcomes least
+  spread-cons = rw (time-tick (nth mem (a + (2 + 3 * c))) (λ q. omega (arith, s .ticks c l)))
+
+  -- One replica more.
+  pub spread-more : (x y r : ℕ) → y ≡ sentAt → tick x ≡ spreadIn rooms volume a c mem → r ≡ min y x → tick r ≡ spreadIn rooms volume a (c + 1) mem
+  spread-more x y r e f g = rw (g, e, add-one c, spread-cons, ← f)
+
+-- The first replica.
+pub spread-first : {rooms a volume : ℕ} {mem : List ℕ} → JobHeld rooms mem → Sends rooms a volume mem → (x : ℕ)
+    → x ≡ nth mem (a + (2 + 3 * 0)) + volume * nth mem (farAt rooms + nth mem (a + (1 + 3 * 0))) → tick x ≡ spreadIn rooms volume a 1 mem
+unfolding spreadIn rowOutcomes least
+spread-first {a} {volume} {mem} h s x e = rw e (sym (spread-cons h s 0 (omega arith)))
+
+-- The edges that enter a task ---------------------------------------------------------------------------------------
+
+-- When the data of an edge is everywhere.
+abbrev pub spreads : ℕ → List ℕ → Edge → Time
+spreads rooms mem e = spreadIn rooms (e .volume) (rowOf rooms (e .from) mem) (nth mem 3 + 1) mem
+
+-- The line of a predecessor is one that the code may ask.
+pub feeds-sends : {rooms k : ℕ} {mem : List ℕ} {e : Edge} → Standing rooms k mem → ((i c : ℕ) → i < k → c < nth mem 3 + 1 → nth mem (rowAt rooms i + (2 + 3 * c)) ≤ document01 .tick)
+    → FarFilled rooms mem → Feeds rooms e mem → Sends rooms (rowOf rooms (e .from) mem) (e .volume) mem
+feeds-sends {rooms} {k} {mem} {e} s t f d =
+    let i = nth mem (lineAt rooms + e .from) - 1 in
+    let (l, _) = line-in s (e .from) i (d .from-below) (omega (arith, d .line-some)) in
+    record {
+      row = d .row;
+      within = omega (arith, d .line-some, d .line-most, s .job .size);
+      narrow = sizes (s .job) .losses-most;
+      ticks = λ c h. t i c l h;
+      little = d .volume-most;
+      far = f;
+    }
+
+-- The later of the new time and the largest so far.
+pub top-later : (x y : ℕ) → x ≤ 4296011520 → y ≤ 4296011520 → (tick y ≡ timeIn y) × (y ≤ x → timeIn x ≡ later (timeIn y) (timeIn x)) × (x ≤ y → timeIn y ≡ later (timeIn y) (timeIn x))
+top-later x y h g = (sym (time-tick y (λ q. omega arith)), later-right y x (omega arith) (omega arith), later-left y x (omega arith) (omega arith))
+
+module _ {rooms t x k : ℕ} {mem : List ℕ} (n : ℕ) (s : Standing rooms n mem) (g : Gathering rooms (spreads rooms mem) t mem (timeIn x) k) (e : k ≡ 0) (l : x ≤ 4296011520) where
+  top-done : x ≡ tickOf (topIn rooms t mem)
+  unfolding topIn spreadIn
+  top-done = ap tickOf (sym (time-tick x (λ q. omega arith)) ∙ gather-done (spreads rooms mem) n t mem s g e)
+
+  abbrev m : ℕ
+  m = nth mem 1
+
+  pub scale-most : m * (m - 1) ≤ 240
+  scale-most = let w = sizes (s .job) in mul-le-mul {n₁ = m} {m₁ = m - 1} {n₂ = 16} {m₂ = 15} (omega arith) (omega arith)
+
+  pub top-most : x * (m * (m - 1)) ≤ 1100000000000
+  top-most = omega (arith, mul-le-mul {n₁ = x} {m₁ = m * (m - 1)} {n₂ = 4296011520} {m₂ = 240} l scale-most)
+
+  pub top-one : m ≡ 1 → x ≡ tickOf (topIn rooms t mem) * scale (jobIn mem)
+  unfolding jobIn
+  top-one q = rw (← top-done, eq-eqb m 1 q) (omega arith)
+
+  pub top-scaled : (m ≡ 1 → ⊥) → x * (m * (m - 1)) ≡ tickOf (topIn rooms t mem) * scale (jobIn mem)
+  unfolding jobIn
+  top-scaled q = rw (← top-done, ne-eqb m 1 q)

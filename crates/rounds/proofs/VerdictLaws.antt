@@ -1,0 +1,24 @@
+-- The checker on two texts: its answer, by what was read of both.
+use mathlib.Core.Path.{refl}
+use mathlib.Core.List.{List}
+use Prim.Native.Nat.{ℕ}
+use Rattle.definitions.specs.Limits.{document01}
+use Rattle.definitions.specs.Text.{Result, good}
+use Rattle.definitions.specs.Job.{Job}
+use Rattle.definitions.specs.Plan.{Plan}
+use Rattle.definitions.specs.Tools.{verdictFor}
+use Rattle.text.specs.declared.Step.the-variants as Step
+use Rattle.jobs.specs.Held.{jobIn}
+use Rattle.plans.specs.Loading.{planIn, BothLoaded}
+use Rattle.rounds.specs.Tools.{verdictBoth}
+use Rattle.rounds.specs.Verdicts.{Judged}
+use Rattle.rounds.specs.declared.Checked.{Checked}
+use Rattle.rounds.specs.declared.Checked.the-variants.{Refused}
+use Rattle.plans.proofs.JobAndPlan.{both-no, both-next}
+
+module _ (rooms : ℕ) (x : Result (Job × Plan)) (mem : List ℕ) (n : ℕ) where
+  pub texts-refused : BothLoaded rooms x mem (Step.Refused n) → Judged (verdictBoth x) (Refused n)
+  texts-refused h = rw (both-no rooms mem n x h) refl
+
+  pub plan-judged : BothLoaded rooms x mem (Step.Next n) → (r : Checked) → Judged (verdictFor document01 (jobIn mem) (good (planIn rooms mem))) r → Judged (verdictBoth x) r
+  plan-judged h r a = rw (both-next rooms mem n x h .0) a

@@ -1,0 +1,175 @@
+-- The ticks of the replicas passed are the equations'.
+use mathlib.Core.Path.{_≡_, refl}
+use Prim.Native.Nat.{_≤_, _-_, _+_}
+use native.Mathlib.Omega.{arith}
+use borrow.Author.Needs.{needs}
+use borrow.Author.Needs.{needs, elem-fits-field}
+use mir.Syntax.{w32, w64}
+use lib.ListN.{getD}
+use mathlib.Core.Bool.{false≢true}
+use Rattle.rounds.specs.Checking.{AgreesTo, LineAgrees}
+use Rattle.jobs.proofs.Held.{sizes}
+use Rattle.rounds.proofs.AgreeLaws.{box-most, finishes-asked, short-next, agrees-none, agrees-next, early-not, late-not}
+use Rattle.rounds.proofs.checker.line_agrees.Statement.{statement}
+use Rattle.rounds.proofs.checker.line_agrees.Tie as tie
+
+abbrev Inv-loop : tie.InvT-loop
+Inv-loop mem rooms delays k rows w a t f c₀ c = (c ≤ w) × AgreesTo rooms k c mem
+
+abbrev μ-loop : tie.MeasureT-loop
+μ-loop mem rooms delays k rows w a t f c₀ c = w - c
+
+mul-rows : tie.Need-mul-rows Inv-loop μ-loop
+mul-rows c = search needs
+
+shared-slice-read-w : tie.Need-shared-slice-read-w Inv-loop μ-loop
+shared-slice-read-w c = let s = sizes (c .before .before .pre .0 .standing .job) in omega arith
+
+add-w : tie.Need-add-w Inv-loop μ-loop
+add-w c = let s = sizes (c .before .before .pre .0 .standing .job) in omega arith
+
+mul-a : tie.Need-mul-a Inv-loop μ-loop
+mul-a c = let s = sizes (c .before .before .pre .0 .standing .job) in omega arith
+
+add-a : tie.Need-add-a Inv-loop μ-loop
+add-a c = let s = sizes (c .before .before .pre .0 .standing .job) in omega arith
+
+mul-t : tie.Need-mul-t Inv-loop μ-loop
+mul-t c = let s = sizes (c .before .before .pre .0 .standing .job) in omega arith
+
+shared-slice-read-t : tie.Need-shared-slice-read-t Inv-loop μ-loop
+shared-slice-read-t c = let s = sizes (c .before .before .before .pre .0 .standing .job) in omega arith
+
+finishes-requires : tie.Need-finishes-requires Inv-loop μ-loop
+finishes-requires c κs = finishes-asked (c .before .before .before .pre .0) (c .before .before .before .args .k) (c .before .before .before .pre .2) (c .before .before .before .pre .3) (c .before .before .before .args .delays .now) (c .before .before .before .args .clocks) (c .before .before .before .pre .1) (c .before .before .before .pre .4)
+
+loop-holds : tie.Need-loop-holds Inv-loop μ-loop
+loop-holds c = (omega arith, agrees-none (c .before .before .before .before .args .rooms) (c .before .before .before .before .args .k) (c .before .before .before .before .args .mem .now))
+
+mul-p : tie.Need-mul-p Inv-loop μ-loop
+mul-p c = let s = sizes (c .before .before .before .before .before .before .pre .0 .standing .job) in omega arith
+
+add-p : tie.Need-add-p Inv-loop μ-loop
+add-p c = let s = sizes (c .before .before .before .before .before .before .pre .0 .standing .job) in omega arith
+
+add-p-2 : tie.Need-add-p-2 Inv-loop μ-loop
+add-p-2 c = let s = sizes (c .before .before .before .before .before .before .pre .0 .standing .job) in omega arith
+
+mul-p-2 : tie.Need-mul-p-2 Inv-loop μ-loop
+mul-p-2 c = let s = sizes (c .before .before .before .before .before .before .pre .0 .standing .job) in omega arith
+
+shared-slice-read-p : tie.Need-shared-slice-read-p Inv-loop μ-loop
+shared-slice-read-p c = let s = sizes (c .before .before .before .before .before .before .before .pre .0 .standing .job) in omega arith
+
+mul-if1 : tie.Need-mul-if1 Inv-loop μ-loop
+mul-if1 c = omega (arith, box-most (c .before .before .before .before .before .before .before .pre .0) (c .before .before .before .before .before .before .before .args .k) (c .before .before .before .before .before .before .before .pre .2) (c .before .before .loop .c) (c .before .loop-test .taken))
+
+element-copy-out-if1 : tie.Need-element-copy-out-if1 Inv-loop μ-loop
+element-copy-out-if1 c = box-most (c .before .before .before .before .before .before .before .pre .0) (c .before .before .before .before .before .before .before .args .k) (c .before .before .before .before .before .before .before .pre .2) (c .before .before .loop .c) (c .before .loop-test .taken)
+
+cast-if1 : tie.Need-cast-if1 Inv-loop μ-loop
+cast-if1 c = search needs
+
+mul-if1-2 : tie.Need-mul-if1-2 Inv-loop μ-loop
+mul-if1-2 c = let s = sizes (c .before .before .before .before .before .before .before .before .pre .0 .standing .job) in omega arith
+
+add-if1 : tie.Need-add-if1 Inv-loop μ-loop
+add-if1 c = let s = sizes (c .before .before .before .before .before .before .before .before .pre .0 .standing .job) in omega arith
+
+add-if1-2 : tie.Need-add-if1-2 Inv-loop μ-loop
+add-if1-2 c = let s = sizes (c .before .before .before .before .before .before .before .before .pre .0 .standing .job) in omega arith
+
+mul-if1-3 : tie.Need-mul-if1-3 Inv-loop μ-loop
+mul-if1-3 c = let s = sizes (c .before .before .before .before .before .before .before .before .pre .0 .standing .job) in omega arith
+
+shared-slice-read-if1 : tie.Need-shared-slice-read-if1 Inv-loop μ-loop
+shared-slice-read-if1 c = let s = sizes (c .before .before .before .before .before .before .before .before .before .pre .0 .standing .job) in omega arith
+
+returns : tie.Need-returns Inv-loop μ-loop
+returns c = let l = c .before .before .before .before .before .loop in (λ z. absurd (false≢true z), λ a. absurd (early-not (c .before .before .before .before .before .before .before .before .before .before .pre .0) (c .before .before .before .before .before .before .before .before .before .before .args .k) (c .before .before .before .before .before .before .before .before .before .before .pre .2) (l .c) (c .before .before .before .before .loop-test .taken) (c .before .before .before .before .before .before .before .before .before .before .args .clocks) (c .before .before .before .before .before .before .before .before .before .before .pre .4) (c .before .before .before .before .before .before .finishes .result .early) (c .before .before .before .before .before .before .finishes .result .late) (c .before .before .before .before .before .before .finishes .ensures) (c .if1 .taken) a))
+
+mul-if2 : tie.Need-mul-if2 Inv-loop μ-loop
+mul-if2 c = omega (arith, box-most (c .before .before .before .before .before .before .before .before .before .before .pre .0) (c .before .before .before .before .before .before .before .before .before .before .args .k) (c .before .before .before .before .before .before .before .before .before .before .pre .2) (c .before .before .before .before .before .loop .c) (c .before .before .before .before .loop-test .taken))
+
+element-copy-out-if2 : tie.Need-element-copy-out-if2 Inv-loop μ-loop
+element-copy-out-if2 c = box-most (c .before .before .before .before .before .before .before .before .before .before .pre .0) (c .before .before .before .before .before .before .before .before .before .before .args .k) (c .before .before .before .before .before .before .before .before .before .before .pre .2) (c .before .before .before .before .before .loop .c) (c .before .before .before .before .loop-test .taken)
+
+cast-if2 : tie.Need-cast-if2 Inv-loop μ-loop
+cast-if2 c = elem-fits-field w32 w64 (c .before .before .before .before .before .before .before .finishes .result .late) _ _ (c .before .before .before .before .before .before .before .finishes .ok .1 .1 .1 .0 .1 .1) tt
+
+mul-if2-2 : tie.Need-mul-if2-2 Inv-loop μ-loop
+mul-if2-2 c = let s = sizes (c .before .before .before .before .before .before .before .before .before .before .before .pre .0 .standing .job) in omega arith
+
+add-if2 : tie.Need-add-if2 Inv-loop μ-loop
+add-if2 c = let s = sizes (c .before .before .before .before .before .before .before .before .before .before .before .pre .0 .standing .job) in omega arith
+
+add-if2-2 : tie.Need-add-if2-2 Inv-loop μ-loop
+add-if2-2 c = let s = sizes (c .before .before .before .before .before .before .before .before .before .before .before .pre .0 .standing .job) in omega arith
+
+mul-if2-3 : tie.Need-mul-if2-3 Inv-loop μ-loop
+mul-if2-3 c = let s = sizes (c .before .before .before .before .before .before .before .before .before .before .before .pre .0 .standing .job) in omega arith
+
+shared-slice-read-if2 : tie.Need-shared-slice-read-if2 Inv-loop μ-loop
+shared-slice-read-if2 c = let s = sizes (c .before .before .before .before .before .before .before .before .before .before .before .before .pre .0 .standing .job) in omega arith
+
+returns-2 : tie.Need-returns-2 Inv-loop μ-loop
+returns-2 c = let l = c .before .before .before .before .before .before .before .before .loop in (λ z. absurd (false≢true z), λ a. absurd (late-not (c .before .before .before .before .before .before .before .before .before .before .before .before .before .pre .0) (c .before .before .before .before .before .before .before .before .before .before .before .before .before .args .k) (c .before .before .before .before .before .before .before .before .before .before .before .before .before .pre .2) (l .c) (c .before .before .before .before .before .before .before .loop-test .taken) (c .before .before .before .before .before .before .before .before .before .before .before .before .before .args .clocks) (c .before .before .before .before .before .before .before .before .before .before .before .before .before .pre .4) (c .before .before .before .before .before .before .before .before .before .finishes .result .early) (c .before .before .before .before .before .before .before .before .before .finishes .result .late) (c .before .before .before .before .before .before .before .before .before .finishes .ensures) (c .if2 .taken) a))
+
+add-c : tie.Need-add-c Inv-loop μ-loop
+add-c c = let s = sizes (c .before .before .before .before .before .before .before .before .before .before .before .before .before .pre .0 .standing .job) in omega arith
+
+loop-less : tie.Need-loop-less Inv-loop μ-loop
+loop-less c = search needs
+
+loop-again : tie.Need-loop-again Inv-loop μ-loop
+loop-again c = let l = c .before .before .before .before .before .before .before .before .loop in (omega arith, agrees-next (c .before .before .before .before .before .before .before .before .before .before .before .before .before .pre .0) (c .before .before .before .before .before .before .before .before .before .before .before .before .before .args .k) (c .before .before .before .before .before .before .before .before .before .before .before .before .before .pre .2) (l .c) (c .before .before .before .before .before .before .before .loop-test .taken) (c .before .before .before .before .before .before .before .before .before .before .before .before .before .args .clocks) (c .before .before .before .before .before .before .before .before .before .before .before .before .before .pre .4) (c .before .before .before .before .before .before .before .before .before .finishes .result .early) (c .before .before .before .before .before .before .before .before .before .finishes .result .late) (c .before .before .before .before .before .before .before .before .before .finishes .ensures) (c .before .before .before .if1 .left) (c .if2 .left) (l .inv .1))
+
+returns-3 : tie.Need-returns-3 Inv-loop μ-loop
+returns-3 c =
+    let l = c .before .loop in
+    let e : l .c ≡ getD (c .before .before .before .before .before .before .args .mem .now) 3 0 + 1 = omega arith in
+    let a : LineAgrees (c .before .before .before .before .before .before .args .rooms) (c .before .before .before .before .before .before .args .k) (c .before .before .before .before .before .before .args .mem .now) = rw e at (l .inv .1) in
+    (λ z. (a, short-next (c .before .before .before .before .before .before .pre .0) (c .before .before .before .before .before .before .args .k) (c .before .before .before .before .before .before .pre .2) (c .before .before .before .before .before .before .pre .3) a), λ b. refl)
+
+pub line-agrees-spec : {M : Type 1} → statement M
+line-agrees-spec =
+    tie.close
+    (tie.spec
+    Inv-loop
+    μ-loop
+    mul-rows
+    shared-slice-read-w
+    add-w
+    mul-a
+    add-a
+    mul-t
+    shared-slice-read-t
+    finishes-requires
+    loop-holds
+    mul-p
+    add-p
+    add-p-2
+    mul-p-2
+    shared-slice-read-p
+    mul-if1
+    element-copy-out-if1
+    cast-if1
+    mul-if1-2
+    add-if1
+    add-if1-2
+    mul-if1-3
+    shared-slice-read-if1
+    returns
+    mul-if2
+    element-copy-out-if2
+    cast-if2
+    mul-if2-2
+    add-if2
+    add-if2-2
+    mul-if2-3
+    shared-slice-read-if2
+    returns-2
+    add-c
+    loop-less
+    loop-again
+    returns-3)

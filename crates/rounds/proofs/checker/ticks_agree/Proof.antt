@@ -1,0 +1,87 @@
+-- The ticks of the lines passed are the equations', and the clocks are those after them.
+use mathlib.Core.Path.{sym, _∙_}
+use Prim.Native.Nat.{ℕ, _≤_, _<_, _-_}
+use native.Mathlib.Omega.{arith}
+use borrow.Author.Needs.{needs}
+use mathlib.Core.Bool.{false≢true}
+use Rattle.rounds.specs.Schedule.{ShortTo}
+use Rattle.rounds.specs.Checking.{ClocksAfter, LineAgrees}
+use Rattle.jobs.proofs.Held.{sizes}
+use Rattle.rounds.proofs.ClockLaws.{line-timed, clocks-line}
+use Rattle.rounds.proofs.AgreeLaws.{clocks-new, ticks-yes, ticks-no, agreed-next}
+use Rattle.rounds.proofs.checker.ticks_agree.Statement.{statement}
+use Rattle.rounds.proofs.checker.ticks_agree.Tie as tie
+
+abbrev Inv-loop : tie.InvT-loop
+Inv-loop mem rooms rows v delays clocks₀ k₀ clocks k =
+    (k ≤ v) × ((i : ℕ) → i < k → LineAgrees rooms i mem) × ShortTo rooms k mem × ClocksAfter rooms k mem clocks
+
+abbrev μ-loop : tie.MeasureT-loop
+μ-loop mem rooms rows v delays clocks₀ k₀ clocks k = v - k
+
+mul-rows : tie.Need-mul-rows Inv-loop μ-loop
+mul-rows c = search needs
+
+shared-slice-read-v : tie.Need-shared-slice-read-v Inv-loop μ-loop
+shared-slice-read-v c = let s = sizes (c .before .before .pre .0 .standing .job) in omega arith
+
+delay-table-requires : tie.Need-delay-table-requires Inv-loop μ-loop
+delay-table-requires c κs = (_, c .before .before .pre .0 .standing .job)
+
+new-requires : tie.Need-new-requires Inv-loop μ-loop
+new-requires c κs = search needs
+
+loop-holds : tie.Need-loop-holds Inv-loop μ-loop
+loop-holds c = (omega arith, λ i l. absurd (omega arith), λ i n l m. absurd (omega arith), clocks-new (c .new .result) (c .before .before .before .before .args .mem .now) (c .before .before .before .before .pre .0 .standing .job) (c .new .ensures .0) (c .new .ensures .1))
+
+line-agrees-requires : tie.Need-line-agrees-requires Inv-loop μ-loop
+line-agrees-requires c κs = (c .before .before .before .before .before .before .before .pre .0, c .before .before .before .before .delay-table .ensures, c .before .loop-test .taken, c .before .before .loop .inv .2, c .before .before .loop .inv .3)
+
+mul-advance-line : tie.Need-mul-advance-line Inv-loop μ-loop
+mul-advance-line c = let s = sizes (c .before .before .before .before .before .before .before .before .before .pre .0 .standing .job) in omega arith
+
+add-advance-line : tie.Need-add-advance-line Inv-loop μ-loop
+add-advance-line c = let s = sizes (c .before .before .before .before .before .before .before .before .before .pre .0 .standing .job) in omega arith
+
+advance-line-requires : tie.Need-advance-line-requires Inv-loop μ-loop
+advance-line-requires c κs = line-timed (c .before .before .before .before .before .before .before .before .before .pre .0 .standing) (omega arith) (c .before .line-agrees .ensures .0 (c .if1 .taken) .1) (c .before .before .before .before .loop .k) (omega arith)
+
+returns : tie.Need-returns Inv-loop μ-loop
+returns c = ticks-no (c .before .before .before .before .before .before .before .before .before .pre .0) (c .before .before .before .before .before .before .before .before .before .pre .1) (c .before .before .before .before .loop .k) (c .before .before .before .loop-test .taken) (λ a. false≢true (sym (c .if1 .left) ∙ c .before .line-agrees .ensures .1 a))
+
+add-k : tie.Need-add-k Inv-loop μ-loop
+add-k c = let s = sizes (c .before .before .before .before .before .before .before .before .before .before .pre .0 .standing .job) in omega arith
+
+loop-less : tie.Need-loop-less Inv-loop μ-loop
+loop-less c = search needs
+
+loop-again : tie.Need-loop-again Inv-loop μ-loop
+loop-again c =
+    let (a, s) = c .before .before .line-agrees .ensures .0 (c .before .if1 .taken) in
+    let l = c .before .before .before .before .before .loop in
+    let x = c .before .before .before .before .before .before .before .before .before .before .args in
+    (omega arith, agreed-next (x .rooms) (x .mem .now) (l .k) a (l .inv .1), s, clocks-line (x .rooms) (l .k) (x .mem .now) (c .advance-line .result) (c .advance-line .ensures _ _ (l .inv .3)))
+
+returns-2 : tie.Need-returns-2 Inv-loop μ-loop
+returns-2 c = ticks-yes (c .before .before .before .before .before .before .pre .0) (c .before .before .before .before .before .before .pre .1) (c .before .loop .k) (omega arith) (c .before .loop .inv .1)
+
+pub ticks-agree-spec : {M : Type 1} → statement M
+ticks-agree-spec =
+    tie.close
+    (tie.spec
+    Inv-loop
+    μ-loop
+    mul-rows
+    shared-slice-read-v
+    delay-table-requires
+    new-requires
+    loop-holds
+    line-agrees-requires
+    mul-advance-line
+    add-advance-line
+    advance-line-requires
+    returns
+    add-k
+    loop-less
+    loop-again
+    returns-2)

@@ -1,0 +1,58 @@
+-- acc is the largest end of the tasks passed.
+use Prim.Native.Nat.{_≤_, _-_}
+use native.Mathlib.Omega.{arith}
+use borrow.Author.Needs.{needs}
+use Rattle.jobs.proofs.Held.{sizes}
+use Rattle.rounds.proofs.EndLaws.{Ending, ending-first, ending-next, ending-done}
+use Rattle.rounds.proofs.ends.end_of.Statement.{statement}
+use Rattle.rounds.proofs.ends.end_of.Tie as tie
+
+abbrev Inv-loop : tie.InvT-loop
+Inv-loop mem rooms late v acc₀ t₀ acc t = (t ≤ v) × Ending rooms late mem acc t
+
+abbrev μ-loop : tie.MeasureT-loop
+μ-loop mem rooms late v acc₀ t₀ acc t = v - t
+
+shared-slice-read-v : tie.Need-shared-slice-read-v Inv-loop μ-loop
+shared-slice-read-v c = let w = sizes (c .before .before .pre .0 .job) in omega arith
+
+loop-holds : tie.Need-loop-holds Inv-loop μ-loop
+loop-holds c = (search needs, ending-first (c .before .before .args .rooms) (c .before .before .args .late) (c .before .before .args .mem .now))
+
+exit-time-requires : tie.Need-exit-time-requires Inv-loop μ-loop
+exit-time-requires c κs = (c .before .before .before .before .pre .0, c .before .before .before .before .pre .1, c .loop-test .taken)
+
+chosen-of-requires : tie.Need-chosen-of-requires Inv-loop μ-loop
+chosen-of-requires c κs = search needs
+
+add-t : tie.Need-add-t Inv-loop μ-loop
+add-t c = let w = sizes (c .before .before .before .before .before .before .pre .0 .job) in omega arith
+
+loop-less : tie.Need-loop-less Inv-loop μ-loop
+loop-less c = search needs
+
+loop-again : tie.Need-loop-again Inv-loop μ-loop
+loop-again c =
+    let a = c .before .before .before .before .before .before .args in
+    let l = c .before .before .before .loop in (
+      search needs,
+      ending-next (a .rooms) (a .late) (a .mem .now) (l .acc) (l .t) (c .before .exit-time .result) (c .chosen-of .result) (c .before .before .loop-test .taken) (c .before .exit-time .ensures) (c .chosen-of .ensures .0) (l .inv .1),
+    )
+
+returns : tie.Need-returns Inv-loop μ-loop
+returns c = let a = c .before .before .before .before .args in let l = c .before .loop in ending-done (a .rooms) (a .late) (a .mem .now) (l .acc) (l .t) (c .loop-test .left) (l .inv .1)
+
+pub end-of-spec : {M : Type 1} → statement M
+end-of-spec =
+    tie.close
+    (tie.spec
+    Inv-loop
+    μ-loop
+    shared-slice-read-v
+    loop-holds
+    exit-time-requires
+    chosen-of-requires
+    add-t
+    loop-less
+    loop-again
+    returns)

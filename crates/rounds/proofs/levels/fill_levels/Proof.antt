@@ -1,0 +1,91 @@
+-- The tasks passed, from the last of the order on, have their bottom level.
+use mathlib.Core.Path.{_≡_, refl}
+use Prim.Native.Nat.{_≤_}
+use native.Mathlib.Omega.{arith}
+use borrow.Author.Needs.{needs}
+use lib.ListN.{length}
+use Rattle.definitions.specs.Lists.{nth}
+use Rattle.jobs.specs.Layout.{memorySize}
+use Rattle.jobs.proofs.Held.{sizes}
+use Rattle.rounds.proofs.LevelLaws.{Filling, filling-none, filling-held, filling-linked, filling-job, filling-task, filling-below, filling-run, filling-most, filling-more, filling-done}
+use Rattle.rounds.proofs.levels.fill_levels.Statement.{statement}
+use Rattle.rounds.proofs.levels.fill_levels.Tie as tie
+
+abbrev Inv-loop : tie.InvT-loop
+Inv-loop mem₀ rooms order total level i₀ mem i = (i ≤ nth mem₀ 0) × (length mem ≡ memorySize rooms) × Filling rooms order mem₀ mem i
+
+abbrev μ-loop : tie.MeasureT-loop
+μ-loop mem₀ rooms order total level i₀ mem i = i
+
+mul-level : tie.Need-mul-level Inv-loop μ-loop
+mul-level c = search needs
+
+slice-read-i : tie.Need-slice-read-i Inv-loop μ-loop
+slice-read-i c = let s = sizes (c .before .before .pre .0) in omega arith
+
+loop-holds : tie.Need-loop-holds Inv-loop μ-loop
+loop-holds c = (search needs, c .before .before .pre .0 .size, filling-none _ _ refl)
+
+sub-i : tie.Need-sub-i Inv-loop μ-loop
+sub-i c = search needs
+
+element-copy-out-t : tie.Need-element-copy-out-t Inv-loop μ-loop
+element-copy-out-t c = let s = sizes (c .before .before .before .before .pre .0) in omega arith
+
+cast-t : tie.Need-cast-t Inv-loop μ-loop
+cast-t c = let s = sizes (c .before .before .before .before .before .pre .0) in omega (arith, filling-task (c .before .before .before .before .before .pre .0) (c .before .before .before .before .before .pre .3) (c .before .before .loop .inv .2) (c .before .loop-test .taken) (c .before .before .loop .inv .0))
+
+scaled-run-requires : tie.Need-scaled-run-requires Inv-loop μ-loop
+scaled-run-requires c κs = ((_, filling-held (c .before .before .before .before .before .before .pre .0) (c .before .before .before .before .before .before .pre .3) (c .before .before .before .loop .inv .2)), filling-below (c .before .before .before .before .before .before .pre .0) (c .before .before .before .before .before .before .pre .3) (c .before .before .before .loop .inv .2) (c .before .before .loop-test .taken) (c .before .before .before .loop .inv .0))
+
+longest-after-requires : tie.Need-longest-after-requires Inv-loop μ-loop
+longest-after-requires c κs =
+    let f = c .before .before .before .before .before .loop .inv .2 in
+    (filling-held (c .before .before .before .before .before .before .before .before .pre .0) (c .before .before .before .before .before .before .before .before .pre .3) f, filling-linked (c .before .before .before .before .before .before .before .before .pre .0) (c .before .before .before .before .before .before .before .before .pre .3) f (c .before .before .before .before .before .before .before .before .pre .1), filling-below (c .before .before .before .before .before .before .before .before .pre .0) (c .before .before .before .before .before .before .before .before .pre .3) f (c .before .before .before .before .loop-test .taken) (c .before .before .before .before .before .loop .inv .0), rw (filling-job (c .before .before .before .before .before .before .before .before .pre .0) (c .before .before .before .before .before .before .before .before .pre .3) f) (c .before .before .before .before .before .before .before .before .pre .2), filling-most (c .before .before .before .before .before .before .before .before .pre .0) (c .before .before .before .before .before .before .before .before .pre .3) f (c .before .before .before .before .loop-test .taken) (c .before .before .before .before .before .loop .inv .0))
+
+add-mem : tie.Need-add-mem Inv-loop μ-loop
+add-mem c = omega (arith, c .before .before .scaled-run .ensures, filling-run (c .before .before .before .before .before .before .before .before .before .pre .0) (c .before .before .before .before .before .before .before .before .before .pre .3) (c .before .before .before .before .before .before .loop .inv .2) (c .before .before .before .before .before .loop-test .taken) (c .before .before .before .before .before .before .loop .inv .0), c .longest-after .ensures .1)
+
+add-mem-2 : tie.Need-add-mem-2 Inv-loop μ-loop
+add-mem-2 c = let s = sizes (c .before .before .before .before .before .before .before .before .before .pre .0) in omega (arith, filling-task (c .before .before .before .before .before .before .before .before .before .pre .0) (c .before .before .before .before .before .before .before .before .before .pre .3) (c .before .before .before .before .before .before .loop .inv .2) (c .before .before .before .before .before .loop-test .taken) (c .before .before .before .before .before .before .loop .inv .0))
+
+mul-mem : tie.Need-mul-mem Inv-loop μ-loop
+mul-mem c = let s = sizes (c .before .before .before .before .before .before .before .before .before .pre .0) in omega (arith, filling-task (c .before .before .before .before .before .before .before .before .before .pre .0) (c .before .before .before .before .before .before .before .before .before .pre .3) (c .before .before .before .before .before .before .loop .inv .2) (c .before .before .before .before .before .loop-test .taken) (c .before .before .before .before .before .before .loop .inv .0))
+
+slice-write-mem : tie.Need-slice-write-mem Inv-loop μ-loop
+slice-write-mem c = let s = sizes (c .before .before .before .before .before .before .before .before .before .pre .0) in omega (arith, filling-task (c .before .before .before .before .before .before .before .before .before .pre .0) (c .before .before .before .before .before .before .before .before .before .pre .3) (c .before .before .before .before .before .before .loop .inv .2) (c .before .before .before .before .before .loop-test .taken) (c .before .before .before .before .before .before .loop .inv .0), c .before .before .before .before .before .before .loop .inv .1)
+
+loop-less : tie.Need-loop-less Inv-loop μ-loop
+loop-less c = search needs
+
+loop-again : tie.Need-loop-again Inv-loop μ-loop
+loop-again c = (search needs, search needs, filling-more (c .before .before .before .before .before .before .before .before .before .pre .0) (c .before .before .before .before .before .before .before .before .before .pre .3) (c .before .before .before .before .before .before .loop .inv .2) (c .before .before .before .before .before .loop-test .taken) (c .before .before .before .before .before .before .loop .inv .0) _ (omega (arith, c .before .before .scaled-run .ensures, c .longest-after .ensures .0)))
+
+same-length : tie.Need-same-length Inv-loop μ-loop
+same-length c = search needs
+
+returns : tie.Need-returns Inv-loop μ-loop
+returns c = filling-done (c .before .before .before .before .pre .0) (c .before .before .before .before .pre .3) (c .before .loop .inv .2) (omega arith)
+
+pub fill-levels-spec : {M : Type 1} → statement M
+fill-levels-spec =
+    tie.close
+    (tie.spec
+    Inv-loop
+    μ-loop
+    mul-level
+    slice-read-i
+    loop-holds
+    sub-i
+    element-copy-out-t
+    cast-t
+    scaled-run-requires
+    longest-after-requires
+    add-mem
+    add-mem-2
+    mul-mem
+    slice-write-mem
+    loop-less
+    loop-again
+    same-length
+    returns)

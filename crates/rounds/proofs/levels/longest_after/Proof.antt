@@ -1,0 +1,119 @@
+-- x is the largest over the edges passed; the links lead through the others.
+use mathlib.Core.Path.{_≡_}
+use Prim.Native.Nat.{_≤_, _+_, _*_}
+use native.Mathlib.Omega.{arith}
+use borrow.Author.Needs.{needs}
+use Rattle.definitions.specs.Lists.{nth}
+use Rattle.jobs.specs.Layout.{levelAt}
+use Rattle.jobs.proofs.Held.{sizes}
+use Rattle.rounds.specs.Levels.{sent}
+use Rattle.rounds.specs.Walks.{edgeOf}
+use Rattle.rounds.proofs.LevelLaws.{Longest, longest-none, longest-leaves, longest-to, longest-message, longest-falls, longest-next, longest-done}
+use Rattle.rounds.proofs.levels.longest_after.Statement.{statement}
+use Rattle.rounds.proofs.levels.longest_after.Tie as tie
+
+abbrev Inv-loop : tie.InvT-loop
+Inv-loop mem rooms t total level g x₀ k₀ x k = (x ≤ 133_714_329_600) × Longest rooms t mem x k
+
+abbrev μ-loop : tie.MeasureT-loop
+μ-loop mem rooms t total level g x₀ k₀ x k = k
+
+mul-level : tie.Need-mul-level Inv-loop μ-loop
+mul-level c = search needs
+
+edges-at-requires : tie.Need-edges-at-requires Inv-loop μ-loop
+edges-at-requires c κs = (_, c .before .pre .0)
+
+mul-k : tie.Need-mul-k Inv-loop μ-loop
+mul-k c = search needs
+
+add-k : tie.Need-add-k Inv-loop μ-loop
+add-k c = search needs
+
+mul-k-2 : tie.Need-mul-k-2 Inv-loop μ-loop
+mul-k-2 c = search needs
+
+shared-slice-read-k : tie.Need-shared-slice-read-k Inv-loop μ-loop
+shared-slice-read-k c = let s = sizes (c .before .before .before .pre .0) in omega (arith, s .size, s .tasks-most, c .before .before .before .pre .2)
+
+loop-holds : tie.Need-loop-holds Inv-loop μ-loop
+loop-holds c = (omega arith, longest-none (c .before .before .before .pre .0) (c .before .before .before .pre .1) (c .before .before .before .pre .2))
+
+leaving-requires : tie.Need-leaving-requires Inv-loop μ-loop
+leaving-requires c κs = record { job = c .before .before .before .before .before .pre .0; place = c .before .before .before .edges-at .ensures; some = c .loop-test .taken; most = c .before .loop .inv .1 .most }
+
+mul-y : tie.Need-mul-y Inv-loop μ-loop
+mul-y c = rw (c .before .leaving .ensures .volume-of) (omega (arith, longest-message (c .before .before .before .before .before .before .before .pre .0) (c .before .before .before .before .before .before .before .pre .1) (c .before .before .before .before .before .before .before .pre .2) (c .before .before .before .loop .inv .1) (c .before .before .loop-test .taken) (c .before .before .before .before .before .before .before .pre .3)))
+
+add-y : tie.Need-add-y Inv-loop μ-loop
+add-y c = search needs
+
+mul-y-2 : tie.Need-mul-y-2 Inv-loop μ-loop
+mul-y-2 c = search needs
+
+shared-slice-read-y : tie.Need-shared-slice-read-y Inv-loop μ-loop
+shared-slice-read-y c = let s = sizes (c .before .before .before .before .before .before .before .before .pre .0) in omega (arith, c .before .before .leaving .ensures .to-below, s .size, s .tasks-most)
+
+add-y-2 : tie.Need-add-y-2 Inv-loop μ-loop
+add-y-2 c =
+    let e = edgeOf (c .before .before .before .before .loop .k) (c .before .before .before .before .before .before .before .before .args .mem .now) in
+    rw (c .before .before .leaving .ensures .volume-of, c .before .before .leaving .ensures .to-of)
+    (omega (arith, longest-message (c .before .before .before .before .before .before .before .before .pre .0) (c .before .before .before .before .before .before .before .before .pre .1) (c .before .before .before .before .before .before .before .before .pre .2) (c .before .before .before .before .loop .inv .1) (c .before .before .before .loop-test .taken) (c .before .before .before .before .before .before .before .before .pre .3), c .before .before .before .before .before .before .before .before .pre .4 e (longest-leaves (c .before .before .before .before .before .before .before .before .pre .0) (c .before .before .before .before .before .before .before .before .pre .1) (c .before .before .before .before .before .before .before .before .pre .2) (c .before .before .before .before .loop .inv .1) (c .before .before .before .loop-test .taken))))
+
+loop-less : tie.Need-loop-less Inv-loop μ-loop
+loop-less c = rw (c .before .before .before .leaving .ensures .next-of) (longest-falls (c .before .before .before .before .before .before .before .before .before .pre .0) (c .before .before .before .before .before .before .before .before .before .pre .1) (c .before .before .before .before .before .before .before .before .before .pre .2) (c .before .before .before .before .before .loop .inv .1) (c .before .before .before .before .loop-test .taken))
+
+loop-again : tie.Need-loop-again Inv-loop μ-loop
+loop-again c =
+    let mem = c .before .before .before .before .before .before .before .before .before .args .mem .now in
+    let g = c .before .before .before .before .before .loop .inv .1 in
+    let h = c .before .before .before .before .loop-test .taken in
+    let f = c .before .before .before .leaving .ensures in
+    let e = edgeOf (c .before .before .before .before .before .loop .k) mem in
+    let y : c .before .before .before .leaving .result .volume * c .before .before .before .before .before .before .before .before .before .args .total + nth mem (levelAt (c .before .before .before .before .before .before .before .before .before .args .rooms) + c .before .before .before .leaving .result .to) ≡ sent (c .before .before .before .before .before .before .before .before .before .args .rooms) mem e = rw (f .volume-of, f .to-of, c .before .before .before .before .before .before .before .before .before .pre .3) in
+    let z : sent (c .before .before .before .before .before .before .before .before .before .args .rooms) mem e ≤ 133_714_329_600 =
+    rw (← c .before .before .before .before .before .before .before .before .before .pre .3) (omega (arith, longest-message (c .before .before .before .before .before .before .before .before .before .pre .0) (c .before .before .before .before .before .before .before .before .before .pre .1) (c .before .before .before .before .before .before .before .before .before .pre .2) g h (c .before .before .before .before .before .before .before .before .before .pre .3), c .before .before .before .before .before .before .before .before .before .pre .4 e (longest-leaves (c .before .before .before .before .before .before .before .before .before .pre .0) (c .before .before .before .before .before .before .before .before .before .pre .1) (c .before .before .before .before .before .before .before .before .before .pre .2) g h))) in
+    (omega (arith, y, z, c .before .before .before .before .before .loop .inv .0), rw (f .next-of) (longest-next (c .before .before .before .before .before .before .before .before .before .pre .0) (c .before .before .before .before .before .before .before .before .before .pre .1) (c .before .before .before .before .before .before .before .before .before .pre .2) g h (c .before .before .before .leaving .result .volume * c .before .before .before .before .before .before .before .before .before .args .total + nth mem (levelAt (c .before .before .before .before .before .before .before .before .before .args .rooms) + c .before .before .before .leaving .result .to)) (omega (arith, c .if1 .taken, y))))
+
+loop-less-2 : tie.Need-loop-less-2 Inv-loop μ-loop
+loop-less-2 c = rw (c .before .before .before .leaving .ensures .next-of) (longest-falls (c .before .before .before .before .before .before .before .before .before .pre .0) (c .before .before .before .before .before .before .before .before .before .pre .1) (c .before .before .before .before .before .before .before .before .before .pre .2) (c .before .before .before .before .before .loop .inv .1) (c .before .before .before .before .loop-test .taken))
+
+loop-again-2 : tie.Need-loop-again-2 Inv-loop μ-loop
+loop-again-2 c =
+    let mem = c .before .before .before .before .before .before .before .before .before .args .mem .now in
+    let g = c .before .before .before .before .before .loop .inv .1 in
+    let h = c .before .before .before .before .loop-test .taken in
+    let f = c .before .before .before .leaving .ensures in
+    let e = edgeOf (c .before .before .before .before .before .loop .k) mem in
+    let y : c .before .before .before .leaving .result .volume * c .before .before .before .before .before .before .before .before .before .args .total + nth mem (levelAt (c .before .before .before .before .before .before .before .before .before .args .rooms) + c .before .before .before .leaving .result .to) ≡ sent (c .before .before .before .before .before .before .before .before .before .args .rooms) mem e = rw (f .volume-of, f .to-of, c .before .before .before .before .before .before .before .before .before .pre .3) in
+    let z : sent (c .before .before .before .before .before .before .before .before .before .args .rooms) mem e ≤ 133_714_329_600 =
+    rw (← c .before .before .before .before .before .before .before .before .before .pre .3) (omega (arith, longest-message (c .before .before .before .before .before .before .before .before .before .pre .0) (c .before .before .before .before .before .before .before .before .before .pre .1) (c .before .before .before .before .before .before .before .before .before .pre .2) g h (c .before .before .before .before .before .before .before .before .before .pre .3), c .before .before .before .before .before .before .before .before .before .pre .4 e (longest-leaves (c .before .before .before .before .before .before .before .before .before .pre .0) (c .before .before .before .before .before .before .before .before .before .pre .1) (c .before .before .before .before .before .before .before .before .before .pre .2) g h))) in
+    (omega (arith, y, z, c .before .before .before .before .before .loop .inv .0), rw (f .next-of) (longest-next (c .before .before .before .before .before .before .before .before .before .pre .0) (c .before .before .before .before .before .before .before .before .before .pre .1) (c .before .before .before .before .before .before .before .before .before .pre .2) g h (c .before .before .before .before .before .loop .x) (omega (arith, c .if1 .left, y))))
+
+returns : tie.Need-returns Inv-loop μ-loop
+returns c = (longest-done (c .before .before .before .before .before .pre .0) (c .before .before .before .before .before .pre .1) (c .before .before .before .before .before .pre .2) (c .before .loop .inv .1) (omega arith), omega (arith, c .before .loop .inv .0))
+
+pub longest-after-spec : {M : Type 1} → statement M
+longest-after-spec =
+    tie.close
+    (tie.spec
+    Inv-loop
+    μ-loop
+    mul-level
+    edges-at-requires
+    mul-k
+    add-k
+    mul-k-2
+    shared-slice-read-k
+    loop-holds
+    leaving-requires
+    mul-y
+    add-y
+    mul-y-2
+    shared-slice-read-y
+    add-y-2
+    loop-less
+    loop-again
+    loop-less-2
+    loop-again-2
+    returns)

@@ -1,0 +1,75 @@
+-- The row's sum, times the other processors.
+use mathlib.Core.Path.{ap, _∙_}
+use Prim.Native.Nat.{ℕ, _-_, _*_}
+use native.Mathlib.Omega.{arith}
+use borrow.Author.Needs.{needs}
+use Rattle.definitions.specs.Lists.{nth}
+use Rattle.jobs.proofs.Held.{sizes}
+use Rattle.rounds.proofs.RowSums.{row-room, run-sum-most, row-in, scaled-one, scaled-more, scaled-fits}
+use Rattle.rounds.proofs.levels.scaled_run.Statement.{statement}
+use Rattle.rounds.proofs.levels.scaled_run.Tie as tie
+
+shared-slice-read-m : tie.Need-shared-slice-read-m
+shared-slice-read-m c = let s = sizes (c .before .before .pre .0 .1) in omega arith
+
+add-a : tie.Need-add-a
+add-a c = let s = sizes (c .before .before .pre .0 .1) in let h = c .before .before .pre .1 in let r = row-room s (c .before .before .args .t) (omega arith) in omega arith
+
+mul-a : tie.Need-mul-a
+mul-a c = let s = sizes (c .before .before .pre .0 .1) in let h = c .before .before .pre .1 in let r = row-room s (c .before .before .args .t) (omega arith) in omega arith
+
+add-a-2 : tie.Need-add-a-2
+add-a-2 c = let s = sizes (c .before .before .pre .0 .1) in let h = c .before .before .pre .1 in let r = row-room s (c .before .before .args .t) (omega arith) in omega arith
+
+add-a-3 : tie.Need-add-a-3
+add-a-3 c = let s = sizes (c .before .before .pre .0 .1) in let h = c .before .before .pre .1 in let r = row-room s (c .before .before .args .t) (omega arith) in omega arith
+
+add-end : tie.Need-add-end
+add-end c = let s = sizes (c .before .before .pre .0 .1) in let h = c .before .before .pre .1 in let r = row-room s (c .before .before .args .t) (omega arith) in omega arith
+
+mul-total : tie.Need-mul-total
+mul-total c = let s = sizes (c .before .before .pre .0 .1) in let h = c .before .before .pre .1 in let r = row-room s (c .before .before .args .t) (omega arith) in omega arith
+
+sub-total : tie.Need-sub-total
+sub-total c = let s = sizes (c .before .before .pre .0 .1) in let h = c .before .before .pre .1 in let r = row-room s (c .before .before .args .t) (omega arith) in omega arith
+
+part-total-start : tie.Need-part-total-start
+part-total-start c = let s = sizes (c .before .before .pre .0 .1) in let h = c .before .before .pre .1 in let r = row-room s (c .before .before .args .t) (omega arith) in omega arith
+
+part-total-end : tie.Need-part-total-end
+part-total-end c = let s = sizes (c .before .before .pre .0 .1) in let h = c .before .before .pre .1 in let r = row-room s (c .before .before .args .t) (omega arith) in omega arith
+
+total-requires : tie.Need-total-requires
+total-requires c κs = search needs
+
+returns : tie.Need-returns
+returns c = row-in (c .before .before .before .before .before .args .mem .now) (c .before .before .before .before .before .pre .0 .1) (c .before .before .before .before .before .args .t) (c .before .total .result) (omega (arith, c .before .before .before .before .before .pre .1)) (run-sum-most (c .before .before .before .before .before .args .mem .now) (c .before .before .before .before .before .pre .0 .1) (c .before .before .before .before .before .args .t) (c .before .before .before .before .before .pre .1)) (c .before .total .ensures) ∙ scaled-one (c .before .before .before .before .before .args .mem .now) (c .before .before .before .before .before .pre .0 .1) (c .before .before .before .before .before .args .t) (c .before .before .before .before .before .pre .1) (c .if1 .taken)
+
+sub-result : tie.Need-sub-result
+sub-result c = let s = sizes (c .before .before .before .before .before .pre .0 .1) in omega arith
+
+mul-result : tie.Need-mul-result
+mul-result c = let d = c .before .before .before .before .before .args .mem .now in omega (arith, ap (λ (x : ℕ). (nth d 1 - 1) * x) (row-in (c .before .before .before .before .before .args .mem .now) (c .before .before .before .before .before .pre .0 .1) (c .before .before .before .before .before .args .t) (c .before .total .result) (omega (arith, c .before .before .before .before .before .pre .1)) (run-sum-most (c .before .before .before .before .before .args .mem .now) (c .before .before .before .before .before .pre .0 .1) (c .before .before .before .before .before .args .t) (c .before .before .before .before .before .pre .1)) (c .before .total .ensures)), scaled-fits d (c .before .before .before .before .before .pre .0 .1) (c .before .before .before .before .before .args .t) (c .before .before .before .before .before .pre .1))
+
+returns-2 : tie.Need-returns-2
+returns-2 c = let d = c .before .before .before .before .before .args .mem .now in ap (λ (x : ℕ). (nth d 1 - 1) * x) (row-in (c .before .before .before .before .before .args .mem .now) (c .before .before .before .before .before .pre .0 .1) (c .before .before .before .before .before .args .t) (c .before .total .result) (omega (arith, c .before .before .before .before .before .pre .1)) (run-sum-most (c .before .before .before .before .before .args .mem .now) (c .before .before .before .before .before .pre .0 .1) (c .before .before .before .before .before .args .t) (c .before .before .before .before .before .pre .1)) (c .before .total .ensures)) ∙ scaled-more d (c .before .before .before .before .before .pre .0 .1) (c .before .before .before .before .before .args .t) (c .before .before .before .before .before .pre .1) (c .if1 .left)
+
+pub scaled-run-spec : {M : Type 1} → statement M
+scaled-run-spec =
+    tie.close
+    (tie.spec
+    shared-slice-read-m
+    add-a
+    mul-a
+    add-a-2
+    add-a-3
+    add-end
+    mul-total
+    sub-total
+    part-total-start
+    part-total-end
+    total-requires
+    returns
+    sub-result
+    mul-result
+    returns-2)

@@ -1,0 +1,59 @@
+-- What load_job left in the memory is a job with its links, if it was not refused.
+use borrow.Author.Needs.{needs}
+use lib.ListN.{length, drop}
+use Rattle.jobs.specs.Loading.{headOf, jobFrom}
+use Rattle.jobs.proofs.Loads.{loaded-job}
+use Rattle.rounds.proofs.PlanAnswer.{plan-no, plan-put}
+use Rattle.rounds.proofs.plan_in.Statement.{statement}
+use Rattle.rounds.proofs.plan_in.Tie as tie
+
+load-job-requires : tie.Need-load-job-requires
+load-job-requires c κs = search needs
+
+enum-told : tie.Need-enum-told
+enum-told c = search needs
+
+put-plan-requires : tie.Need-put-plan-requires
+put-plan-requires c κs =
+    let a = c .before .before .before .before .before .before .before .before .before .before .before .args in
+    let x = jobFrom (a .rooms) (length (a .mem .now)) (headOf (a .head)) (drop (a .at) (a .job .now)) in
+    let l = loaded-job (a .rooms) x (c .before .before .before .before .before .before .load-job .last .1 .1 .1 .0) _ (rw (c .before .before .enum-told .given .1) at (c .before .before .before .before .before .before .load-job .ensures)) in
+    (l .1, l .2, l .3)
+
+enum-known-x : tie.Need-enum-known-x
+enum-known-x c = search needs
+
+same-length : tie.Need-same-length
+same-length c = search needs
+
+same-length-2 : tie.Need-same-length-2
+same-length-2 c = search needs
+
+returns : tie.Need-returns
+returns c =
+    let a = c .before .before .before .before .before .before .before .before .before .before .before .before .before .before .before .before .args in
+    let x = jobFrom (a .rooms) (length (a .mem .now)) (headOf (a .head)) (drop (a .at) (a .job .now)) in
+    plan-put (a .rooms) x (c .before .before .before .before .before .before .before .before .before .before .before .load-job .last .1 .1 .1 .0) (a .out .now) _ (rw (c .before .before .before .before .before .before .before .enum-told .given .1) at (c .before .before .before .before .before .before .before .before .before .before .before .load-job .ensures)) (c .before .before .before .before .put-plan .last .1 .1 .0) (c .before .before .before .before .put-plan .result) (c .before .before .before .before .put-plan .ensures)
+
+same-length-3 : tie.Need-same-length-3
+same-length-3 c = search needs
+
+returns-2 : tie.Need-returns-2
+returns-2 c =
+    let a = c .before .before .before .before .before .before .before .before .before .before .args in
+    let x = jobFrom (a .rooms) (length (a .mem .now)) (headOf (a .head)) (drop (a .at) (a .job .now)) in
+    plan-no (a .rooms) x (c .before .before .before .before .before .load-job .last .1 .1 .1 .0) (a .out .now) _ (rw (c .before .x .given .1) at (c .before .before .before .before .before .load-job .ensures))
+
+pub plan-in-spec : {M : Type 1} → statement M
+plan-in-spec =
+    tie.close
+    (tie.spec
+    load-job-requires
+    enum-told
+    put-plan-requires
+    enum-known-x
+    same-length
+    same-length-2
+    returns
+    same-length-3
+    returns-2)

@@ -1,0 +1,89 @@
+-- The plan of the definition stands in the memory, and its text is written if it fits.
+use mathlib.Core.Path.{refl, sym, _∙_}
+use Prim.Native.Nat.{_*_}
+use native.Mathlib.Omega.{arith}
+use borrow.Author.Needs.{needs}
+use lib.ListN.{length-set}
+use borrow.Author.Tests.{leb-true, leb-false}
+use Rattle.rounds.proofs.PlanAnswer.{ends-asked, text-asked, text-most, put-short, put-done}
+use Rattle.rounds.proofs.plan_text.put_plan.Statement.{statement}
+use Rattle.rounds.proofs.plan_text.put_plan.Tie as tie
+
+mul-best-at : tie.Need-mul-best-at
+mul-best-at c = search needs
+
+mul-worst-at : tie.Need-mul-worst-at
+mul-worst-at c = search needs
+
+draw-plan-requires : tie.Need-draw-plan-requires
+draw-plan-requires c κs = search needs
+
+end-of-requires : tie.Need-end-of-requires
+end-of-requires c κs = ends-asked (c .before .before .before .before .before .before .before .pre .0) (c .before .before .before .draw-plan .ensures .0) (c .before .before .before .draw-plan .ensures .1)
+
+end-of-requires-2 : tie.Need-end-of-requires-2
+end-of-requires-2 c κs = ends-asked (c .before .before .before .before .before .before .before .before .before .pre .0) (c .before .before .before .before .before .draw-plan .ensures .0) (c .before .before .before .before .before .draw-plan .ensures .1)
+
+mul-mem : tie.Need-mul-mem
+mul-mem c = search needs
+
+slice-write-mem : tie.Need-slice-write-mem
+slice-write-mem c = omega (arith, c .before .before .before .before .before .before .draw-plan .ensures .0 .size, c .before .before .before .before .before .before .before .before .before .before .pre .0 .size, c .before .before .before .before .before .before .draw-plan .ensures .1 .standing .job .fits)
+
+mul-mem-2 : tie.Need-mul-mem-2
+mul-mem-2 c = search needs
+
+slice-write-mem-2 : tie.Need-slice-write-mem-2
+slice-write-mem-2 c =
+    omega (arith, length-set (c .before .before .before .before .before .before .draw-plan .last .0) (273 * c .before .before .before .before .before .before .before .before .before .before .args .rooms) (c .before .before .end-of .result), c .before .before .before .before .before .before .draw-plan .ensures .0 .size, c .before .before .before .before .before .before .before .before .before .before .pre .0 .size)
+
+plan-fits-requires : tie.Need-plan-fits-requires
+plan-fits-requires c κs =
+    let w = c .before .before .before .before .before .before .before .draw-plan .ensures in let x = c .before .before .before .end-of in let y = c .before .end-of2 in
+    (text-asked (c .before .before .before .before .before .before .before .before .before .before .before .pre .0) (w .0) (w .1) (x .result) (y .result) (x .ensures) (y .ensures), text-most (c .before .before .before .before .before .before .before .before .before .before .before .pre .0) (w .0) (w .1) (x .result) (y .result) (x .ensures) (y .ensures))
+
+write-plan-requires : tie.Need-write-plan-requires
+write-plan-requires c κs =
+    let w = c .before .before .before .before .before .before .before .before .before .before .before .draw-plan .ensures in let x = c .before .before .before .before .before .before .before .end-of in let y = c .before .before .before .before .before .end-of2 in
+    (text-asked (c .before .before .before .before .before .before .before .before .before .before .before .before .before .before .before .pre .0) (w .0) (w .1) (x .result) (y .result) (x .ensures) (y .ensures), leb-true _ _ (sym (c .before .before .before .plan-fits .ensures) ∙ c .before .before .if1 .taken))
+
+same-length : tie.Need-same-length
+same-length c = search needs
+
+same-length-2 : tie.Need-same-length-2
+same-length-2 c = search needs
+
+returns : tie.Need-returns
+returns c =
+    let w = c .before .before .before .before .before .before .before .before .before .before .before .before .before .before .draw-plan .ensures in let x = c .before .before .before .before .before .before .before .before .before .before .end-of in let y = c .before .before .before .before .before .before .before .before .end-of2 in
+    put-done (c .before .before .before .before .before .before .before .before .before .before .before .before .before .before .before .before .before .before .pre .0) (w .0) (w .1) (x .result) (y .result) (x .ensures) (y .ensures) (c .before .before .before .before .before .before .before .before .before .before .before .before .before .before .before .before .before .before .args .out .now) _ refl (leb-true _ _ (sym (c .before .before .before .before .before .before .plan-fits .ensures) ∙ c .before .before .before .before .before .if1 .taken)) (c .before .before .write-plan .result) (c .before .before .write-plan .last .0)
+    (c .before .before .write-plan .ensures .0) (c .before .before .write-plan .ensures .1)
+
+same-length-3 : tie.Need-same-length-3
+same-length-3 c = search needs
+
+returns-2 : tie.Need-returns-2
+returns-2 c =
+    let w = c .before .before .before .before .before .before .before .before .before .draw-plan .ensures in let x = c .before .before .before .before .before .end-of in let y = c .before .before .before .end-of2 in
+    put-short (c .before .before .before .before .before .before .before .before .before .before .before .before .before .pre .0) (w .0) (w .1) (x .result) (y .result) (x .ensures) (y .ensures) (c .before .before .before .before .before .before .before .before .before .before .before .before .before .args .out .now) _ refl (leb-false _ _ (sym (c .before .plan-fits .ensures) ∙ c .if1 .left))
+
+pub put-plan-spec : {M : Type 1} → statement M
+put-plan-spec =
+    tie.close
+    (tie.spec
+    mul-best-at
+    mul-worst-at
+    draw-plan-requires
+    end-of-requires
+    end-of-requires-2
+    mul-mem
+    slice-write-mem
+    mul-mem-2
+    slice-write-mem-2
+    plan-fits-requires
+    write-plan-requires
+    same-length
+    same-length-2
+    returns
+    same-length-3
+    returns-2)

@@ -1,0 +1,144 @@
+-- k lines are drawn up, what is left to place gives the rest of the plan, and the free tasks are listed.
+use mathlib.Core.Path.{_≡_, refl, sym, _∙_}
+use mathlib.Core.List.{[]}
+use Prim.Native.Nat.{_≤_, _-_, _+_}
+use native.Mathlib.Omega.{arith}
+use borrow.Author.Needs.{needs}
+use mathlib.Core.Logic.{⊎-elim}
+use Rattle.definitions.specs.Lists.{nth}
+use Rattle.jobs.specs.Layout.{memorySize, jobSize, inHeadAt}
+use Rattle.jobs.specs.Held.{jobIn}
+use Rattle.plans.specs.Lines.{placedIn}
+use Rattle.lists.specs.Kept.{KeptOutside}
+use Rattle.rounds.specs.Planning.{earliesIn, latesIn, FreeList, ClocksHeld, Drawn, Ranked}
+use Rattle.jobs.proofs.Held.{processors-in, sizes}
+use Rattle.lists.proofs.Kept.{same-before, kept-all, kept-then, kept-wider}
+use Rattle.rounds.proofs.ShortLaws.{delays-kept}
+use Rattle.rounds.proofs.FreeLaws.{free-few, last-best, free-out}
+use Rattle.rounds.proofs.Drawing.{drawn-choice, clocks-choice, listed-some}
+use Rattle.rounds.proofs.OutsetLaws.{outset-clocks}
+use Rattle.rounds.proofs.planner.draw_plan.Statement.{statement}
+use Rattle.rounds.proofs.planner.draw_plan.Tie as tie
+
+abbrev Inv-loop : tie.InvT-loop
+Inv-loop mem₀ rooms v delays clocks₀ free₀ n₀ k₀ mem clocks free n k =
+    (k ≤ v) × (v ≡ nth mem 0) × KeptOutside (inHeadAt rooms) (memorySize rooms) mem₀ mem × Drawn rooms k mem × Ranked rooms [] mem × ClocksHeld clocks (jobIn mem) (earliesIn rooms k mem) (latesIn rooms k mem) × FreeList rooms free n mem
+
+abbrev μ-loop : tie.MeasureT-loop
+μ-loop mem₀ rooms v delays clocks₀ free₀ n₀ k₀ mem clocks free n k = v - k
+
+prepare-requires : tie.Need-prepare-requires Inv-loop μ-loop
+prepare-requires c κs = search needs
+
+slice-read-v : tie.Need-slice-read-v Inv-loop μ-loop
+slice-read-v c = let w = sizes (c .before .before .before .prepare .ensures .1 .standing .job) in omega arith
+
+delay-table-requires : tie.Need-delay-table-requires Inv-loop μ-loop
+delay-table-requires c κs = (_, c .before .before .before .before .prepare .ensures .1 .standing .job)
+
+new-requires : tie.Need-new-requires Inv-loop μ-loop
+new-requires c κs = search needs
+
+slice-aggregate-list-free : tie.Need-slice-aggregate-list-free Inv-loop μ-loop
+slice-aggregate-list-free c = search needs
+
+list-free-requires : tie.Need-list-free-requires Inv-loop μ-loop
+list-free-requires c κs =
+    let s = c .before .before .before .before .before .before .before .before .prepare .ensures .1 .standing in
+    (s .job, search needs, λ t l. ⊎-elim (λ z. z) (λ x. absurd (omega (arith, x .1))) (s .placed t l))
+
+loop-holds : tie.Need-loop-holds Inv-loop μ-loop
+unfolding placedIn
+loop-holds c =
+    let s = c .before .before .before .before .before .before .before .before .before .before .prepare .ensures in
+    (search needs, refl, kept-all, s .1, s .2, outset-clocks (rw (processors-in (c .before .before .before .before .before .before .before .before .before .before .prepare .last .0)) (sizes (s .1 .standing .job) .processors-most)) (c .before .before .before .before .new .ensures .0) (c .before .before .before .before .new .ensures .1), c .before .list-free .ensures)
+
+sub-t : tie.Need-sub-t Inv-loop μ-loop
+sub-t c = let l = c .before .loop in omega (arith, listed-some (l .inv .3) (omega arith) (l .inv .4) (l .free) (l .n) (l .inv .6))
+
+array-read-t : tie.Need-array-read-t Inv-loop μ-loop
+array-read-t c =
+    let l = c .before .loop in
+    omega (arith, l .inv .6 .tasks .size, free-few (l .inv .6 .tasks), sizes (l .inv .3 .standing .job) .tasks-most, listed-some (l .inv .3) (omega arith) (l .inv .4) (l .free) (l .n) (l .inv .6))
+
+cast-t : tie.Need-cast-t Inv-loop μ-loop
+cast-t c =
+    let l = c .before .loop in
+    let some = listed-some (l .inv .3) (omega arith) (l .inv .4) (l .free) (l .n) (l .inv .6) in
+    omega (arith, l .inv .6 .tasks .task-of (l .n - 1) (omega arith), sizes (l .inv .3 .standing .job) .tasks-most)
+
+place-task-requires : tie.Need-place-task-requires Inv-loop μ-loop
+place-task-requires c κs =
+    let l = c .before .before .before .loop in
+    let some = listed-some (l .inv .3) (omega arith) (l .inv .4) (l .free) (l .n) (l .inv .6) in
+    (delays-kept (c .before .before .before .before .before .before .before .before .before .before .before .before .before .before .prepare .ensures .1 .standing .job) (same-before 0 (jobSize _) (l .inv .2) (omega arith)) (c .before .before .before .before .before .before .before .before .before .delay-table .ensures), l .inv .3, l .inv .4, omega arith, last-best (l .inv .6) some, l .inv .5)
+
+slice-aggregate-release : tie.Need-slice-aggregate-release Inv-loop μ-loop
+slice-aggregate-release c = search needs
+
+sub-release : tie.Need-sub-release Inv-loop μ-loop
+sub-release c = let l = c .before .before .before .before .before .before .before .before .loop in omega (arith, listed-some (l .inv .3) (omega arith) (l .inv .4) (l .free) (l .n) (l .inv .6))
+
+release-requires : tie.Need-release-requires Inv-loop μ-loop
+release-requires c κs =
+    let l = c .before .before .before .before .before .before .before .before .loop in
+    let p = c .before .before .before .before .place-task .ensures in
+    let some = listed-some (l .inv .3) (omega arith) (l .inv .4) (l .free) (l .n) (l .inv .6) in
+    let z : nth (c .before .before .before .before .place-task .last .0) 0 ≡ nth (l .mem) 0 = p .0 .before 0 (omega arith) in
+    ((l .k + 1, p .1), p .2, free-out (l .inv .6) some (p .4) z, rw z (l .inv .6 .tasks .task-of (l .n - 1) (omega arith)))
+
+add-k : tie.Need-add-k Inv-loop μ-loop
+add-k c = omega (arith, sizes (c .before .before .before .before .before .before .before .before .before .before .before .before .loop .inv .3 .standing .job))
+
+loop-less : tie.Need-loop-less Inv-loop μ-loop
+loop-less c = search needs
+
+loop-again : tie.Need-loop-again Inv-loop μ-loop
+loop-again c =
+    let l = c .before .before .before .before .before .before .before .before .before .before .before .before .loop in
+    let p = c .before .before .before .before .before .before .before .before .place-task .ensures in
+    let q = c .before .before .before .release .ensures in (
+      omega (arith, c .before .before .before .before .before .before .before .before .before .before .before .loop-test .taken),
+      l .inv .1 ∙ sym (q .0 .before 0 (omega arith) ∙ p .0 .before 0 (omega arith)),
+      kept-then (l .inv .2) (kept-then (kept-wider (inHeadAt _) (memorySize _) (p .0) (omega arith) (omega arith)) (kept-wider (inHeadAt _) (memorySize _) (q .0) (omega arith) (omega arith))),
+      drawn-choice (q .0) (p .1) (omega arith) (omega arith),
+      q .1,
+      clocks-choice (q .0) (p .1) (p .3),
+      q .2,
+    )
+
+same-length : tie.Need-same-length Inv-loop μ-loop
+same-length c = c .before .loop .inv .2 .size ∙ c .before .before .before .before .before .before .before .before .before .before .before .before .prepare .ensures .0 .size
+
+returns : tie.Need-returns Inv-loop μ-loop
+returns c =
+    let l = c .before .loop in
+    let k = c .before .before .before .before .before .before .before .before .before .before .before .before .prepare .ensures .0 in
+    let e : l .k ≡ nth (c .before .before .before .before .before .before .before .before .before .before .before .before .before .before .before .args .mem .now) 0 = omega (arith, k .before 0 (omega arith)) in
+    (kept-then k (l .inv .2), rw (← e) (l .inv .3))
+
+pub draw-plan-spec : {M : Type 1} → statement M
+draw-plan-spec =
+    tie.close
+    (tie.spec
+    Inv-loop
+    μ-loop
+    prepare-requires
+    slice-read-v
+    delay-table-requires
+    new-requires
+    slice-aggregate-list-free
+    list-free-requires
+    loop-holds
+    sub-t
+    array-read-t
+    cast-t
+    place-task-requires
+    slice-aggregate-release
+    sub-release
+    release-requires
+    add-k
+    loop-less
+    loop-again
+    same-length
+    returns)

@@ -1,0 +1,128 @@
+-- The processors passed that are chosen have their replicas in the line.
+use mathlib.Core.Path.{_≡_, refl, sym, _∙_}
+use Prim.Native.Nat.{_≤_, _-_, _+_}
+use native.Mathlib.Omega.{arith}
+use borrow.Author.Needs.{needs}
+use lib.ListN.{length}
+use mathlib.Core.Logic.{⊎-elim}
+use Rattle.definitions.specs.Lists.{nth, keep, countFrom, below}
+use Rattle.rounds.specs.Planning.{Begun}
+use Rattle.ticks.proofs.ChoiceLaws.{among}
+use Rattle.jobs.proofs.Held.{Sizes, sizes}
+use Rattle.rounds.proofs.DrawLaws.{isChosen}
+use Rattle.rounds.proofs.Drawing.{begun-none, pass-box, box-room, box-within, take-box, boxes-taken}
+use Rattle.rounds.proofs.planner.fill_line.Statement.{statement}
+use Rattle.rounds.proofs.planner.fill_line.Tie as tie
+
+abbrev Inv-loop : tie.InvT-loop
+Inv-loop mem₀ rooms k t early late rows m w a c₀ p₀ mem c p = (p ≤ m) × (c ≡ length (keep (isChosen early m w) (below p))) × Begun rooms k t (keep (isChosen early m w) (below p)) mem₀ mem
+
+abbrev μ-loop : tie.MeasureT-loop
+μ-loop mem₀ rooms k t early late rows m w a c₀ p₀ mem c p = m - p
+
+held : (c : tie.Start Inv-loop μ-loop) → Sizes (c .args .rooms) (c .args .mem .now)
+held c = sizes (c .pre .drawn .standing .job)
+
+mul-rows : tie.Need-mul-rows Inv-loop μ-loop
+mul-rows c = search needs
+
+slice-read-m : tie.Need-slice-read-m Inv-loop μ-loop
+slice-read-m c = omega (arith, held (c .before .before))
+
+slice-read-w : tie.Need-slice-read-w Inv-loop μ-loop
+slice-read-w c = omega (arith, held (c .before .before .before))
+
+add-w : tie.Need-add-w Inv-loop μ-loop
+add-w c = omega (arith, held (c .before .before .before))
+
+mul-a : tie.Need-mul-a Inv-loop μ-loop
+mul-a c = omega (arith, held (c .before .before .before))
+
+add-a : tie.Need-add-a Inv-loop μ-loop
+add-a c = omega (arith, held (c .before .before .before))
+
+loop-holds : tie.Need-loop-holds Inv-loop μ-loop
+unfolding keep countFrom
+loop-holds c = (search needs, refl, begun-none)
+
+is-chosen-requires : tie.Need-is-chosen-requires Inv-loop μ-loop
+is-chosen-requires c κs = search needs
+
+mul-put-replica : tie.Need-mul-put-replica Inv-loop μ-loop
+mul-put-replica c = omega (arith, held (c .before .before .before .before .before .before .before .before .before))
+
+array-read-put-replica : tie.Need-array-read-put-replica Inv-loop μ-loop
+array-read-put-replica c = omega (arith, held (c .before .before .before .before .before .before .before .before .before), c .before .before .before .before .before .before .before .before .before .pre .early-size)
+
+cast-put-replica : tie.Need-cast-put-replica Inv-loop μ-loop
+cast-put-replica c = search needs
+
+mul-put-replica-2 : tie.Need-mul-put-replica-2 Inv-loop μ-loop
+mul-put-replica-2 c = omega (arith, held (c .before .before .before .before .before .before .before .before .before))
+
+array-read-put-replica-2 : tie.Need-array-read-put-replica-2 Inv-loop μ-loop
+array-read-put-replica-2 c = omega (arith, held (c .before .before .before .before .before .before .before .before .before), c .before .before .before .before .before .before .before .before .before .pre .late-size)
+
+cast-put-replica-2 : tie.Need-cast-put-replica-2 Inv-loop μ-loop
+cast-put-replica-2 c = search needs
+
+put-replica-requires : tie.Need-put-replica-requires Inv-loop μ-loop
+put-replica-requires c κs = let e = sym (c .before .before .is-chosen .ensures ∙ among (nth (c .before .before .before .before .before .before .before .before .before .args .mem .now) 1) (c .before .before .before .before .before .loop .p) (isChosen (c .before .before .before .before .before .before .before .before .before .args .t5) (nth (c .before .before .before .before .before .before .before .before .before .args .mem .now) 1) (nth (c .before .before .before .before .before .before .before .before .before .args .mem .now) 3 + 1) (c .before .before .before .before .before .loop .p)) (held (c .before .before .before .before .before .before .before .before .before) .processors-most) (c .before .before .before .before .loop-test .taken)) in let l = c .before .before .before .before .before .loop in box-within (c .before .before .before .before .before .before .before .before .before .pre) (c .before .before .before .before .loop-test .taken) (l .inv .1) (l .inv .2) (e ∙ c .before .if1 .taken)
+
+add-c : tie.Need-add-c Inv-loop μ-loop
+add-c c = let e = sym (c .before .before .before .before .before .is-chosen .ensures ∙ among (nth (c .before .before .before .before .before .before .before .before .before .before .before .before .args .mem .now) 1) (c .before .before .before .before .before .before .before .before .loop .p) (isChosen (c .before .before .before .before .before .before .before .before .before .before .before .before .args .t5) (nth (c .before .before .before .before .before .before .before .before .before .before .before .before .args .mem .now) 1) (nth (c .before .before .before .before .before .before .before .before .before .before .before .before .args .mem .now) 3 + 1) (c .before .before .before .before .before .before .before .before .loop .p)) (held (c .before .before .before .before .before .before .before .before .before .before .before .before) .processors-most) (c .before .before .before .before .before .before .before .loop-test .taken)) in let l = c .before .before .before .before .before .before .before .before .loop in omega (arith, box-room (c .before .before .before .before .before .before .before .before .before .before .before .before .pre) (c .before .before .before .before .before .before .before .loop-test .taken) (l .inv .1) (l .inv .2) (e ∙ c .before .before .before .before .if1 .taken))
+
+add-p : tie.Need-add-p Inv-loop μ-loop
+add-p c = omega (arith, held (c .before .before .before .before .before .before .before .before))
+
+loop-less : tie.Need-loop-less Inv-loop μ-loop
+loop-less c = search needs
+
+loop-again : tie.Need-loop-again Inv-loop μ-loop
+loop-again c =
+    let l = c .before .before .before .before .loop in
+    let h = c .before .before .before .loop-test .taken in
+    let e = sym (c .before .is-chosen .ensures ∙ among (nth (c .before .before .before .before .before .before .before .before .args .mem .now) 1) (c .before .before .before .before .loop .p) (isChosen (c .before .before .before .before .before .before .before .before .args .t5) (nth (c .before .before .before .before .before .before .before .before .args .mem .now) 1) (nth (c .before .before .before .before .before .before .before .before .args .mem .now) 3 + 1) (c .before .before .before .before .loop .p)) (held (c .before .before .before .before .before .before .before .before) .processors-most) (c .before .before .before .loop-test .taken)) in
+    let a = c .before .before .before .before .before .before .before .before .args in
+    let d = a .mem .now in
+    let ps = keep (isChosen (a .t5) (nth d 1) (nth d 3 + 1)) (below (l .p + 1)) in
+    let b : (c .if1 .c ≡ length ps) × Begun (c .before .before .before .before .before .before .before .before .args .rooms) (a .k) (a .t) ps d (c .if1 .mem) =
+    ⊎-elim
+    (λ w. rw (w .5, w .6) (take-box (c .before .before .before .before .before .before .before .before .pre) h (l .inv .1) (l .inv .2) (e ∙ w .0 .taken) (w .2 .ensures)))
+    (λ w. rw (w .1, w .2) (pass-box (c .before .before .before .before .before .before .before .before .pre) h (l .inv .1) (l .inv .2) (e ∙ w .0 .left)))
+    (c .if1 .came) in
+    (search needs, b .0, b .1)
+
+same-length : tie.Need-same-length Inv-loop μ-loop
+same-length c = search needs
+
+returns : tie.Need-returns Inv-loop μ-loop
+returns c = let l = c .before .loop in boxes-taken (c .before .before .before .before .before .pre) (omega arith) (l .inv .2)
+
+pub fill-line-spec : {M : Type 1} → statement M
+fill-line-spec =
+    tie.close
+    (tie.spec
+    Inv-loop
+    μ-loop
+    mul-rows
+    slice-read-m
+    slice-read-w
+    add-w
+    mul-a
+    add-a
+    loop-holds
+    is-chosen-requires
+    mul-put-replica
+    array-read-put-replica
+    cast-put-replica
+    mul-put-replica-2
+    array-read-put-replica-2
+    cast-put-replica-2
+    put-replica-requires
+    add-c
+    add-p
+    loop-less
+    loop-again
+    same-length
+    returns)

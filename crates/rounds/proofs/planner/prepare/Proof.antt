@@ -1,0 +1,48 @@
+-- Each table is as it was left when the next is filled.
+use native.Mathlib.Omega.{arith}
+use borrow.Author.Needs.{needs}
+use Rattle.jobs.proofs.Held.{held-kept}
+use Rattle.lists.specs.Kept.{KeptOutside}
+use Rattle.lists.proofs.Kept.{kept-all}
+use Rattle.jobs.specs.Layout.{inHeadAt, levelAt}
+use Rattle.jobs.specs.Held.{LinkedIn, LinkedOut}
+use Rattle.rounds.proofs.OutsetLaws.{outset-kept, outset, outset-counts}
+use Rattle.rounds.proofs.planner.prepare.Statement.{statement}
+use Rattle.rounds.proofs.planner.prepare.Tie as tie
+
+settle-levels-requires : tie.Need-settle-levels-requires
+settle-levels-requires c κs = (c .before .before .pre .0, c .before .before .pre .2)
+
+fill-far-requires : tie.Need-fill-far-requires
+fill-far-requires c κs = held-kept (c .before .before .before .before .before .before .pre .0) (c .before .before .before .settle-levels .ensures .0) (omega arith)
+
+clear-tasks-requires : tie.Need-clear-tasks-requires
+clear-tasks-requires c κs = held-kept (held-kept (c .before .before .before .before .before .before .before .before .before .before .pre .0) (c .before .before .before .before .before .before .before .settle-levels .ensures .0) (omega arith)) (c .before .before .before .fill-far .ensures .0) (omega arith)
+
+count-blocked-requires : tie.Need-count-blocked-requires
+count-blocked-requires c κs = (held-kept (held-kept (held-kept (c .before .before .before .before .before .before .before .before .before .before .before .before .before .before .pre .0) (c .before .before .before .before .before .before .before .before .before .before .before .settle-levels .ensures .0) (omega arith)) (c .before .before .before .before .before .before .before .fill-far .ensures .0) (omega arith)) (c .before .before .before .clear-tasks .ensures .0) (omega arith), c .before .before .before .clear-tasks .ensures .1 .blocked)
+
+same-length : tie.Need-same-length
+same-length c = search needs
+
+returns : tie.Need-returns
+returns c =
+    let h = c .before .before .before .before .before .before .before .before .before .before .before .before .before .before .before .before .before .pre .0 in
+    let d = c .before .before .before .before .before .before .before .before .before .before .before .before .before .before .before .before .before .args .mem .now in
+    let a : KeptOutside (inHeadAt (c .before .before .before .before .before .before .before .before .before .before .before .before .before .before .before .before .before .args .rooms)) (levelAt (c .before .before .before .before .before .before .before .before .before .before .before .before .before .before .before .before .before .args .rooms)) d d × LinkedIn (c .before .before .before .before .before .before .before .before .before .before .before .before .before .before .before .before .before .args .rooms) d × LinkedOut (c .before .before .before .before .before .before .before .before .before .before .before .before .before .before .before .before .before .args .rooms) d = (kept-all, c .before .before .before .before .before .before .before .before .before .before .before .before .before .before .before .before .before .pre .1, c .before .before .before .before .before .before .before .before .before .before .before .before .before .before .before .before .before .pre .2) in
+    let b = c .before .before .before .before .before .before .before .before .before .before .before .before .before .before .settle-levels .ensures in
+    let k = c .before .before .before .before .before .before .before .before .before .before .fill-far .ensures in
+    let e = c .before .before .before .before .before .before .clear-tasks .ensures in
+    let f = c .before .before .count-blocked .ensures in
+    (outset-kept h a b k e f, outset h a b k e f, outset-counts h a b k e f)
+
+pub prepare-spec : {M : Type 1} → statement M
+prepare-spec =
+    tie.close
+    (tie.spec
+    settle-levels-requires
+    fill-far-requires
+    clear-tasks-requires
+    count-blocked-requires
+    same-length
+    returns)

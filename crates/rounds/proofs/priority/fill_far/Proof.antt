@@ -1,0 +1,131 @@
+-- The places passed hold the largest delays, and nothing else changed.
+use mathlib.Core.Path.{_≡_}
+use Prim.Native.Nat.{ℕ, _≤_, _<_, _-_, _+_}
+use native.Mathlib.Omega.{arith}
+use borrow.Author.Needs.{needs}
+use lib.ListN.{length}
+use Rattle.definitions.specs.Lists.{nth}
+use Rattle.definitions.specs.Planner.{largestDelay}
+use Rattle.jobs.specs.Layout.{memorySize, farAt}
+use Rattle.jobs.specs.Held.{jobIn}
+use Rattle.lists.specs.Kept.{KeptOutside}
+use Rattle.jobs.proofs.Held.{sizes, job-kept}
+use Rattle.lists.proofs.Kept.{kept-all, kept-set}
+use Rattle.lists.proofs.Upward.{table-more}
+use Rattle.rounds.proofs.RowSums.{row-room}
+use Rattle.rounds.proofs.FarLaws.{far-kept}
+use Rattle.rounds.proofs.priority.fill_far.Statement.{statement}
+use Rattle.rounds.proofs.priority.fill_far.Tie as tie
+
+abbrev Inv-loop : tie.InvT-loop
+Inv-loop mem₀ rooms far v m p₀ mem p =
+    (p ≤ m) × (m ≤ 16) × (length mem ≡ memorySize rooms) × KeptOutside (farAt rooms) (memorySize rooms) mem₀ mem × ((q : ℕ) → q < p → nth mem (farAt rooms + q) ≡ largestDelay (jobIn mem₀) q)
+
+abbrev μ-loop : tie.MeasureT-loop
+μ-loop mem₀ rooms far v m p₀ mem p = m - p
+
+mul-far : tie.Need-mul-far Inv-loop μ-loop
+mul-far c = search needs
+
+slice-read-v : tie.Need-slice-read-v Inv-loop μ-loop
+slice-read-v c = let s = sizes (c .before .before .pre) in omega arith
+
+slice-read-m : tie.Need-slice-read-m Inv-loop μ-loop
+slice-read-m c = let s = sizes (c .before .before .before .pre) in omega arith
+
+loop-holds : tie.Need-loop-holds Inv-loop μ-loop
+loop-holds c = let s = sizes (c .before .before .before .pre) in (search needs, s .processors-most, s .size, kept-all, λ q h. absurd (omega arith))
+
+add-largest-delay : tie.Need-add-largest-delay Inv-loop μ-loop
+add-largest-delay c =
+    let d = c .before .before .before .before .before .before .args .mem .now in let s = sizes (c .before .before .before .before .before .before .pre) in let h = c .before .loop-test .taken in
+    let r = row-room s (nth d 0 + c .before .before .loop .p) (omega arith) in
+    omega arith
+
+add-largest-delay-2 : tie.Need-add-largest-delay-2 Inv-loop μ-loop
+add-largest-delay-2 c =
+    let d = c .before .before .before .before .before .before .args .mem .now in let s = sizes (c .before .before .before .before .before .before .pre) in let h = c .before .loop-test .taken in
+    let r = row-room s (nth d 0 + c .before .before .loop .p) (omega arith) in
+    omega arith
+
+mul-largest-delay : tie.Need-mul-largest-delay Inv-loop μ-loop
+mul-largest-delay c =
+    let d = c .before .before .before .before .before .before .args .mem .now in let s = sizes (c .before .before .before .before .before .before .pre) in let h = c .before .loop-test .taken in
+    let r = row-room s (nth d 0 + c .before .before .loop .p) (omega arith) in
+    omega arith
+
+add-largest-delay-3 : tie.Need-add-largest-delay-3 Inv-loop μ-loop
+add-largest-delay-3 c =
+    let d = c .before .before .before .before .before .before .args .mem .now in let s = sizes (c .before .before .before .before .before .before .pre) in let h = c .before .loop-test .taken in
+    let r = row-room s (nth d 0 + c .before .before .loop .p) (omega arith) in
+    omega arith
+
+add-largest-delay-4 : tie.Need-add-largest-delay-4 Inv-loop μ-loop
+add-largest-delay-4 c =
+    let d = c .before .before .before .before .before .before .args .mem .now in let s = sizes (c .before .before .before .before .before .before .pre) in let h = c .before .loop-test .taken in
+    let r = row-room s (nth d 0 + c .before .before .loop .p) (omega arith) in
+    omega arith
+
+largest-delay-requires : tie.Need-largest-delay-requires Inv-loop μ-loop
+largest-delay-requires c κs =
+    let d = c .before .before .before .before .before .before .args .mem .now in let s = sizes (c .before .before .before .before .before .before .pre) in let h = c .before .loop-test .taken in
+    let r = row-room s (nth d 0 + c .before .before .loop .p) (omega arith) in
+    omega arith
+
+add-mem : tie.Need-add-mem Inv-loop μ-loop
+add-mem c = search needs
+
+mul-mem : tie.Need-mul-mem Inv-loop μ-loop
+mul-mem c = search needs
+
+slice-write-mem : tie.Need-slice-write-mem Inv-loop μ-loop
+slice-write-mem c = search needs
+
+add-p : tie.Need-add-p Inv-loop μ-loop
+add-p c = search needs
+
+loop-less : tie.Need-loop-less Inv-loop μ-loop
+loop-less c = search needs
+
+loop-again : tie.Need-loop-again Inv-loop μ-loop
+loop-again c =
+    let d = c .before .before .before .before .before .before .before .args .mem .now in let l = c .before .before .before .loop in let x = c .largest-delay in let h = c .before .before .loop-test .taken in (
+      search needs,
+      search needs,
+      search needs,
+      kept-set (farAt (c .before .before .before .before .before .before .before .args .rooms) + l .p) (x .result) (l .inv .3) (omega arith) (omega arith),
+      table-more (largestDelay (jobIn d)) (l .mem) (farAt (c .before .before .before .before .before .before .before .args .rooms)) (l .p) (x .result) (l .inv .4) (omega arith) (far-kept (c .before .before .before .before .before .before .before .pre) (l .inv .3) (l .p) (x .result) h (x .ensures)),
+    )
+
+same-length : tie.Need-same-length Inv-loop μ-loop
+same-length c = c .before .loop .inv .3 .size
+
+returns : tie.Need-returns Inv-loop μ-loop
+returns c =
+    let d = c .before .before .before .before .before .args .mem .now in let l = c .before .loop in let s = sizes (c .before .before .before .before .before .pre) in
+    (l .inv .3, λ p h. rw (job-kept (c .before .before .before .before .before .pre) (l .inv .3) (omega arith)) (l .inv .4 p (omega (arith, l .inv .3 .before 1 (omega arith)))))
+
+pub fill-far-spec : {M : Type 1} → statement M
+fill-far-spec =
+    tie.close
+    (tie.spec
+    Inv-loop
+    μ-loop
+    mul-far
+    slice-read-v
+    slice-read-m
+    loop-holds
+    add-largest-delay
+    add-largest-delay-2
+    mul-largest-delay
+    add-largest-delay-3
+    add-largest-delay-4
+    largest-delay-requires
+    add-mem
+    mul-mem
+    slice-write-mem
+    add-p
+    loop-less
+    loop-again
+    same-length
+    returns)

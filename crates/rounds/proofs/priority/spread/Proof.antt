@@ -1,0 +1,66 @@
+-- x is the least over the replicas passed.
+use mathlib.Core.Path.{_≡_}
+use Prim.Native.Nat.{_≤_, _-_, _+_}
+use native.Mathlib.Omega.{arith}
+use borrow.Author.Needs.{needs}
+use Prim.Native.Nat.{min}
+use mathlib.Core.Logic.{⊎-elim}
+use Rattle.definitions.specs.Lists.{nth}
+use Rattle.definitions.specs.Times.{tick}
+use Rattle.rounds.specs.Planning.{spreadIn}
+use Rattle.rounds.proofs.TopLaws.{spread-first, spread-more}
+use Rattle.rounds.proofs.priority.spread.Statement.{statement}
+use Rattle.rounds.proofs.priority.spread.Tie as tie
+
+abbrev Inv-loop : tie.InvT-loop
+Inv-loop mem rooms a volume w x₀ c₀ x c = (c ≤ w) × (x ≤ 4296011520) × (tick x ≡ spreadIn rooms volume a c mem)
+
+abbrev μ-loop : tie.MeasureT-loop
+μ-loop mem rooms a volume w x₀ c₀ x c = w - c
+
+shared-slice-read-w : tie.Need-shared-slice-read-w Inv-loop μ-loop
+shared-slice-read-w c = search needs
+
+add-w : tie.Need-add-w Inv-loop μ-loop
+add-w c = search needs
+
+sent-requires : tie.Need-sent-requires Inv-loop μ-loop
+sent-requires c κs = (c .before .before .pre .0, c .before .before .pre .1, omega arith)
+
+loop-holds : tie.Need-loop-holds Inv-loop μ-loop
+loop-holds c = (omega arith, c .sent .ensures .1, spread-first (c .before .before .before .pre .0) (c .before .before .before .pre .1) (c .sent .result) (c .sent .ensures .0))
+
+sent-requires-2 : tie.Need-sent-requires-2 Inv-loop μ-loop
+sent-requires-2 c κs = (c .before .before .before .before .before .pre .0, c .before .before .before .before .before .pre .1, c .loop-test .taken)
+
+add-c : tie.Need-add-c Inv-loop μ-loop
+add-c c = search needs
+
+loop-less : tie.Need-loop-less Inv-loop μ-loop
+loop-less c = search needs
+
+loop-again : tie.Need-loop-again Inv-loop μ-loop
+loop-again c =
+    let l = c .before .before .before .loop in
+    let y = c .before .sent2 .result in
+    let e : c .if1 .x ≡ min y (l .x) = ⊎-elim (λ w. omega (arith, w .0 .taken, w .1)) (λ w. omega (arith, w .0 .left, w .1)) (c .if1 .came) in
+    (search needs, omega (arith, c .before .sent2 .ensures .1), spread-more (c .before .before .before .before .before .before .before .pre .0) (c .before .before .before .before .before .before .before .pre .1) (l .c) (c .before .before .loop-test .taken) (l .x) y (c .if1 .x) (c .before .sent2 .ensures .0) (l .inv .2) e)
+
+returns : tie.Need-returns Inv-loop μ-loop
+returns c = let l = c .before .loop in let e : l .c ≡ nth (c .before .before .before .before .before .args .mem .now) 3 + 1 = omega arith in (rw (← e) (l .inv .2), l .inv .1)
+
+pub spread-spec : {M : Type 1} → statement M
+spread-spec =
+    tie.close
+    (tie.spec
+    Inv-loop
+    μ-loop
+    shared-slice-read-w
+    add-w
+    sent-requires
+    loop-holds
+    sent-requires-2
+    add-c
+    loop-less
+    loop-again
+    returns)

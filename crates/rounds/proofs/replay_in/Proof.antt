@@ -1,0 +1,59 @@
+-- The plan stands in the memory, if neither it nor the job was refused.
+use borrow.Author.Needs.{needs}
+use lib.ListN.{length, drop}
+use Rattle.jobs.specs.Loading.{headOf, jobFrom}
+use Rattle.plans.specs.Loading.{withPlan}
+use Rattle.plans.proofs.JobAndPlan.{both-held}
+use Rattle.rounds.proofs.ReplayLaws.{replay-refused, replay-put}
+use Rattle.rounds.proofs.replay_in.Statement.{statement}
+use Rattle.rounds.proofs.replay_in.Tie as tie
+
+load-both-requires : tie.Need-load-both-requires
+load-both-requires c κs = search needs
+
+enum-told : tie.Need-enum-told
+enum-told c = search needs
+
+put-replay-requires : tie.Need-put-replay-requires
+put-replay-requires c κs =
+    let a = c .before .before .before .before .before .before .before .before .before .before .before .before .before .args in
+    let x = jobFrom (a .rooms) (length (a .mem .now)) (headOf (a .head)) (drop (a .at) (a .job .now)) in
+    both-held (a .rooms) x (a .plan .now) (c .before .before .before .before .before .before .load-both .last .1 .1 .1 .1 .0) _ (rw (c .before .before .enum-told .given .1) at (c .before .before .before .before .before .before .load-both .ensures))
+
+enum-known-x : tie.Need-enum-known-x
+enum-known-x c = search needs
+
+same-length : tie.Need-same-length
+same-length c = search needs
+
+same-length-2 : tie.Need-same-length-2
+same-length-2 c = search needs
+
+returns : tie.Need-returns
+returns c =
+    let a = c .before .before .before .before .before .before .before .before .before .before .before .before .before .before .before .before .before .before .args in
+    let x = withPlan (jobFrom (a .rooms) (length (a .mem .now)) (headOf (a .head)) (drop (a .at) (a .job .now))) (a .plan .now) in
+    replay-put (a .rooms) x (c .before .before .before .before .before .before .before .before .before .before .before .load-both .last .1 .1 .1 .1 .0) (a .stops .now) (a .out .now) _ (rw (c .before .before .before .before .before .before .before .enum-told .given .1) at (c .before .before .before .before .before .before .before .before .before .before .before .load-both .ensures)) (c .before .before .before .before .put-replay .last .1 .1 .1 .0) (c .before .before .before .before .put-replay .result) (c .before .before .before .before .put-replay .ensures)
+
+same-length-3 : tie.Need-same-length-3
+same-length-3 c = search needs
+
+returns-2 : tie.Need-returns-2
+returns-2 c =
+    let a = c .before .before .before .before .before .before .before .before .before .before .before .before .args in
+    let x = withPlan (jobFrom (a .rooms) (length (a .mem .now)) (headOf (a .head)) (drop (a .at) (a .job .now))) (a .plan .now) in
+    replay-refused (a .rooms) x (c .before .before .before .before .before .load-both .last .1 .1 .1 .1 .0) (a .stops .now) (a .out .now) _ (rw (c .before .x .given .1) at (c .before .before .before .before .before .load-both .ensures))
+
+pub replay-in-spec : {M : Type 1} → statement M
+replay-in-spec =
+    tie.close
+    (tie.spec
+    load-both-requires
+    enum-told
+    put-replay-requires
+    enum-known-x
+    same-length
+    same-length-2
+    returns
+    same-length-3
+    returns-2)

@@ -1,0 +1,67 @@
+-- Line by line the outcomes are those of the replay.
+use Prim.Native.Nat.{_≤_, _-_}
+use native.Mathlib.Omega.{arith}
+use borrow.Author.Needs.{needs}
+use Rattle.jobs.proofs.Held.{sizes}
+use Rattle.rounds.proofs.RoundLaws.{RoundRuns, round-first, round-asks, round-next, round-done}
+use Rattle.rounds.proofs.replaying.run_round.Statement.{statement}
+use Rattle.rounds.proofs.replaying.run_round.Tie as tie
+
+abbrev Inv-loop : tie.InvT-loop
+Inv-loop mem₀ rooms stops v delays ready₀ k₀ mem ready k = (k ≤ v) × RoundRuns rooms k stops (ready .at) mem₀ mem
+
+abbrev μ-loop : tie.MeasureT-loop
+μ-loop mem₀ rooms stops v delays ready₀ k₀ mem ready k = v - k
+
+slice-read-v : tie.Need-slice-read-v Inv-loop μ-loop
+slice-read-v c = let z = sizes (c .before .before .before .pre .0 .job) in omega arith
+
+delay-table-requires : tie.Need-delay-table-requires Inv-loop μ-loop
+delay-table-requires c κs = (_, c .before .before .before .before .pre .0 .job)
+
+new-requires : tie.Need-new-requires Inv-loop μ-loop
+new-requires c κs = search needs
+
+loop-holds : tie.Need-loop-holds Inv-loop μ-loop
+loop-holds c = (search needs, rw (c .new .ensures) (round-first (c .before .before .before .before .before .before .args .stops .now) (c .before .before .before .before .before .before .pre .0)))
+
+run-line-requires : tie.Need-run-line-requires Inv-loop μ-loop
+run-line-requires c κs =
+    let l = c .before .before .before .loop in
+    let p = c .before .before .before .before .before .before .before .before .before .before .pre in
+    let (t, a, f) = round-asks (l .k) (l .inv .1) (p .0) (p .1) (c .before .before .before .before .before .delay-table .ensures) (c .before .before .loop-test .taken) in
+    (t, l .inv .1 .running, a, f, p .2)
+
+add-k : tie.Need-add-k Inv-loop μ-loop
+add-k c = let z = sizes (c .before .before .before .before .before .before .before .before .before .before .before .before .before .pre .0 .job) in omega arith
+
+loop-less : tie.Need-loop-less Inv-loop μ-loop
+loop-less c = search needs
+
+loop-again : tie.Need-loop-again Inv-loop μ-loop
+loop-again c =
+    let l = c .before .before .before .before .before .before .loop in
+    (search needs, round-next (l .k) (l .inv .1) (c .before .before .before .before .before .before .before .before .before .before .before .before .before .pre .0) (c .before .before .before .before .before .before .before .before .before .before .before .before .before .pre .1) (c .before .before .before .before .before .loop-test .taken) (c .before .before .run-line .ensures .0) (c .before .before .run-line .ensures .1))
+
+same-length : tie.Need-same-length Inv-loop μ-loop
+same-length c = c .before .loop .inv .1 .retimed .outside .size
+
+returns : tie.Need-returns Inv-loop μ-loop
+returns c = let l = c .before .loop in round-done (l .k) (l .inv .1) (c .before .before .before .before .before .before .before .before .pre .0) (c .before .before .before .before .before .before .before .before .pre .1) (omega arith)
+
+pub run-round-spec : {M : Type 1} → statement M
+run-round-spec =
+    tie.close
+    (tie.spec
+    Inv-loop
+    μ-loop
+    slice-read-v
+    delay-table-requires
+    new-requires
+    loop-holds
+    run-line-requires
+    add-k
+    loop-less
+    loop-again
+    same-length
+    returns)

@@ -1,0 +1,85 @@
+-- The outcomes in the memory are those of the definition, newest first, and their lines are written if they fit.
+use mathlib.Core.Path.{refl, sym, _∙_}
+use borrow.Author.Needs.{needs}
+use borrow.Author.Tests.{leb-true, leb-false}
+use Rattle.jobs.specs.Held.{jobIn}
+use Rattle.jobs.proofs.Held.{processors-in}
+use Rattle.rounds.proofs.ReplayLaws.{run-asked, run-short, run-done, run-refused}
+use Rattle.rounds.proofs.results.put_replay.Statement.{statement}
+use Rattle.rounds.proofs.results.put_replay.Tie as tie
+
+slice-read-m : tie.Need-slice-read-m
+slice-read-m c = search needs
+
+slice-aggregate-load-stops : tie.Need-slice-aggregate-load-stops
+slice-aggregate-load-stops c = search needs
+
+load-stops-requires : tie.Need-load-stops-requires
+load-stops-requires c κs = search needs
+
+enum-told : tie.Need-enum-told
+enum-told c = search needs
+
+slice-aggregate-run-round : tie.Need-slice-aggregate-run-round
+slice-aggregate-run-round c = search needs
+
+run-round-requires : tie.Need-run-round-requires
+run-round-requires c κs = (c .before .before .before .before .before .before .before .before .before .before .before .pre .0 .standing, c .before .before .before .before .before .before .before .before .before .before .before .pre .0 .facts .ordered, c .before .before .before .before .before .load-stops .kept .1 .1 .0)
+
+replay-fits-requires : tie.Need-replay-fits-requires
+replay-fits-requires c κs = run-asked (c .before .before .before .before .before .before .before .before .before .before .before .before .before .before .before .pre .0) (c .before .before .before .run-round .ensures) (c .before .before .before .before .before .before .before .before .before .before .before .before .before .before .before .pre .1)
+
+write-replay-requires : tie.Need-write-replay-requires
+write-replay-requires c κs =
+    let a = run-asked (c .before .before .before .before .before .before .before .before .before .before .before .before .before .before .before .before .before .before .before .pre .0) (c .before .before .before .before .before .before .before .run-round .ensures) (c .before .before .before .before .before .before .before .before .before .before .before .before .before .before .before .before .before .before .before .pre .1) in
+    (a .0, a .1, a .2, leb-true _ _ (sym (c .before .before .before .replay-fits .ensures) ∙ c .before .before .if1 .taken))
+
+same-length : tie.Need-same-length
+same-length c = search needs
+
+same-length-2 : tie.Need-same-length-2
+same-length-2 c = search needs
+
+returns : tie.Need-returns
+returns c =
+    let d = c .before .before .before .before .before .before .before .before .before .before .before .before .before .before .before .before .before .before .before .before .before .before .args .mem .now in let w = c .before .before .write-replay in
+    run-done (c .before .before .before .before .before .before .before .before .before .before .before .before .before .before .before .before .before .before .before .before .before .before .pre .0) (c .before .before .before .before .before .before .before .before .before .before .run-round .ensures) (c .before .before .before .before .before .before .before .before .before .before .before .before .before .before .before .before .before .before .before .before .before .before .args .stops .now) (c .before .before .before .before .before .before .before .before .before .before .before .before .before .before .before .before .before .before .before .before .before .before .args .out .now) _ _ (c .before .before .before .before .before .before .before .before .before .before .before .before .before .before .before .before .load-stops .kept .1 .1 .0)
+    (rw (c .before .before .before .before .before .before .before .before .before .before .before .before .before .enum-told .given .1) at (c .before .before .before .before .before .before .before .before .before .before .before .before .before .before .before .before .load-stops .ensures (jobIn d) (processors-in d))) refl (leb-true _ _ (sym (c .before .before .before .before .before .before .replay-fits .ensures) ∙ c .before .before .before .before .before .if1 .taken))
+    (w .result) (w .last .0) (w .ensures .0) (w .ensures .1)
+
+enum-known-x : tie.Need-enum-known-x
+enum-known-x c = search needs
+
+same-length-3 : tie.Need-same-length-3
+same-length-3 c = search needs
+
+returns-2 : tie.Need-returns-2
+returns-2 c =
+    let d = c .before .before .before .before .before .before .before .before .before .before .before .before .before .before .before .before .before .args .mem .now in
+    run-short (c .before .before .before .before .before .before .before .before .before .before .before .before .before .before .before .before .before .pre .0) (c .before .before .before .before .before .run-round .ensures) (c .before .before .before .before .before .before .before .before .before .before .before .before .before .before .before .before .before .args .stops .now) (c .before .before .before .before .before .before .before .before .before .before .before .before .before .before .before .before .before .args .out .now) _ _ (c .before .before .before .before .before .before .before .before .before .before .before .load-stops .kept .1 .1 .0)
+    (rw (c .before .before .before .before .before .before .before .before .enum-told .given .1) at (c .before .before .before .before .before .before .before .before .before .before .before .load-stops .ensures (jobIn d) (processors-in d))) refl (leb-false _ _ (sym (c .before .replay-fits .ensures) ∙ c .if1 .left))
+
+returns-3 : tie.Need-returns-3
+returns-3 c =
+    let d = c .before .before .before .before .before .before .before .before .before .before .args .mem .now in
+    run-refused (c .before .before .before .before .before .before .before .before .before .before .args .rooms) d (c .before .before .before .before .load-stops .last .1 .1 .0) (c .before .before .before .before .before .before .before .before .before .before .args .stops .now) (c .before .before .before .before .before .before .before .before .before .before .args .out .now) _ (c .before .before .before .before .before .before .before .before .before .before .pre .0 .standing .job) (rw (c .before .x .given .1) at (c .before .before .before .before .load-stops .ensures (jobIn d) (processors-in d)))
+
+pub put-replay-spec : {M : Type 1} → statement M
+put-replay-spec =
+    tie.close
+    (tie.spec
+    slice-read-m
+    slice-aggregate-load-stops
+    load-stops-requires
+    enum-told
+    slice-aggregate-run-round
+    run-round-requires
+    replay-fits-requires
+    write-replay-requires
+    same-length
+    same-length-2
+    returns
+    enum-known-x
+    same-length-3
+    returns-2
+    returns-3)

@@ -1,0 +1,66 @@
+-- The R lines, and the L line behind them.
+use native.Mathlib.Omega.{arith}
+use borrow.Author.Needs.{needs}
+use Rattle.definitions.specs.Limits.{document01}
+use Rattle.definitions.specs.Replay.{endLine}
+use Rattle.plans.specs.Lines.{timeIn}
+use Rattle.rounds.proofs.LineByLine.{part-room, part-whole}
+use Rattle.rounds.proofs.ResultLaws.{tasks-within, replay-size, end-room, replay-whole}
+use Rattle.rounds.proofs.results.write_replay.Statement.{statement}
+use Rattle.rounds.proofs.results.write_replay.Tie as tie
+
+write-tasks-requires : tie.Need-write-tasks-requires
+write-tasks-requires c κs = (c .before .before .before .pre .0, c .before .before .before .pre .1, omega (arith, c .before .before .before .pre .3, tasks-within (c .before .before .before .args .rooms) (c .before .before .before .args .mem .now)))
+
+end-of-requires : tie.Need-end-of-requires
+end-of-requires c κs = (c .before .before .before .before .before .before .pre .0, c .before .before .before .before .before .before .pre .2)
+
+sub-write-end : tie.Need-sub-write-end
+sub-write-end c =
+    let w = c .before .before .before .write-tasks in
+    omega (arith, end-room (c .before .before .before .before .before .before .before .args .rooms) (c .before .before .before .before .before .before .before .args .mem .now) (c .end-of .result) (c .end-of .ensures) (c .before .before .before .before .before .before .before .args .out .now) (w .last .0) (w .result) (c .before .before .before .before .before .before .before .pre .3) (w .ensures .0) (w .ensures .1))
+
+part-write-end-start : tie.Need-part-write-end-start
+part-write-end-start c =
+    let w = c .before .before .before .write-tasks in
+    omega (arith, end-room (c .before .before .before .before .before .before .before .args .rooms) (c .before .before .before .before .before .before .before .args .mem .now) (c .end-of .result) (c .end-of .ensures) (c .before .before .before .before .before .before .before .args .out .now) (w .last .0) (w .result) (c .before .before .before .before .before .before .before .pre .3) (w .ensures .0) (w .ensures .1))
+
+part-write-end-end : tie.Need-part-write-end-end
+part-write-end-end c = search needs
+
+write-end-requires : tie.Need-write-end-requires
+write-end-requires c κs =
+    let w = c .before .before .before .before .write-tasks in
+    let r = end-room (c .before .before .before .before .before .before .before .before .args .rooms) (c .before .before .before .before .before .before .before .before .args .mem .now) (c .before .end-of .result) (c .before .end-of .ensures) (c .before .before .before .before .before .before .before .before .args .out .now) (w .last .0) (w .result) (c .before .before .before .before .before .before .before .before .pre .3) (w .ensures .0) (w .ensures .1) in
+    part-room (w .last .0) (w .result) (endLine document01 (timeIn (c .before .end-of .result))) r
+
+add-result : tie.Need-add-result
+add-result c =
+    let w = c .before .before .before .before .before .before .before .write-tasks in
+    omega (arith, c .before .before .write-end .ensures .0, w .kept .0, end-room (c .before .before .before .before .before .before .before .before .before .before .before .args .rooms) (c .before .before .before .before .before .before .before .before .before .before .before .args .mem .now) (c .before .before .before .before .end-of .result) (c .before .before .before .before .end-of .ensures) (c .before .before .before .before .before .before .before .before .before .before .before .args .out .now) (w .last .0) (w .result) (c .before .before .before .before .before .before .before .before .before .before .before .pre .3) (w .ensures .0) (w .ensures .1))
+
+same-length : tie.Need-same-length
+same-length c = search needs
+
+returns : tie.Need-returns
+returns c =
+    let a = c .before .before .before .before .before .before .before .before .before .before .before .args in
+    let w = c .before .before .before .before .before .before .before .write-tasks in
+    let e = c .before .before .write-end in
+    let r = end-room (a .rooms) (a .mem .now) (c .before .before .before .before .end-of .result) (c .before .before .before .before .end-of .ensures) (a .out .now) (w .last .0) (w .result) (c .before .before .before .before .before .before .before .before .before .before .before .pre .3) (w .ensures .0) (w .ensures .1) in
+    let (p, y) = part-whole (w .last .0) (w .result) (endLine document01 (timeIn (c .before .before .before .before .end-of .result))) r (e .result) (e .last .0) (e .ensures .0) (e .ensures .1) in
+    (omega (arith, p, w .ensures .0, replay-size (a .rooms) (a .mem .now) (c .before .before .before .before .end-of .result) (c .before .before .before .before .end-of .ensures)), replay-whole (a .rooms) (a .mem .now) (c .before .before .before .before .end-of .result) (c .before .before .before .before .end-of .ensures) (a .out .now) (w .last .0) (w .result) (c .before .before .before .before .before .before .before .before .before .before .before .pre .3) (w .ensures .0) (w .ensures .1) _ y)
+
+pub write-replay-spec : {M : Type 1} → statement M
+write-replay-spec =
+    tie.close
+    (tie.spec
+    write-tasks-requires
+    end-of-requires
+    sub-write-end
+    part-write-end-start
+    part-write-end-end
+    write-end-requires
+    add-result
+    same-length
+    returns)

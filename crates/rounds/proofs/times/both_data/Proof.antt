@@ -1,0 +1,78 @@
+use native.Mathlib.Omega.{arith}
+use borrow.Author.Needs.{needs}
+use Rattle.jobs.proofs.Held.{sizes}
+use Rattle.rounds.proofs.BothLaws.{BothGathering, both-first, both-edge, both-next, both-falls, both-done}
+use Rattle.rounds.proofs.times.both_data.Statement.{statement}
+use Rattle.rounds.proofs.times.both_data.Tie as tie
+
+abbrev Inv-loop : tie.InvT-loop
+Inv-loop mem rooms delays t g early₀ late₀ k₀ early late k = BothGathering rooms t mem early late k
+
+abbrev μ-loop : tie.MeasureT-loop
+μ-loop mem rooms delays t g early₀ late₀ k₀ early late k = k
+
+edges-at-requires : tie.Need-edges-at-requires Inv-loop μ-loop
+edges-at-requires c κs = (_, c .before .pre .0 .1 .job)
+
+mul-k : tie.Need-mul-k Inv-loop μ-loop
+mul-k c = search needs
+
+add-k : tie.Need-add-k Inv-loop μ-loop
+add-k c = search needs
+
+mul-k-2 : tie.Need-mul-k-2 Inv-loop μ-loop
+mul-k-2 c = search needs
+
+shared-slice-read-k : tie.Need-shared-slice-read-k Inv-loop μ-loop
+shared-slice-read-k c = let s = sizes (c .before .before .before .pre .0 .1 .job) in omega (arith, s .size, s .tasks-most, c .before .before .before .pre .2)
+
+loop-holds : tie.Need-loop-holds Inv-loop μ-loop
+loop-holds c = both-first (c .before .before .before .pre .0 .0) (c .before .before .before .args .t) (c .before .before .before .args .mem .now) (c .before .before .before .pre .0 .1) (c .before .before .before .pre .2)
+
+entering-requires : tie.Need-entering-requires Inv-loop μ-loop
+entering-requires c κs =
+    let g = c .before .loop .inv in
+    let h = c .loop-test .taken in
+    record {
+      job = c .before .before .before .before .before .pre .0 .1 .job;
+      place = c .before .before .before .edges-at .ensures;
+      some = h;
+      most = g .most;
+      feeds = both-edge (c .before .before .before .before .before .pre .0 .0) (c .before .before .before .before .before .args .t) (c .before .before .before .before .before .args .mem .now) (c .before .before .before .before .before .pre .0 .1) g h (c .before .before .before .before .before .pre .3) .0;
+    }
+
+both-arrivals-requires : tie.Need-both-arrivals-requires Inv-loop μ-loop
+both-arrivals-requires c κs =
+    let g = c .before .before .before .before .loop .inv in
+    let e = c .before .before .entering .ensures in
+    let (f, b) = both-edge (c .before .before .before .before .before .before .before .before .pre .0 .0) (c .before .before .before .before .before .before .before .before .args .t) (c .before .before .before .before .before .before .before .before .args .mem .now) (c .before .before .before .before .before .before .before .before .pre .0 .1) g (c .before .before .before .loop-test .taken) (c .before .before .before .before .before .before .before .before .pre .3) in
+    ((_, c .before .before .before .before .before .before .before .before .pre .0 .1 .job), c .before .before .before .before .before .before .before .before .pre .1, rw (e .row-of) (f .row), omega (arith, e .within, sizes (c .before .before .before .before .before .before .before .before .pre .0 .1 .job) .size), rw (e .volume-of) (f .volume-most), rw (e .row-of) b, g .early-size, g .late-size)
+
+loop-less : tie.Need-loop-less Inv-loop μ-loop
+loop-less c = rw (c .before .before .before .entering .ensures .next-of) (both-falls (c .before .before .before .before .before .before .before .before .before .pre .0 .0) (c .before .before .before .before .before .before .before .before .before .args .t) (c .before .before .before .before .before .before .before .before .before .args .mem .now) (c .before .before .before .before .before .before .before .before .before .pre .0 .1) (c .before .before .before .before .before .loop .inv) (c .before .before .before .before .loop-test .taken))
+
+loop-again : tie.Need-loop-again Inv-loop μ-loop
+loop-again c =
+    let e = c .before .before .before .entering .ensures in
+    rw (e .next-of) (both-next (c .before .before .before .before .before .before .before .before .before .pre .0 .0) (c .before .before .before .before .before .before .before .before .before .args .t) (c .before .before .before .before .before .before .before .before .before .args .mem .now) (c .before .before .before .before .before .before .before .before .before .pre .0 .1) (c .before .before .before .before .before .loop .inv) (c .before .before .before .before .loop-test .taken) _ _ (rw (e .row-of, e .volume-of) at (c .both-arrivals .ensures)))
+
+returns : tie.Need-returns Inv-loop μ-loop
+returns c = both-done (c .before .before .before .before .before .pre .0 .0) (c .before .before .before .before .before .args .t) (c .before .before .before .before .before .args .mem .now) (c .before .before .before .before .before .pre .0 .1) (c .before .loop .inv) (omega arith)
+
+pub both-data-spec : {M : Type 1} → statement M
+both-data-spec =
+    tie.close
+    (tie.spec
+    Inv-loop
+    μ-loop
+    edges-at-requires
+    mul-k
+    add-k
+    mul-k-2
+    shared-slice-read-k
+    loop-holds
+    entering-requires
+    both-arrivals-requires
+    loop-less
+    loop-again
+    returns)

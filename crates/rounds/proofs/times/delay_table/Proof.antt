@@ -1,0 +1,128 @@
+-- The cells before i hold the delays; the others hold 0.
+use mathlib.Core.Path.{_≡_, refl}
+use mathlib.Core.List.{List}
+use Prim.Native.Nat.{ℕ, _≤_, _<_, _-_, _+_, _*_, _/_, _%_}
+use native.Mathlib.Omega.{arith}
+use borrow.Author.Needs.{needs}
+use lib.ListN.{length}
+use Rattle.definitions.specs.Lists.{nth}
+use Rattle.jobs.specs.Layout.{jobSize}
+use Rattle.jobs.proofs.Held.{Sizes, sizes, row-below}
+use Rattle.rounds.proofs.TimeLaws.{delay-cell}
+use Rattle.rounds.proofs.ShortLaws.{Filled, filled-none, filled-set, DelayCell, delay-stored, delays-end, none-set, table-made}
+use Rattle.rounds.proofs.times.delay_table.Statement.{statement}
+use Rattle.rounds.proofs.times.delay_table.Tie as tie
+
+abbrev Inv-loop : tie.InvT-loop
+Inv-loop mem v m n delays₀ i₀ delays i = (i ≤ n) × (length delays ≡ 256) × ((rooms : ℕ) × Sizes rooms mem) × Filled (DelayCell mem) delays₀ delays i
+
+abbrev μ-loop : tie.MeasureT-loop
+μ-loop mem v m n delays₀ i₀ delays i = n - i
+
+-- The cell that is read is one of the job's.
+cell : {rooms : ℕ} {mem : List ℕ} → Sizes rooms mem → (i : ℕ) → i < 16 * nth mem 1 → i % 16 < nth mem 1 → 4 + (nth mem 0 + i / 16) * (nth mem 1 + 1) + (i % 16 + 1) < jobSize rooms
+cell {rooms} {mem} s i h g = row-below s (nth mem 0 + i / 16) (i % 16) (omega arith) g
+
+shared-slice-read-v : tie.Need-shared-slice-read-v Inv-loop μ-loop
+shared-slice-read-v c = search needs
+
+shared-slice-read-m : tie.Need-shared-slice-read-m Inv-loop μ-loop
+shared-slice-read-m c = search needs
+
+mul-n : tie.Need-mul-n Inv-loop μ-loop
+mul-n c = search needs
+
+loop-holds : tie.Need-loop-holds Inv-loop μ-loop
+loop-holds c = (search needs, refl, (_, sizes (c .before .before .pre .1)), filled-none)
+
+add-delays : tie.Need-add-delays Inv-loop μ-loop
+add-delays c = search needs
+
+add-delays-2 : tie.Need-add-delays-2 Inv-loop μ-loop
+add-delays-2 c = search needs
+
+mul-delays : tie.Need-mul-delays Inv-loop μ-loop
+mul-delays c = omega (arith, cell (c .before .before .loop .inv .2 .1) (c .before .before .loop .i) (c .before .loop-test .taken) (c .if1 .taken))
+
+add-delays-3 : tie.Need-add-delays-3 Inv-loop μ-loop
+add-delays-3 c = omega (arith, cell (c .before .before .loop .inv .2 .1) (c .before .before .loop .i) (c .before .loop-test .taken) (c .if1 .taken))
+
+add-delays-4 : tie.Need-add-delays-4 Inv-loop μ-loop
+add-delays-4 c = search needs
+
+add-delays-5 : tie.Need-add-delays-5 Inv-loop μ-loop
+add-delays-5 c = omega (arith, cell (c .before .before .loop .inv .2 .1) (c .before .before .loop .i) (c .before .loop-test .taken) (c .if1 .taken))
+
+mul-delays-2 : tie.Need-mul-delays-2 Inv-loop μ-loop
+mul-delays-2 c = omega (arith, cell (c .before .before .loop .inv .2 .1) (c .before .before .loop .i) (c .before .loop-test .taken) (c .if1 .taken))
+
+shared-slice-read-delays : tie.Need-shared-slice-read-delays Inv-loop μ-loop
+shared-slice-read-delays c = let s = c .before .before .before .loop .inv .2 .1 in omega (arith, s .size, cell s (c .before .before .before .loop .i) (c .before .before .loop-test .taken) (c .before .if1 .taken))
+
+cast-delays : tie.Need-cast-delays Inv-loop μ-loop
+cast-delays c = let l = c .before .before .before .loop in omega (arith, delay-cell (c .before .before .before .before .before .before .pre .1) (l .i / 16) (l .i % 16) (omega (arith, c .before .before .loop-test .taken)) (c .before .if1 .taken))
+
+mul-delays-3 : tie.Need-mul-delays-3 Inv-loop μ-loop
+mul-delays-3 c = search needs
+
+array-write-delays : tie.Need-array-write-delays Inv-loop μ-loop
+array-write-delays c = search needs
+
+add-i : tie.Need-add-i Inv-loop μ-loop
+add-i c = search needs
+
+loop-less : tie.Need-loop-less Inv-loop μ-loop
+loop-less c = search needs
+
+loop-again : tie.Need-loop-again Inv-loop μ-loop
+loop-again c =
+    let l = c .before .before .before .loop in
+    let d = c .before .before .before .before .before .before .args .mem .now in
+    (search needs, search needs, l .inv .2, filled-set (l .inv .3) (nth d (4 + (nth d 0 + l .i / 16) * (nth d 1 + 1) + (l .i % 16 + 1))) (omega arith) (delay-stored (c .before .before .before .before .before .before .pre .1) (l .i) (omega arith) (c .before .if1 .taken)))
+
+sub-i : tie.Need-sub-i Inv-loop μ-loop
+sub-i c = search needs
+
+add-i-2 : tie.Need-add-i-2 Inv-loop μ-loop
+add-i-2 c = search needs
+
+loop-less-2 : tie.Need-loop-less-2 Inv-loop μ-loop
+loop-less-2 c = search needs
+
+loop-again-2 : tie.Need-loop-again-2 Inv-loop μ-loop
+loop-again-2 c =
+    let l = c .before .before .loop in
+    (omega (arith, c .before .loop-test .taken), l .inv .1, l .inv .2, delays-end (l .inv .2 .1) none-set (l .inv .3) (c .if1 .left))
+
+returns : tie.Need-returns Inv-loop μ-loop
+returns c = let l = c .before .loop in table-made (l .inv .2 .1) (omega arith) none-set (l .inv .3)
+
+pub delay-table-spec : {M : Type 1} → statement M
+delay-table-spec =
+    tie.close
+    (tie.spec
+    Inv-loop
+    μ-loop
+    shared-slice-read-v
+    shared-slice-read-m
+    mul-n
+    loop-holds
+    add-delays
+    add-delays-2
+    mul-delays
+    add-delays-3
+    add-delays-4
+    add-delays-5
+    mul-delays-2
+    shared-slice-read-delays
+    cast-delays
+    mul-delays-3
+    array-write-delays
+    add-i
+    loop-less
+    loop-again
+    sub-i
+    add-i-2
+    loop-less-2
+    loop-again-2
+    returns)

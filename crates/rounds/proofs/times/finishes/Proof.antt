@@ -1,0 +1,30 @@
+-- From the data and the run times of each processor.
+use borrow.Author.Needs.{needs}
+use Rattle.jobs.proofs.Held.{sizes}
+use Rattle.rounds.proofs.BothLaws.{finish-made}
+use Rattle.rounds.proofs.times.finishes.Statement.{statement}
+use Rattle.rounds.proofs.times.finishes.Tie as tie
+
+both-data-requires : tie.Need-both-data-requires
+both-data-requires c κs = (c .before .pre .0, c .before .pre .1, c .before .pre .2, c .before .pre .3)
+
+run-times-requires : tie.Need-run-times-requires
+run-times-requires c κs = ((_, c .before .before .pre .0 .1 .job), c .before .before .pre .2)
+
+finish-requires : tie.Need-finish-requires
+finish-requires c κs = search needs
+
+returns : tie.Need-returns
+returns c =
+    let a = c .before .before .before .before .args in
+    let p = c .before .before .before .before .pre in
+    finish-made (a .rooms) (a .t) (a .clocks) (a .mem .now) _ _ (c .before .run-times .result) _ _ (p .2) (sizes (p .0 .1 .job) .processors-most) (c .before .before .both-data .ensures) (p .4) (c .before .run-times .ensures) (c .finish .ensures .0) (c .finish .ensures .1)
+
+pub finishes-spec : {M : Type 1} → statement M
+finishes-spec =
+    tie.close
+    (tie.spec
+    both-data-requires
+    run-times-requires
+    finish-requires
+    returns)

@@ -1,0 +1,28 @@
+-- What the checker's tests speak of: a plan that was read, and the ticks of its lines.
+use mathlib.Core.Path.{_≡_}
+use mathlib.Core.List.{List}
+use mathlib.Core.Bool.{Bool, true, false}
+use Prim.Native.Nat.{ℕ, _+_, _*_, _<_}
+use Rattle.definitions.specs.Lists.{if_then_else_, nth}
+use Rattle.definitions.specs.Times.{Time}
+use Rattle.jobs.specs.Layout.{rowAt}
+use Rattle.jobs.specs.Held.{jobIn}
+use Rattle.plans.specs.Lines.{timeIn, placedIn}
+use Rattle.rounds.specs.Planning.{finishOn, ClocksHeld}
+use Rattle.ticks.specs.declared.clocks.Clocks.{Clocks}
+
+-- The ready ticks of all processors after the first k lines.
+abbrev pub ClocksAfter : ℕ → ℕ → List ℕ → Clocks → Type 0
+ClocksAfter rooms k mem clocks = ClocksHeld clocks (jobIn mem) (placedIn rooms false (nth mem 3 + 1) k mem) (placedIn rooms true (nth mem 3 + 1) k mem)
+
+-- The early or late finish of replica c of line k by the equations, after the first k lines as they are written.
+abbrev pub finishIn : ℕ → Bool → ℕ → ℕ → List ℕ → Time
+finishIn rooms late k c mem = finishOn rooms late k mem (nth mem (rowAt rooms k)) (nth mem (rowAt rooms k + (1 + 3 * c)))
+
+-- The ticks of the first c replicas of line k are the equations'.
+abbrev pub AgreesTo : ℕ → ℕ → ℕ → List ℕ → Type 0
+AgreesTo rooms k c mem = (late : Bool) (i : ℕ) → i < c → finishIn rooms late k i mem ≡ timeIn (nth mem (rowAt rooms k + ((if late then 3 else 2) + 3 * i)))
+
+-- All of line k are.
+abbrev pub LineAgrees : ℕ → ℕ → List ℕ → Type 0
+LineAgrees rooms k mem = AgreesTo rooms k (nth mem 3 + 1) mem

@@ -1,0 +1,16 @@
+-- What the table of bottom levels holds while it is filled.
+use mathlib.Core.List.{List}
+use Prim.Native.Nat.{ℕ, _+_, _*_}
+use Rattle.definitions.specs.Lists.{nth}
+use Rattle.definitions.specs.Job.{Edge}
+use Rattle.definitions.specs.Planner.{totalDelay}
+use Rattle.jobs.specs.Layout.{levelAt}
+use Rattle.jobs.specs.Held.{jobIn}
+
+-- What a bottom level is at most: for each of 255 tasks 16 × 16 times a run of 1,000,000 and a message of 4,095 × 255.
+abbrev pub levelMost : ℕ
+levelMost = 133_447_008_000
+
+-- An edge's scaled message and its successor's level.
+abbrev pub sent : ℕ → List ℕ → Edge → ℕ
+sent rooms mem e = e .volume * totalDelay (jobIn mem) + nth mem (levelAt rooms + e .to)

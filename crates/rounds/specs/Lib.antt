@@ -1,0 +1,10 @@
+pub mod Arrivals
+pub mod Checking
+pub mod Levels
+pub mod Planning
+pub mod Replaying
+pub mod Schedule
+pub mod Texts
+pub mod Tools
+pub mod Verdicts
+pub mod Walks

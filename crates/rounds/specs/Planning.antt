@@ -1,0 +1,201 @@
+-- What the memory holds while a plan is drawn up.
+use mathlib.Core.Path.{_≡_}
+use mathlib.Core.Logic.{_⊎_}
+use mathlib.Core.List.{List, [], _∷_, _++_, map}
+use mathlib.Core.Bool.{Bool, true, false, _&&_}
+use Prim.Native.Nat.{ℕ, suc, _+_, _*_, _-_, _<_, _≤_}
+use lib.Dec.{eqb}
+use lib.ListN.{length}
+use Rattle.definitions.specs.Lists.{nth, below, keep}
+use Rattle.definitions.specs.Limits.{document01}
+use Rattle.definitions.specs.Job.{Edge, Job, incoming}
+use Rattle.definitions.specs.Plan.{Replica}
+use Rattle.definitions.specs.Times.{Time, tick, after, least, Outcome, ready, finish}
+use Rattle.definitions.specs.Planner.{tickOf, greatestOf, Waiting, waitingFrom, scale, topLevel, trial, chosen, place, planFor}
+use Rattle.rounds.specs.Walks.{edgeOf}
+use Rattle.definitions.proofs.Tasks.{copyOf}
+use Rattle.jobs.specs.Layout.{outNextAt, levelAt, lineAt, blockedAt, priorityAt, rowAt, farAt}
+use Rattle.jobs.specs.Held.{chain, jobIn, JobStands, LinkedOut}
+use Rattle.rounds.specs.Schedule.{choiceOf, topIn, FarFilled, LevelsFilled, ShortTo}
+use Rattle.plans.specs.Lines.{rowOutcomes, placedIn, rowReplicas, linesIn, RowHeld, Standing}
+use Rattle.lists.specs.Kept.{KeptOutside}
+use Rattle.ticks.specs.declared.clocks.Clocks.{Clocks}
+
+-- The choice of a task ------------------------------------------------------------------------------------------
+
+-- Task t is not placed, and no edge is counted that blocks it.
+abbrev pub isFree : ℕ → List ℕ → ℕ → Bool
+isFree rooms mem t = eqb (nth mem (lineAt rooms + t)) 0 && eqb (nth mem (blockedAt rooms + t)) 0
+
+-- The free tasks with their priorities, ascending.
+unfoldable pub freeIn : ℕ → List ℕ → List (ℕ × ℕ)
+freeIn rooms mem = map (λ t. (t, nth mem (priorityAt rooms + t))) (keep (isFree rooms mem) (below (nth mem 0)))
+
+-- The task of greatest priority among these, which ascend, so that ties go to the lowest; d if there is none.
+abbrev pub bestOf : ℕ → List (ℕ × ℕ) → ℕ
+bestOf d [] = d
+bestOf d (x ∷ xs) = greatestOf x xs
+
+-- Of two free tasks t is chosen before u: its priority is greater, or as great and its number is lower.
+abbrev pub Sooner : ℕ → List ℕ → ℕ → ℕ → Type 0
+Sooner rooms mem t u =
+    (nth mem (priorityAt rooms + u) < nth mem (priorityAt rooms + t)) ⊎ ((nth mem (priorityAt rooms + t) ≡ nth mem (priorityAt rooms + u)) × (t < u))
+
+-- The first n cells list the free ones of the first v tasks, each once, so that of two the later is chosen first.
+pub record FreeBelow (rooms v : ℕ) (cells : List ℕ) (n : ℕ) (mem : List ℕ) : Type 0 where
+  pub size : length cells ≡ 256
+  pub task-of : (k : ℕ) → k < n → nth cells k < v
+  pub free-of : (k : ℕ) → k < n → isFree rooms mem (nth cells k) ≡ true
+  pub every : (t : ℕ) → t < v → isFree rooms mem t ≡ true → (k : ℕ) × (k < n) × (nth cells k ≡ t)
+  pub sorted : (j k : ℕ) → j < k → k < n → Sooner rooms mem (nth cells k) (nth cells j)
+
+-- The first n cells list the free tasks; and a task that is blocked has no line.
+pub record FreeList (rooms : ℕ) (cells : List ℕ) (n : ℕ) (mem : List ℕ) : Type 0 where
+  pub tasks : FreeBelow rooms (nth mem 0) cells n mem
+  pub waits : (u : ℕ) → u < nth mem 0 → 0 < nth mem (blockedAt rooms + u) → nth mem (lineAt rooms + u) ≡ 0
+
+-- Task u was put into place i of a list of n tasks: those before it are as they were, those from i on stand one place higher. They
+-- are chosen before u, and the one before u isn't.
+pub record PutIn (rooms : ℕ) (mem : List ℕ) (u n i : ℕ) (d e : List ℕ) : Type 0 where
+  pub within : i ≤ n
+  pub before : (j : ℕ) → j < i → nth e j ≡ nth d j
+  pub here : nth e i ≡ u
+  pub behind : (j : ℕ) → i ≤ j → j < n → nth e (j + 1) ≡ nth d j
+  pub sooner : (j : ℕ) → i ≤ j → j < n → Sooner rooms mem (nth d j) u
+  pub later : (j : ℕ) → suc j ≡ i → Sooner rooms mem (nth d j) u → ⊥
+
+-- Task t got a line, and no other; what blocks the tasks is the same, and so are their priorities.
+pub record Taken (rooms t : ℕ) (d e : List ℕ) : Type 0 where
+  pub line-new : 0 < nth e (lineAt rooms + t)
+  pub line-kept : (u : ℕ) → u < nth d 0 → (u ≡ t → ⊥) → nth e (lineAt rooms + u) ≡ nth d (lineAt rooms + u)
+  pub blocked-kept : (u : ℕ) → u < nth d 0 → nth e (blockedAt rooms + u) ≡ nth d (blockedAt rooms + u)
+  pub priority-kept : (u : ℕ) → u < nth d 0 → nth e (priorityAt rooms + u) ≡ nth d (priorityAt rooms + u)
+
+-- The tasks that wait, with their bottom levels.
+unfoldable pub waitingIn : ℕ → List ℕ → List Waiting
+waitingIn rooms mem =
+    keep (λ w. eqb (nth mem (lineAt rooms + w .task)) 0) (waitingFrom 0 (map (λ t. nth mem (levelAt rooms + t)) (below (nth mem 0))))
+
+-- The line at a is one that top levels ask, for an edge of this volume.
+pub record Sends (rooms a volume : ℕ) (mem : List ℕ) : Type 0 where
+  pub row : RowHeld a mem
+  pub within : a + 25 ≤ length mem
+  pub narrow : nth mem 3 ≤ document01 .losses
+  pub ticks : (c : ℕ) → c < nth mem 3 + 1 → nth mem (a + (2 + 3 * c)) ≤ document01 .tick
+  pub little : volume ≤ document01 .volume
+  pub far : FarFilled rooms mem
+
+-- When the data of one of the first c replicas of the line at a is everywhere, for an edge of this volume.
+unfoldable pub spreadIn : ℕ → ℕ → ℕ → ℕ → List ℕ → Time
+spreadIn rooms volume a c mem = least (map (λ d. after (volume * nth mem (farAt rooms + d .processor)) (d .time)) (rowOutcomes false a c mem))
+
+-- What is placed ------------------------------------------------------------------------------------------------
+
+-- The replicas of the first k lines with their early times, and with their late ones.
+abbrev pub earliesIn : ℕ → ℕ → List ℕ → List Outcome
+earliesIn rooms k mem = placedIn rooms false (nth mem 3 + 1) k mem
+
+abbrev pub latesIn : ℕ → ℕ → List ℕ → List Outcome
+latesIn rooms k mem = placedIn rooms true (nth mem 3 + 1) k mem
+
+-- The early or the late finish of task t on p, after the first k lines.
+unfoldable pub finishOn : ℕ → Bool → ℕ → List ℕ → ℕ → ℕ → Time
+finishOn rooms late k mem t p = finish (jobIn mem) (choiceOf late) [] (placedIn rooms late (nth mem 3 + 1) k mem) (copyOf (jobIn mem) t p)
+
+-- The replica of t on p, after the first k lines.
+abbrev pub replicaOn : ℕ → ℕ → List ℕ → ℕ → ℕ → Replica
+replicaOn rooms k mem t p = record { processor = p; early = tickOf (finishOn rooms false k mem t p); late = tickOf (finishOn rooms true k mem t p) }
+
+-- The clocks have the ready ticks of all processors after what is placed, with its early and its late times.
+pub record ClocksHeld (clocks : Clocks) (j : Job) (es ls : List Outcome) : Type 0 where
+  pub early-size : length (clocks .early) ≡ 16
+  pub late-size : length (clocks .late) ≡ 16
+  pub early-ready : (p : ℕ) → p < j .processors → tick (nth (clocks .early) p) ≡ ready j p es
+  pub late-ready : (p : ℕ) → p < j .processors → tick (nth (clocks .late) p) ≡ ready j p ls
+
+-- The line at a has ticks that clocks can show.
+pub record LineTimed (a : ℕ) (mem : List ℕ) : Type 0 where
+  pub job : JobStands mem
+  pub row : RowHeld a mem
+  pub within : a + 25 ≤ length mem
+  pub ticks : (c : ℕ) → c < nth mem 3 + 1 → (nth mem (a + (2 + 3 * c)) ≤ 4294967295) × (nth mem (a + (3 + 3 * c)) ≤ 4294967295)
+
+-- The clocks next are the clocks after the first c replicas of the line at a besides.
+abbrev pub Advanced : ℕ → ℕ → List ℕ → Clocks → Clocks → Type 0
+Advanced a c mem clocks next =
+    (es ls : List Outcome) → ClocksHeld clocks (jobIn mem) es ls → ClocksHeld next (jobIn mem) (rowOutcomes false a c mem ++ es) (rowOutcomes true a c mem ++ ls)
+
+-- k lines of the plan are drawn up, and what is left to place gives the rest of it.
+pub record Drawn (rooms k : ℕ) (mem : List ℕ) : Type 0 where
+  pub standing : Standing rooms k mem
+  pub linked : LinkedOut rooms mem
+  pub far : FarFilled rooms mem
+  pub levels : LevelsFilled rooms mem
+  pub ticks : ShortTo rooms k mem
+  pub rest : linesIn rooms (nth mem 3 + 1) k mem
+      ++ place (jobIn mem) (nth mem 3) (nth mem 0 - k) (waitingIn rooms mem) (earliesIn rooms k mem) (latesIn rooms k mem)
+      ≡ planFor (jobIn mem) (nth mem 3) .lines
+
+-- Each task counts its edges from tasks that are not placed, and the edges es to it; a free task has its priority.
+pub record Ranked (rooms : ℕ) (es : List Edge) (mem : List ℕ) : Type 0 where
+  pub blocked : (u : ℕ) → u < nth mem 0
+      → nth mem (blockedAt rooms + u)
+      ≡ length (keep (λ e. eqb (nth mem (lineAt rooms + e .from)) 0) (incoming (jobIn mem) u)) + length (keep (λ e. eqb (e .to) u) es)
+  pub priorities : (u : ℕ) → u < nth mem 0 → isFree rooms mem u ≡ true
+      → nth mem (priorityAt rooms + u) ≡ tickOf (topIn rooms u mem) * scale (jobIn mem) + nth mem (levelAt rooms + u)
+
+-- Line k is to be of task t, which would finish at these ticks, early and late.
+pub record Tried (rooms k t : ℕ) (early late : List ℕ) (mem : List ℕ) : Type 0 where
+  pub drawn : Drawn rooms k mem
+  pub more : k < nth mem 0
+  pub early-size : length early ≡ 16
+  pub late-size : length late ≡ 16
+  pub early-finishes : (p : ℕ) → p < nth mem 1 → tick (nth early p) ≡ finishOn rooms false k mem t p
+  pub late-finishes : (p : ℕ) → p < nth mem 1 → tick (nth late p) ≡ finishOn rooms true k mem t p
+
+-- The processors of line k, if it is of task t.
+abbrev pub boxesFor : ℕ → ℕ → ℕ → List ℕ → List ℕ
+boxesFor rooms k t mem = chosen (jobIn mem) (nth mem 3 + 1) (trial (jobIn mem) (earliesIn rooms k mem) t)
+
+-- Replica c of the line at a was written, on p with these finishes, and nothing else.
+pub record Wrote (a c p early late : ℕ) (d mem : List ℕ) : Type 0 where
+  pub kept : KeptOutside (a + (1 + 3 * c)) (a + (4 + 3 * c)) d mem
+  pub processor : nth mem (a + (1 + 3 * c)) ≡ p
+  pub early-finish : nth mem (a + (2 + 3 * c)) ≡ early
+  pub late-finish : nth mem (a + (3 + 3 * c)) ≡ late
+
+-- Line k of a memory d has its replicas, of task t on the processors ps.
+pub record Begun (rooms k t : ℕ) (ps : List ℕ) (d mem : List ℕ) : Type 0 where
+  pub kept : KeptOutside (rowAt rooms k) (farAt rooms) d mem
+  pub replicas : rowReplicas (rowAt rooms k) (length ps) mem ≡ map (replicaOn rooms k d t) ps
+
+-- The first n tasks have no line and no edge that is counted, and their bottom levels for priorities.
+pub record Cleared (rooms n : ℕ) (mem : List ℕ) : Type 0 where
+  pub line : (t : ℕ) → t < n → nth mem (lineAt rooms + t) ≡ 0
+  pub blocked : (t : ℕ) → t < n → nth mem (blockedAt rooms + t) ≡ 0
+  pub priority : (t : ℕ) → t < n → nth mem (priorityAt rooms + t) ≡ nth mem (levelAt rooms + t)
+
+-- The edges that leave a placed task no longer block ---------------------------------------------------------------
+
+-- How many edges to u come from tasks that are not placed.
+abbrev pub blocking : ℕ → List ℕ → ℕ → ℕ
+blocking rooms mem u = length (keep (λ e. eqb (nth mem (lineAt rooms + e .from)) 0) (incoming (jobIn mem) u))
+
+-- How many of the edges es go to u.
+abbrev pub entries : ℕ → List Edge → ℕ
+entries u es = length (keep (λ e. eqb (e .to) u) es)
+
+-- The edges from link k on are still counted; n lines are drawn up in d.
+pub record Releasing (rooms n k : ℕ) (d mem : List ℕ) : Type 0 where
+  pub kept : KeptOutside (blockedAt rooms) (rowAt rooms 0) d mem
+  pub most : k ≤ nth d 2
+  pub blocked : (u : ℕ) → u < nth d 0 → nth mem (blockedAt rooms + u) ≡ blocking rooms d u + entries u (chain (outNextAt rooms) (nth d 2) d k)
+  pub priorities : (u : ℕ) → u < nth d 0 → nth d (lineAt rooms + u) ≡ 0 → nth mem (blockedAt rooms + u) ≡ 0
+      → nth mem (priorityAt rooms + u) ≡ topLevel (jobIn d) (earliesIn rooms n d) u + nth d (levelAt rooms + u)
+
+-- The edge of link k is the next that no longer counts, and it enters u.
+pub record Unblocks (rooms n k u : ℕ) (d mem : List ℕ) : Type 0 where
+  pub drawn : Drawn rooms n d
+  pub releasing : Releasing rooms n k d mem
+  pub some : 0 < k
+  pub enters : u ≡ edgeOf k d .to

@@ -1,0 +1,57 @@
+-- What a working memory holds: a job, the lines of a plan, times, links between edges.
+use mathlib.Core.Path.{_≡_}
+use mathlib.Core.List.{List, map}
+use mathlib.Core.Bool.{Bool, true, false}
+use Prim.Native.Nat.{ℕ, _+_, _*_, _-_, _<_, _≤_}
+use Rattle.definitions.specs.Lists.{nth, In}
+use Rattle.definitions.specs.Limits.{document01}
+use Rattle.definitions.specs.Job.{Edge, delay, incoming}
+use Rattle.definitions.specs.Times.{Time, tick, after, least, largest}
+use Rattle.definitions.specs.Planner.{largestDelay, bottomLevels}
+use Rattle.jobs.specs.Held.{jobIn}
+use Rattle.plans.specs.Lines.{rowOutcomes, rowOf}
+use Rattle.jobs.specs.Layout.{levelAt, lineAt, farAt, rowAt}
+
+-- The choice among a predecessor's copies: the least early, the largest late.
+abbrev pub choiceOf : Bool → List Time → Time
+choiceOf true = largest
+choiceOf false = least
+
+-- What a line of a plan, or a replica of a round, adds to a tick at most: a run and a message.
+abbrev pub lineTicks : ℕ
+lineTicks = document01 .runTime + document01 .volume * document01 .delay
+
+-- When the data of a predecessor whose line is at a is on p.
+unfoldable pub arrivalIn : Bool → ℕ → ℕ → ℕ → List ℕ → Time
+arrivalIn late volume p a mem =
+    choiceOf late
+    (map (λ d. after (volume * delay (jobIn mem) (d .processor) p) (d .time)) (rowOutcomes late a (nth mem 3 + 1) mem))
+
+-- When all data of t is on p.
+unfoldable pub dataIn : ℕ → Bool → ℕ → ℕ → List ℕ → Time
+dataIn rooms late t p mem = largest (map (λ e. arrivalIn late (e .volume) p (rowOf rooms (e .from) mem) mem) (incoming (jobIn mem) t))
+
+-- The ticks of the first k lines do not pass what k lines add up to.
+abbrev pub ShortTo : ℕ → ℕ → List ℕ → Type 0
+ShortTo rooms k mem =
+    (i c : ℕ) → i < k → c < nth mem 3 + 1
+    → (nth mem (rowAt rooms i + (2 + 3 * c)) ≤ k * lineTicks) × (nth mem (rowAt rooms i + (3 + 3 * c)) ≤ k * lineTicks)
+
+-- Every predecessor of t has a line.
+abbrev pub FedIn : ℕ → ℕ → List ℕ → Type 0
+FedIn rooms t mem = (e : Edge) → In e (incoming (jobIn mem) t) → 0 < nth mem (lineAt rooms + e .from)
+
+-- The top level of t, unscaled: from the lines of its predecessors and the table of largest delays.
+unfoldable pub topIn : ℕ → ℕ → List ℕ → Time
+topIn rooms t mem =
+    largest
+    (map (λ e. least (map (λ d. after (e .volume * nth mem (farAt rooms + d .processor)) (d .time)) (rowOutcomes false (rowOf rooms (e .from) mem) (nth mem 3 + 1) mem)))
+    (incoming (jobIn mem) t))
+
+-- The table of largest delays is filled.
+abbrev pub FarFilled : ℕ → List ℕ → Type 0
+FarFilled rooms mem = (p : ℕ) → p < nth mem 1 → nth mem (farAt rooms + p) ≡ largestDelay (jobIn mem) p
+
+-- Bottom levels are filled.
+abbrev pub LevelsFilled : ℕ → List ℕ → Type 0
+LevelsFilled rooms mem = (t : ℕ) → t < nth mem 0 → nth mem (levelAt rooms + t) ≡ nth (bottomLevels (jobIn mem)) t

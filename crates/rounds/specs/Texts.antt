@@ -1,0 +1,35 @@
+-- The lines of a plan and of a replay's answer, as a memory holds them.
+use mathlib.Core.List.{List, [], _∷_}
+use Prim.Native.Nat.{ℕ, _+_, _*_}
+use lib.ListN.{take, drop}
+use Rattle.definitions.specs.Lists.{bytes, nth, below}
+use Rattle.definitions.specs.Limits.{document01}
+use Rattle.definitions.specs.Text.{lineText}
+use Rattle.definitions.specs.Plan.{planLinesText}
+use Rattle.definitions.specs.Replay.{firstFinish, firstBox, resultLine, resultLines}
+use Rattle.jobs.specs.Layout.{bestAt, worstAt, rowAt}
+use Rattle.plans.specs.Lines.{linesIn}
+use Rattle.rounds.specs.Replaying.{outcomesIn}
+
+-- The numbers of a plan's head; its line.
+abbrev pub headIn : ℕ → List ℕ → List ℕ
+headIn rooms mem = nth mem 0 ∷ nth mem 1 ∷ nth mem 3 ∷ nth mem (bestAt rooms) ∷ nth mem (worstAt rooms) ∷ []
+
+unfoldable pub headLine : ℕ → List ℕ → List ℕ
+headLine rooms mem = lineText document01 (bytes "PLAN,") (headIn rooms mem)
+
+-- The T line of row k; the first k of them.
+unfoldable pub rowLine : ℕ → ℕ → List ℕ → List ℕ
+rowLine rooms k mem = lineText document01 (bytes "T,") (take (4 + 3 * nth mem 3) (drop (rowAt rooms k) mem))
+
+unfoldable pub rowLines : ℕ → ℕ → List ℕ → List ℕ
+rowLines rooms k mem = planLinesText document01 (linesIn rooms (nth mem 3 + 1) k mem)
+
+-- The R line of task t; the first k of them.
+unfoldable pub taskLine : ℕ → ℕ → List ℕ → List ℕ
+taskLine rooms t mem =
+    let x = firstFinish t (outcomesIn rooms mem) in
+    resultLine document01 t x (firstBox t x (outcomesIn rooms mem))
+
+unfoldable pub taskLines : ℕ → ℕ → List ℕ → List ℕ
+taskLines rooms k mem = resultLines document01 (below k) (outcomesIn rooms mem)

@@ -1,0 +1,143 @@
+// The checker: 12, 13 and 14 of a plan in memory.
+ghost use mathlib.Core.Path.{_≡_};
+ghost use mathlib.Core.Logic.{_⊎_};
+ghost use mathlib.Core.List.{[]};
+ghost use mathlib.Core.Bool.{true, false, not};
+ghost use Prim.Native.Nat.{_+_, _≤_, _<_};
+ghost use lib.ListN.{length};
+ghost use Rattle.definitions.specs.Lists.{nth, In, distinct};
+ghost use Rattle.definitions.specs.Limits.{document01};
+ghost use Rattle.definitions.specs.Text.{good};
+ghost use Rattle.definitions.specs.Plan.{processorsOf, descends};
+ghost use Rattle.definitions.specs.Refusals.{doubledTasks, ticksAgree, endsAgree};
+ghost use Rattle.definitions.specs.Tools.{verdictFor};
+ghost use Rattle.jobs.specs.Layout.{rowAt};
+ghost use Rattle.jobs.specs.Held.{jobIn, JobStands, LinkedOut};
+ghost use Rattle.rounds.specs.Schedule.{ShortTo};
+ghost use Rattle.plans.specs.Loading.{lineIn, planIn};
+ghost use Rattle.rounds.specs.Verdicts.{Judged};
+ghost use Rattle.rounds.specs.Arrivals.{DelayTable};
+ghost use Rattle.plans.specs.Loading.{PlanHeld};
+ghost use Rattle.rounds.specs.Checking.{ClocksAfter, LineAgrees};
+use crate::Checked;
+use crate::clocks;
+use crate::ends;
+use crate::times;
+use jobs::layout::BEST;
+use jobs::layout::ROWS;
+use jobs::layout::WORST;
+use ticks::clocks::Clocks;
+
+// In the line at `a` two replicas are on one processor. Processors do not descend.
+fn doubles(mem: &[u64], a: usize) -> bool
+    requires { ⌜ JobStands (now mem) × (a + 25 ≤ length (now mem)) × (descends (processorsOf (lineIn a (now mem))) ≡ false) ⌝ }
+    ensures { λ r. ⌜ r ≡ not (distinct (processorsOf (lineIn a (now (mem .entry))))) ⌝ }
+{
+    let w = mem[3] as usize + 1;
+    let mut c = 0;
+    while c + 1 < w {
+        if mem[a + (1 + 3 * c)] == mem[a + (4 + 3 * c)] {
+            return true;
+        }
+        c += 1;
+    }
+    false
+}
+
+// The first line with two replicas on one processor; the number of lines if there is none.
+fn doubled_line(mem: &[u64], rooms: usize) -> usize
+    requires { ⌜ PlanHeld rooms (now mem) ⌝ }
+    ensures { λ r. ⌜ ((r ≡ nth (now (mem .entry)) 0) × (doubledTasks (planIn rooms (now (mem .entry)) .lines) ≡ [])) ⊎ ((r < nth (now (mem .entry)) 0) × In (nth (now (mem .entry)) (rowAt rooms r)) (doubledTasks (planIn rooms (now (mem .entry)) .lines))) ⌝ }
+{
+    let rows = ROWS * rooms;
+    let v = mem[0] as usize;
+    let mut k = 0;
+    while k < v {
+        if doubles(mem, rows + k * 25) {
+            return k;
+        }
+        k += 1;
+    }
+    v
+}
+
+// The ticks of line k are the equations'.
+fn line_agrees(mem: &[u64], rooms: usize, delays: &[u16; 256], k: usize, clocks: Clocks) -> bool
+    requires { ⌜ PlanHeld rooms (now mem) × DelayTable (now delays) (now mem) × (k < nth (now mem) 0) × ShortTo rooms k (now mem) × ClocksAfter rooms k (now mem) clocks ⌝ }
+    ensures { λ r. ⌜ (r ≡ true → LineAgrees rooms k (now (mem .entry)) × ShortTo rooms (k + 1) (now (mem .entry))) × (LineAgrees rooms k (now (mem .entry)) → r ≡ true) ⌝ }
+{
+    let rows = ROWS * rooms;
+    let w = mem[3] as usize + 1;
+    let a = rows + k * 25;
+    let t = mem[a] as usize;
+    let f = times::finishes(mem, rooms, delays, t, clocks);
+    let mut c = 0;
+    while c < w {
+        let p = mem[a + (1 + 3 * c)] as usize;
+        if f.early[p] as u64 != mem[a + (2 + 3 * c)] {
+            return false;
+        }
+        if f.late[p] as u64 != mem[a + (3 + 3 * c)] {
+            return false;
+        }
+        c += 1;
+    }
+    true
+}
+
+// All ticks are the equations'.
+fn ticks_agree(mem: &[u64], rooms: usize) -> bool
+    requires { ⌜ PlanHeld rooms (now mem) × (doubledTasks (planIn rooms (now mem) .lines) ≡ []) ⌝ }
+    ensures { λ r. ⌜ r ≡ ticksAgree (jobIn (now (mem .entry))) (planIn rooms (now (mem .entry)) .lines) ⌝ }
+{
+    let rows = ROWS * rooms;
+    let v = mem[0] as usize;
+    let delays = times::delay_table(mem);
+    let mut clocks = Clocks::new();
+    let mut k = 0;
+    while k < v {
+        if line_agrees(mem, rooms, &delays, k, clocks) {
+            let next = clocks::advance_line(mem, rows + k * 25, clocks);
+            clocks = next;
+        } else {
+            return false;
+        }
+        k += 1;
+    }
+    true
+}
+
+// M* and M are the equations', if all ticks are.
+fn ends_agree(mem: &[u64], rooms: usize) -> bool
+    requires { ⌜ PlanHeld rooms (now mem) × LinkedOut rooms (now mem) × (doubledTasks (planIn rooms (now mem) .lines) ≡ []) × (ticksAgree (jobIn (now mem)) (planIn rooms (now mem) .lines) ≡ true) ⌝ }
+    ensures { λ r. ⌜ r ≡ endsAgree (jobIn (now (mem .entry))) (planIn rooms (now (mem .entry))) ⌝ }
+{
+    let best_at = BEST * rooms;
+    let worst_at = WORST * rooms;
+    let best = ends::end_of(mem, rooms, false);
+    if best != mem[best_at] {
+        return false;
+    }
+    let worst = ends::end_of(mem, rooms, true);
+    worst == mem[worst_at]
+}
+
+// The checker's answer to the plan in memory.
+pub fn judge(mem: &[u64], rooms: usize) -> Checked
+    requires { ⌜ PlanHeld rooms (now mem) × LinkedOut rooms (now mem) ⌝ }
+    ensures { λ r. ⌜ Judged (verdictFor document01 (jobIn (now (mem .entry))) (good (planIn rooms (now (mem .entry))))) r ⌝ }
+{
+    let rows = ROWS * rooms;
+    let k = doubled_line(mem, rooms);
+    if k < mem[0] as usize {
+        let t = mem[rows + k * 25] as u8;
+        return Checked::Doubled(t);
+    }
+    if ticks_agree(mem, rooms) {
+        if ends_agree(mem, rooms) {
+            return Checked::Accepted;
+        }
+        return Checked::Refused(14);
+    }
+    Checked::Refused(13)
+}

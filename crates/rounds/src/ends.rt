@@ -1,0 +1,83 @@
+// The end of a plan: over exit tasks, the largest of the least early finish, or of the largest late finish, of their replicas.
+ghost use mathlib.Core.Path.{_≡_};
+ghost use mathlib.Core.List.{[]};
+ghost use Prim.Native.Nat.{_+_, _≤_, _<_};
+ghost use lib.ListN.{length};
+ghost use Rattle.definitions.specs.Lists.{if_then_else_, nth, empty};
+ghost use Rattle.definitions.specs.Job.{outgoing};
+ghost use Rattle.definitions.specs.Times.{tick, times, ofTask, end};
+ghost use Rattle.jobs.specs.Held.{jobIn, LinkedOut, JobStands};
+ghost use Rattle.plans.specs.Lines.{timeIn, rowOutcomes, placedIn, Standing};
+ghost use Rattle.rounds.specs.Schedule.{choiceOf};
+use crate::times;
+use jobs::layout::LINE;
+use jobs::layout::NEVER;
+use jobs::layout::OUT_HEAD;
+use jobs::layout::ROWS;
+
+// The choice among no times.
+fn chosen_of_none(late: bool) -> u64
+    ensures { λ r. ⌜ timeIn r ≡ choiceOf late [] ⌝ }
+{
+    if late {
+        return 0;
+    }
+    NEVER
+}
+
+// Where a replica's late or early time stands after its line's task.
+fn time_place(late: bool) -> usize
+    ensures { λ r. ⌜ r ≡ (if late then 3 else 2) ⌝ }
+{
+    if late {
+        return 3;
+    }
+    2
+}
+
+// The least early, or the largest late, of the times in the line at `a`.
+fn chosen_in(mem: &[u64], late: bool, a: usize) -> u64
+    requires { ⌜ JobStands (now mem) × (a + 25 ≤ length (now mem)) ⌝ }
+    ensures { λ r. ⌜ timeIn r ≡ choiceOf late (times (rowOutcomes late a (nth (now (mem .entry)) 3 + 1) (now (mem .entry)))) ⌝ }
+{
+    let w = mem[3] as usize + 1;
+    let place = time_place(late);
+    let mut acc = chosen_of_none(late);
+    let mut c = 0;
+    while c < w {
+        acc = times::chosen_of(late, mem[a + (place + 3 * c)], acc);
+        c += 1;
+    }
+    acc
+}
+
+// The end of t, if no edge leaves it, else 0.
+fn exit_time(mem: &[u64], rooms: usize, late: bool, t: usize) -> u64
+    requires { ⌜ Standing rooms (nth (now mem) 0) (now mem) × LinkedOut rooms (now mem) × (t < nth (now mem) 0) ⌝ }
+    ensures { λ r. ⌜ timeIn r ≡ (if empty (outgoing (jobIn (now (mem .entry))) t) then choiceOf late (times (ofTask t (placedIn rooms late (nth (now (mem .entry)) 3 + 1) (nth (now (mem .entry)) 0) (now (mem .entry))))) else tick 0) ⌝ }
+{
+    let out_head = OUT_HEAD * rooms;
+    let rows = ROWS * rooms;
+    let line = LINE * rooms;
+    if mem[out_head + t] != 0 {
+        return 0;
+    }
+    let a = rows + (mem[line + t] as usize - 1) * 25;
+    chosen_in(mem, late, a)
+}
+
+// The end of all tasks, each of which is placed.
+pub fn end_of(mem: &[u64], rooms: usize, late: bool) -> u64
+    requires { ⌜ Standing rooms (nth (now mem) 0) (now mem) × LinkedOut rooms (now mem) ⌝ }
+    ensures { λ r. ⌜ timeIn r ≡ end (jobIn (now (mem .entry))) (choiceOf late) (placedIn rooms late (nth (now (mem .entry)) 3 + 1) (nth (now (mem .entry)) 0) (now (mem .entry))) ⌝ }
+{
+    let v = mem[0] as usize;
+    let mut acc = 0;
+    let mut t = 0;
+    while t < v {
+        let x = exit_time(mem, rooms, late, t);
+        acc = times::chosen_of(true, x, acc);
+        t += 1;
+    }
+    acc
+}

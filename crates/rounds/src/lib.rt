@@ -1,0 +1,84 @@
+// The planner, the checker and the replay, from texts to text, each in a working memory that is lent.
+ghost use lib.ListN.{length, drop};
+ghost use Rattle.jobs.specs.Answers.{Answered};
+ghost use Rattle.jobs.specs.Loading.{headOf, jobFrom};
+ghost use Rattle.plans.specs.Loading.{bothFrom};
+ghost use Rattle.rounds.specs.Tools.{planOf, verdictBoth, replayBoth};
+ghost use Rattle.rounds.specs.Verdicts.{Judged};
+use jobs::Answer;
+use jobs::Head;
+use text::Step;
+
+mod checker;
+mod clocks;
+mod ends;
+mod free;
+mod levels;
+mod plan_text;
+mod planner;
+mod priority;
+mod replaying;
+mod results;
+mod times;
+mod walk;
+
+// The checker's answer: the plan is accepted; or 12 with a task that has two replicas on one processor; or another number.
+pub enum Checked {
+    Accepted,
+    Doubled(u8),
+    Refused(u64),
+}
+
+// The plan for a job's text, whose head was read up to `at`, written into `out`, if it fits. `mem` is a working memory of so many
+// rooms.
+pub fn plan_in(
+    job: &[u8],
+    at: usize,
+    head: Head,
+    mem: &mut [u64],
+    rooms: usize,
+    out: &mut [u8],
+) -> Answer
+    ensures { λ r. do ⌜ Answered (planOf (jobFrom rooms (length (now (mem .entry))) (headOf head) (drop at (now (job .entry)))) (← ⟦out.len()⟧ .entry)) (now (out .entry)) (now (out .exit)) r ⌝ }
+{
+    match jobs::load_job(job, at, head, mem, rooms) {
+        Step::Next(_) => plan_text::put_plan(mem, rooms, out),
+        Step::Refused(x) => Answer::Refusal(x),
+    }
+}
+
+// The checker's answer to two texts, the head of the job's being read up to `at`.
+pub fn check_in(
+    job: &[u8],
+    at: usize,
+    head: Head,
+    plan: &[u8],
+    mem: &mut [u64],
+    rooms: usize,
+) -> Checked
+    ensures { λ r. ⌜ Judged (verdictBoth (bothFrom rooms (length (now (mem .entry))) (headOf head) (drop at (now (job .entry))) (now (plan .entry)))) r ⌝ }
+{
+    match plans::load_both(job, at, head, plan, mem, rooms) {
+        Step::Next(_) => checker::judge(&mem[..], rooms),
+        Step::Refused(x) => Checked::Refused(x),
+    }
+}
+
+// The replay of three texts, the head of the job's being read up to `at`, written into `out`, if it fits.
+pub fn replay_in(
+    job: &[u8],
+    at: usize,
+    head: Head,
+    plan: &[u8],
+    stops: &[u8],
+    mem: &mut [u64],
+    rooms: usize,
+    out: &mut [u8],
+) -> Answer
+    ensures { λ r. do ⌜ Answered (replayBoth (bothFrom rooms (length (now (mem .entry))) (headOf head) (drop at (now (job .entry))) (now (plan .entry))) (now (stops .entry)) (← ⟦out.len()⟧ .entry)) (now (out .entry)) (now (out .exit)) r ⌝ }
+{
+    match plans::load_both(job, at, head, plan, mem, rooms) {
+        Step::Next(_) => results::put_replay(stops, mem, rooms, out),
+        Step::Refused(x) => Answer::Refusal(x),
+    }
+}

@@ -1,0 +1,108 @@
+// The replay: what each replica does under stops. Its outcome takes the place of its early tick.
+ghost use mathlib.Core.Path.{_≡_};
+ghost use mathlib.Core.List.{[]};
+ghost use Prim.Native.Nat.{ℕ, suc, _<_};
+ghost use lib.ListN.{length};
+ghost use Rattle.definitions.specs.Lists.{nth};
+ghost use Rattle.definitions.specs.Times.{unlessStopped};
+ghost use Rattle.definitions.proofs.Facts.{Ordered};
+ghost use Rattle.jobs.specs.Held.{jobIn};
+ghost use Rattle.plans.specs.Lines.{timeIn, Small, Standing};
+ghost use Rattle.rounds.specs.Arrivals.{DelayTable};
+ghost use Rattle.plans.specs.Loading.{planIn};
+ghost use Rattle.rounds.specs.Replaying.{Running, FedBefore, LineRun, RisingIn, RoundRun, FirstIn};
+use crate::times;
+use jobs::layout::LINE;
+use jobs::layout::NEVER;
+use jobs::layout::ROWS;
+use ticks::clocks::Ready;
+
+// A finish that does not come by the stop never comes.
+fn unless_stopped(stop: u64, x: u64) -> u64
+    ensures { λ r. ⌜ (timeIn r ≡ unlessStopped (timeIn stop) (timeIn x)) × ((b : ℕ) → Small b x → Small b r) ⌝ }
+{
+    if x > stop {
+        return NEVER;
+    }
+    x
+}
+
+// Line k, replica by replica. The answer is the ready times after it.
+fn run_line(
+    mem: &mut [u64],
+    rooms: usize,
+    delays: &[u16; 256],
+    k: usize,
+    stops: &[u64],
+    ready: Ready,
+) -> Ready
+    requires { ⌜ DelayTable (now delays) (now mem) × Running rooms k 0 (ready .at) (now mem) × (k < nth (now mem) 0) × FedBefore rooms k (now mem) × (length (now stops) ≡ 16) ⌝ }
+    ensures { λ r. ⌜ Running rooms (suc k) 0 (r .at) (now (mem .exit)) × LineRun rooms k (now (stops .entry)) (now (mem .entry)) (now (mem .exit)) ⌝ }
+{
+    let rows = ROWS * rooms;
+    let w = mem[3] as usize + 1;
+    let a = rows + k * 25;
+    let t = mem[a] as usize;
+    let b = 4 + t * (mem[1] as usize + 1) + 1;
+    let data = times::first_data(&mem[..], rooms, delays, t);
+    let mut after = ready;
+    let mut c = 0;
+    while c < w {
+        let p = mem[a + (1 + 3 * c)] as usize;
+        let x = times::finish_of(after.at[p], data[p], mem[b + p]);
+        let y = unless_stopped(stops[p], x);
+        mem[a + (2 + 3 * c)] = y;
+        let next = after.advance(p, y);
+        after = next;
+        c += 1;
+    }
+    after
+}
+
+// All lines of the plan in memory.
+pub fn run_round(mem: &mut [u64], rooms: usize, stops: &[u64])
+    requires { ⌜ Standing rooms (nth (now mem) 0) (now mem) × Ordered (jobIn (now mem)) [] (planIn rooms (now mem) .lines) × (length (now stops) ≡ 16) ⌝ }
+    ensures { λ _. ⌜ RoundRun rooms (now (stops .entry)) (now (mem .entry)) (now (mem .exit)) ⌝ }
+{
+    let v = mem[0] as usize;
+    let delays = times::delay_table(&mem[..]);
+    let mut ready = Ready::new();
+    let mut k = 0;
+    while k < v {
+        let after = run_line(mem, rooms, &delays, k, stops, ready);
+        ready = after;
+        k += 1;
+    }
+}
+
+// A task's first finish and its processor.
+pub struct First {
+    pub time: u64,
+    pub processor: u64,
+}
+
+// The first finish of t, on the lowest processor that has it.
+pub fn first_finish(mem: &[u64], rooms: usize, t: usize) -> First
+    requires { ⌜ Standing rooms (nth (now mem) 0) (now mem) × RisingIn rooms (now mem) × (t < nth (now mem) 0) ⌝ }
+    ensures { λ r. ⌜ FirstIn rooms t (r .time) (r .processor) (now (mem .entry)) ⌝ }
+{
+    let rows = ROWS * rooms;
+    let line = LINE * rooms;
+    let w = mem[3] as usize + 1;
+    let a = rows + (mem[line + t] as usize - 1) * 25;
+    let mut time = NEVER;
+    let mut processor = 0;
+    let mut c = 0;
+    while c < w {
+        let x = mem[a + (2 + 3 * c)];
+        if x < time {
+            time = x;
+            processor = mem[a + (1 + 3 * c)];
+        }
+        c += 1;
+    }
+    First {
+        time: time,
+        processor: processor,
+    }
+}

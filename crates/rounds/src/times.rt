@@ -1,0 +1,184 @@
+// The equations: when data arrives, and when a replica finishes. A cell of all ones is never.
+ghost use mathlib.Core.Path.{_≡_};
+ghost use mathlib.Core.Logic.{_⊎_};
+ghost use mathlib.Core.Bool.{true, false};
+ghost use Prim.Native.Nat.{ℕ, _+_, _≤_, _<_};
+ghost use lib.ListN.{length};
+ghost use Rattle.definitions.specs.Lists.{if_then_else_, nth};
+ghost use Rattle.definitions.specs.Limits.{document01};
+ghost use Rattle.definitions.specs.Times.{later, sooner, after};
+ghost use Rattle.plans.specs.Lines.{timeIn, Small, RowHeld, Standing};
+ghost use Rattle.rounds.specs.Schedule.{arrivalIn, dataIn};
+ghost use Rattle.jobs.specs.Held.{JobStands};
+ghost use Rattle.rounds.specs.Arrivals.{shortIn, DelayTable, FirstShort, BothShort, FirstFed, BothFed, BothRaised, BothReady, ShortClocks, RunsOf, BothFinish};
+use crate::walk;
+use jobs::layout::IN_HEAD;
+use jobs::layout::NEVER;
+use ticks::clocks::Clocks;
+use ticks::lanes;
+use ticks::lanes::Both;
+use ticks::lanes::SHORT_NEVER;
+
+// The later of two times, or the sooner.
+pub fn chosen_of(late: bool, x: u64, y: u64) -> u64
+    ensures { λ r. ⌜ timeIn r ≡ (if late then later (timeIn x) (timeIn y) else sooner (timeIn x) (timeIn y)) ⌝ }
+    ensures one { λ r. ⌜ (r ≡ x) ⊎ (r ≡ y) ⌝ }
+{
+    if late {
+        if x > y {
+            return x;
+        }
+        return y;
+    }
+    if x < y {
+        return x;
+    }
+    y
+}
+
+// n ticks after a time.
+fn put_off(x: u64, n: u64) -> u64
+    requires { ⌜ Small 5000000000 x × (n ≤ document01 .runTime) ⌝ }
+    ensures { λ r. ⌜ (timeIn r ≡ after n (timeIn x)) × ((b : ℕ) → Small b x → Small (b + n) r) ⌝ }
+{
+    if x == NEVER {
+        return NEVER;
+    }
+    x + n
+}
+
+// The delays of the job in memory, as a table.
+pub fn delay_table(mem: &[u64]) -> [u16; 256]
+    requires { ⌜ JobStands (now mem) ⌝ }
+    ensures { λ r. ⌜ DelayTable r (now (mem .entry)) ⌝ }
+{
+    let v = mem[0] as usize;
+    let m = mem[1] as usize;
+    let n = 16 * m;
+    let mut delays = [0u16; 256];
+    let mut i = 0;
+    while i < n {
+        let p = i % 16;
+        if p < m {
+            delays[i] = mem[4 + (v + i / 16) * (m + 1) + (p + 1)] as u16;
+            i += 1;
+        } else {
+            i += 16 - p;
+        }
+    }
+    delays
+}
+
+// When the first data of a predecessor whose line is at `a` is on each processor.
+fn first_arrivals(mem: &[u64], delays: &[u16; 256], a: usize, volume: u16) -> [u32; 16]
+    requires { ⌜ JobStands (now mem) × DelayTable (now delays) (now mem) × RowHeld a (now mem) × (a + 25 ≤ length (now mem)) × (volume ≤ document01 .volume) × FirstShort a (now mem) ⌝ }
+    ensures { λ r. ⌜ (length r ≡ 16) × ((p : ℕ) → p < nth (now (mem .entry)) 1 → shortIn (nth r p) ≡ arrivalIn false volume p a (now (mem .entry))) ⌝ }
+{
+    let w = mem[3] as usize + 1;
+    let mut low = [SHORT_NEVER; 16];
+    let mut c = 0;
+    while c < w {
+        let x = mem[a + (2 + 3 * c)];
+        if x != NEVER {
+            let q = mem[a + (1 + 3 * c)] as usize;
+            lanes::offer_sooner(&mut low, delays, q, volume, x as u32);
+        }
+        c += 1;
+    }
+    low
+}
+
+// When all data of t is on each processor, by the first replicas.
+pub fn first_data(mem: &[u64], rooms: usize, delays: &[u16; 256], t: usize) -> [u64; 16]
+    requires { ⌜ ((k : ℕ) × Standing rooms k (now mem)) × DelayTable (now delays) (now mem) × (t < nth (now mem) 0) × FirstFed rooms t (now mem) ⌝ }
+    ensures { λ r. ⌜ (length r ≡ 16) × ((p : ℕ) → p < nth (now (mem .entry)) 1 → (timeIn (nth r p) ≡ dataIn rooms false t p (now (mem .entry))) × Small 5000000000 (nth r p)) ⌝ }
+{
+    let g = walk::edges_at(mem);
+    let mut high = [0u32; 16];
+    let mut k = mem[IN_HEAD * rooms + t] as usize;
+    while k > 0 {
+        let e = walk::entering(mem, rooms, g, k);
+        let low = first_arrivals(mem, delays, e.row, e.volume);
+        lanes::raise(&mut high, &low);
+        k = e.next;
+    }
+    lanes::widened(&high)
+}
+
+// The finish of what is ready, and has its data, at these times, and then runs for n ticks.
+pub fn finish_of(ready: u64, supplied: u64, n: u64) -> u64
+    requires { ⌜ Small 4294967295 ready × Small 5000000000 supplied × (n ≤ document01 .runTime) ⌝ }
+    ensures { λ r. ⌜ (timeIn r ≡ after n (later (timeIn ready) (timeIn supplied))) × Small 6000000000 r ⌝ }
+{
+    let start = chosen_of(true, ready, supplied);
+    put_off(start, n)
+}
+
+// For each processor the later of its tick and of the arrival of the data of a predecessor whose line is at `a`, by its first
+// replica and by its last.
+fn both_arrivals(
+    mem: &[u64],
+    delays: &[u16; 256],
+    a: usize,
+    volume: u16,
+    early: &mut [u32; 16],
+    late: &mut [u32; 16],
+)
+    requires { ⌜ JobStands (now mem) × DelayTable (now delays) (now mem) × RowHeld a (now mem) × (a + 25 ≤ length (now mem)) × (volume ≤ document01 .volume) × BothShort a (now mem) × (length (now early) ≡ 16) × (length (now late) ≡ 16) ⌝ }
+    ensures { λ _. ⌜ BothRaised volume a (now (mem .entry)) (now (early .entry)) (now (early .exit)) (now (late .entry)) (now (late .exit)) ⌝ }
+{
+    let w = mem[3] as usize + 1;
+    let mut low = [SHORT_NEVER; 16];
+    let mut c = 0;
+    while c < w {
+        let q = mem[a + (1 + 3 * c)] as usize;
+        let x = mem[a + (2 + 3 * c)] as u32;
+        let y = mem[a + (3 + 3 * c)] as u32;
+        lanes::offer_both(&mut low, late, delays, q, volume, x, y);
+        c += 1;
+    }
+    lanes::raise(early, &low);
+}
+
+// When all data of t is on each processor, by the first replicas and by the last.
+fn both_data(mem: &[u64], rooms: usize, delays: &[u16; 256], t: usize) -> Both
+    requires { ⌜ ((k : ℕ) × Standing rooms k (now mem)) × DelayTable (now delays) (now mem) × (t < nth (now mem) 0) × BothFed rooms t (now mem) ⌝ }
+    ensures { λ r. ⌜ BothReady rooms t (now (mem .entry)) (r .early) (r .late) ⌝ }
+{
+    let g = walk::edges_at(mem);
+    let mut early = [0u32; 16];
+    let mut late = [0u32; 16];
+    let mut k = mem[IN_HEAD * rooms + t] as usize;
+    while k > 0 {
+        let e = walk::entering(mem, rooms, g, k);
+        both_arrivals(mem, delays, e.row, e.volume, &mut early, &mut late);
+        k = e.next;
+    }
+    Both { early, late }
+}
+
+// The run times of t, one for each processor of the job.
+fn run_times(mem: &[u64], t: usize) -> [u32; 16]
+    requires { ⌜ JobStands (now mem) × (t < nth (now mem) 0) ⌝ }
+    ensures { λ r. ⌜ RunsOf t (now (mem .entry)) r ⌝ }
+{
+    let m = mem[1] as usize;
+    let a = 4 + t * (m + 1);
+    let mut runs = [0u32; 16];
+    let mut p = 0;
+    while p < m {
+        runs[p] = mem[a + (p + 1)] as u32;
+        p += 1;
+    }
+    runs
+}
+
+// The early and the late finish of t on each processor, if it is ready at the clocks' ticks.
+pub fn finishes(mem: &[u64], rooms: usize, delays: &[u16; 256], t: usize, clocks: Clocks) -> Both
+    requires { ⌜ ((k : ℕ) × Standing rooms k (now mem)) × DelayTable (now delays) (now mem) × (t < nth (now mem) 0) × BothFed rooms t (now mem) × ShortClocks clocks (now mem) ⌝ }
+    ensures { λ r. ⌜ BothFinish rooms t clocks (now (mem .entry)) (r .early) (r .late) ⌝ }
+{
+    let data = both_data(mem, rooms, delays, t);
+    let runs = run_times(mem, t);
+    lanes::finish(clocks, data, runs)
+}

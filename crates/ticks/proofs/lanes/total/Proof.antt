@@ -1,0 +1,58 @@
+-- The sum is that of the cells passed.
+use mathlib.Core.Path.{_≡_, refl, ap, _∙_}
+use mathlib.Core.List.{List}
+use Prim.Native.Nat.{ℕ, _≤_, _-_, _%_, _^_}
+use native.Mathlib.Omega.{arith}
+use borrow.Author.Needs.{needs}
+use lib.ListN.{length, take}
+use lib.Seq.{take-all}
+use Rattle.definitions.specs.Lists.{sum}
+use Rattle.ticks.proofs.LaneLaws.{total-more}
+use Rattle.ticks.proofs.lanes.total.Statement.{statement}
+use Rattle.ticks.proofs.lanes.total.Tie as tie
+
+abbrev Inv-loop : tie.InvT-loop
+Inv-loop cells x₀ q₀ x q = (q ≤ length cells) × (x ≡ sum (take q cells) % 2 ^ 64)
+
+abbrev μ-loop : tie.MeasureT-loop
+μ-loop cells x₀ q₀ x q = length cells - q
+
+loop-holds : tie.Need-loop-holds Inv-loop μ-loop
+unfolding sum
+loop-holds c = (omega arith, refl)
+
+mul-wrapping-add-u64 : tie.Need-mul-wrapping-add-u64 Inv-loop μ-loop
+mul-wrapping-add-u64 c = search needs
+
+shared-slice-read-wrapping-add-u64 : tie.Need-shared-slice-read-wrapping-add-u64 Inv-loop μ-loop
+shared-slice-read-wrapping-add-u64 c = search needs
+
+wrapping-add-u64-requires : tie.Need-wrapping-add-u64-requires Inv-loop μ-loop
+wrapping-add-u64-requires c κs = search needs
+
+add-q : tie.Need-add-q Inv-loop μ-loop
+add-q c = search needs
+
+loop-less : tie.Need-loop-less Inv-loop μ-loop
+loop-less c = search needs
+
+loop-again : tie.Need-loop-again Inv-loop μ-loop
+loop-again c = (omega arith, total-more (c .before .before .before .before .before .args .cells .now) (c .before .before .before .loop .q) (c .before .before .before .loop .x) (c .wrapping-add-u64 .result) (c .before .before .loop-test .taken) (c .before .before .before .loop .inv .1) (c .wrapping-add-u64 .ensures))
+
+returns : tie.Need-returns Inv-loop μ-loop
+returns c = c .before .loop .inv .1 ∙ ap (λ (l : List ℕ). sum l % 2 ^ 64) (take-all (c .before .loop .q) (c .before .before .before .args .cells .now) (omega arith))
+
+pub total-spec : {M : Type 1} → statement M
+total-spec =
+    tie.close
+    (tie.spec
+    Inv-loop
+    μ-loop
+    loop-holds
+    mul-wrapping-add-u64
+    shared-slice-read-wrapping-add-u64
+    wrapping-add-u64-requires
+    add-q
+    loop-less
+    loop-again
+    returns)

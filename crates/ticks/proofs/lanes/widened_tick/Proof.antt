@@ -1,0 +1,13 @@
+-- By cases on the test.
+use borrow.Author.Tests.{eq-eqb, ne-eqb}
+use Rattle.ticks.proofs.lanes.widened_tick.Statement.{statement}
+use Rattle.ticks.proofs.lanes.widened_tick.Tie as tie
+
+returns : tie.Need-returns
+returns c = rw (eq-eqb _ _ (c .if1 .taken))
+
+returns-2 : tie.Need-returns-2
+returns-2 c = rw (ne-eqb _ _ (c .if1 .left))
+
+pub widened-tick-spec : {M : Type 1} → statement M
+widened-tick-spec = tie.close (tie.spec returns returns-2)
