@@ -16,7 +16,7 @@ use Rattle.text.proofs.Writing.{written-fits, place-fits}
 use Rattle.jobs.specs.Answers.{Answered}
 use Rattle.jobs.specs.declared.Answer.the-variants.{Done, Refusal}
 use Rattle.mirguneth.proofs.Answers.{done-printed, refusal-printed}
-use Rattle.lines.proofs.WriteLaws.{numbers-most}
+use Rattle.printing.proofs.WriteLaws.{numbers-most}
 use Rattle.io.specs.Counts.{Counts}
 use Rattle.io.proofs.Counting.{counts}
 

@@ -25,7 +25,7 @@ pub fn write_refusal(out: &mut [u8], x: u64) -> usize
     ensures { λ r. ⌜ r ≡ placeAfter (now (out .entry)) 0 (lineText document01 (bytes "N,") (x ∷ [])) ⌝ }
     ensures holds { λ r. ⌜ now (out .exit) ≡ written (now (out .entry)) 0 (lineText document01 (bytes "N,") (x ∷ [])) ⌝ }
 {
-    lines::write_line(out, b"N,", &[x])
+    printing::write_line(out, b"N,", &[x])
 }
 
 // `N,12,` and the task, the same way.
@@ -33,5 +33,5 @@ pub fn write_doubled(out: &mut [u8], task: u64) -> usize
     ensures { λ r. ⌜ r ≡ placeAfter (now (out .entry)) 0 (lineText document01 (bytes "N,") (12 ∷ task ∷ [])) ⌝ }
     ensures holds { λ r. ⌜ now (out .exit) ≡ written (now (out .entry)) 0 (lineText document01 (bytes "N,") (12 ∷ task ∷ [])) ⌝ }
 {
-    lines::write_line(out, b"N,", &[12, task])
+    printing::write_line(out, b"N,", &[12, task])
 }

@@ -4,22 +4,27 @@ use mathlib.Core.List.{List, [], _∷_, _++_, map, append-assoc, append-nil}
 use Prim.Native.Nat.{ℕ, zero, suc, _+_, _-_, _*_, _<_, _≤_}
 use native.Mathlib.Omega.{arith}
 use native.Mathlib.Nat.{zero-mul, suc-mul, add-mul, mul-le-mul}
-use borrow.Author.Tests.{eqb-true, not-false}
+use borrow.Author.Tests.{eqb-true, not-false, lt-ltb}
 use borrow.Rule.Slice.PartMut.{midOf, putMid, take-put, mid-len, same-len-mid}
-use lib.ListN.{length, take, drop, length-append, length-map}
+use lib.ListN.{length, take, drop, length-append, length-map, length-take, length-drop}
 use lib.Seq.{take-add, take-take, length-take-le, getD-take}
 use Rattle.definitions.specs.Lists.{bytes, nth}
 use Rattle.definitions.specs.Limits.{document01}
 use Rattle.definitions.specs.Text.{found, line, lines}
-use Rattle.definitions.specs.Job.{runRule, delayRule, jobHeadOf}
+use Rattle.definitions.specs.Job.{runRule, delayRule, edgeLine, edgeRule, jobHeadOf}
 use Rattle.definitions.proofs.Lists.{passed}
 use Rattle.definitions.proofs.Reading.{Ruled, lines-found, line-found}
-use Rattle.jobs.specs.Memory.{edgeCell, edgeIn, numbered, jobCells, rows, ruleOf}
-use Rattle.jobs.specs.Stages.{jobOf, delaysAt, edgesAt, Headed, RunsIn, DelaysIn}
-use Rattle.jobs.specs.declared.rows.Kind.{Kind}
-use Rattle.jobs.specs.declared.rows.Kind.the-variants.{Runs, Delays}
-use Rattle.jobs.proofs.EdgeLaws.{cell-of-edge}
-use Rattle.jobs.proofs.RowLaws.{drop-lent}
+use Rattle.orders.specs.Edges.{edgeCell, edgeIn}
+use Rattle.lists.proofs.Over.{drop-lent}
+use Rattle.edges.specs.Edges.{edgesInto}
+use Rattle.edges.proofs.EdgeLaws.{cell-of-edge, edges-enough}
+use Rattle.rows.specs.Rows.{rows, ruleOf, rowsInto}
+use Rattle.rows.proofs.RowLaws.{rows-fit}
+use Rattle.rows.specs.declared.Kind.{Kind}
+use Rattle.rows.specs.declared.Kind.the-variants.{Runs, Delays}
+use Rattle.jobs.specs.Memory.{numbered, jobCells}
+use Rattle.heads.specs.Stages.{jobOf}
+use Rattle.jobs.specs.Stages.{delaysAt, edgesAt, Headed, RunsIn, DelaysIn}
 
 -- Edges ---------------------------------------------------------------------------------------------------------
 
@@ -51,9 +56,6 @@ turn : (kind : Kind) (seen : List (List ℕ)) (vs : List ℕ) → ruleOf kind se
 unfolding runRule delayRule
 turn Runs seen vs z = eqb-true _ _ (not-false _ (passed _ _ _ z .0))
 turn Delays seen vs z = eqb-true _ _ (not-false _ (passed _ _ _ z .0))
-
-pub runs-are-not : Runs ≡ Delays → ⊥
-runs-are-not e = let z : _≡_ {A = ℕ} 0 1 = cc in omega arith
 
 front : (n : ℕ) (vs : List ℕ) → 0 < length vs → nth vs 0 ≡ n → n ∷ drop 1 vs ≡ vs
 front n [] h e = absurd (omega arith)
@@ -109,6 +111,26 @@ delays-most d w = mul-le-mul {n₁ = nth d 1} {m₁ = 1 + nth d 1} {n₂ = 16} {
 
 pub rows-most : (d : List ℕ) → Headed d → (nth d 0 + nth d 1) * (1 + nth d 1) ≤ 4607
 rows-most d w = mul-le-mul {n₁ = nth d 0 + nth d 1} {m₁ = 1 + nth d 1} {n₂ = 271} {m₂ = 17} (omega arith) (omega arith)
+
+-- There is room for the C lines after the head, for the D lines after them, and for the E lines after those.
+module _ (d : List ℕ) (w : Headed d) (opening s : List ℕ) where
+  pub runs-read : rowsInto (length (midOf 4 (length d - 4) d)) Runs opening (1 + nth d 1) (nth d 0) s
+      ≡ lines (line document01 opening (1 + nth d 1)) (ruleOf Runs) (nth d 0) [] s
+  runs-read =
+      let r = runs-most d w in
+      rows-fit _ Runs opening (1 + nth d 1) (nth d 0) s (lt-ltb 0 (1 + nth d 1) (omega arith)) (simp (length-take, length-drop) (omega arith))
+
+  pub delays-read : rowsInto (length (midOf (delaysAt (jobHeadOf d)) (length d - delaysAt (jobHeadOf d)) d)) Delays opening (1 + nth d 1) (nth d 1) s
+      ≡ lines (line document01 opening (1 + nth d 1)) (ruleOf Delays) (nth d 1) [] s
+  delays-read =
+      let r = runs-most d w in
+      let t = delays-most d w in
+      rows-fit _ Delays opening (1 + nth d 1) (nth d 1) s (lt-ltb (nth d 1) (1 + nth d 1) (omega arith)) (simp (length-take, length-drop) (omega arith))
+
+pub edges-read : (d : List ℕ) → Headed d → (s : List ℕ)
+    → edgesInto (length (midOf (edgesAt (jobHeadOf d)) (length d - edgesAt (jobHeadOf d)) d)) (nth d 0) (nth d 2) s
+    ≡ lines (edgeLine document01) (edgeRule document01 (nth d 0)) (nth d 2) [] s
+edges-read d w s = edges-enough _ (nth d 0) (nth d 2) s (w .tasks-most) (simp (length-take, length-drop) (omega (arith, w .room)))
 
 head-cells : (d : List ℕ) → 4 ≤ length d → take 4 d ≡ nth d 0 ∷ nth d 1 ∷ nth d 2 ∷ nth d 3 ∷ []
 head-cells [] h = absurd (omega arith)

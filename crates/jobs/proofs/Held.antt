@@ -10,11 +10,11 @@ use lib.ListN.{length, length-map}
 use Rattle.definitions.specs.Lists.{if_then_else_, nth, below, In}
 use Rattle.definitions.specs.Job.{Edge, Job, runTime, delay}
 use Rattle.definitions.proofs.Lists.{below-in, length-count, map-in}
-use Rattle.jobs.specs.Memory.{edgeIn}
-use Rattle.jobs.specs.Layout.{memorySize, jobSize, outHeadAt, outNextAt, levelAt}
+use Rattle.orders.specs.Edges.{edgeIn}
+use Rattle.heads.specs.Layout.{memorySize, jobSize, outHeadAt, outNextAt, levelAt}
 use Rattle.jobs.specs.Held.{edgeAt, jobIn, chain, Chained, JobHeld, LinkedOut}
 use Rattle.lists.specs.Kept.{KeptOutside}
-use Rattle.jobs.proofs.RowLaws.{row-ends}
+use Rattle.rows.proofs.RowLaws.{row-ends}
 use Rattle.lists.proofs.Counting.{getD-below, below-same, zero-or-more}
 use Rattle.lists.proofs.Kept.{Same, same-part, same-before}
 

@@ -14,12 +14,13 @@ use Rattle.definitions.specs.Job.{Edge, Job, JobHead, jobHeadRule}
 use Rattle.definitions.proofs.Lists.{length-count}
 use Rattle.definitions.proofs.Facts.{JobFacts}
 use Rattle.text.specs.declared.Step.the-variants.{Next}
-use Rattle.jobs.specs.Memory.{edgeCell, edgeIn, numbered, jobCells}
+use Rattle.orders.specs.Edges.{edgeCell, edgeIn}
+use Rattle.jobs.specs.Memory.{numbered, jobCells}
 use Rattle.jobs.specs.Answers.{Loaded}
 use Rattle.jobs.specs.Held.{jobIn}
-use Rattle.jobs.specs.Stages.{fromRuns, closed}
-use Rattle.jobs.proofs.EdgeLaws.{edge-of-cell}
-use Rattle.jobs.proofs.RowLaws.{row-ends}
+use Rattle.heads.specs.Stages.{fromRuns, closed}
+use Rattle.edges.proofs.EdgeLaws.{edge-of-cell}
+use Rattle.rows.proofs.RowLaws.{row-ends}
 use Rattle.lists.proofs.Counting.{getD-below}
 use Rattle.jobs.proofs.AnswerLaws.{loaded-next}
 use Rattle.jobs.proofs.JobShape.{Wide, JobShape, closed-shape, closed-facts, numbered-count}

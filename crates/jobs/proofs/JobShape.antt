@@ -16,7 +16,7 @@ use Rattle.definitions.proofs.Lists.{in-map, passed}
 use Rattle.definitions.proofs.Facts.{JobFacts}
 use Rattle.definitions.proofs.Reading.{Ruled, ended-good, andThen-good, unless-good, lines-then, ruled-in, line-found, runs-found}
 use Rattle.jobs.specs.Memory.{numbered}
-use Rattle.jobs.specs.Stages.{jobOf, fromEdges, fromDelays, fromRuns, closed}
+use Rattle.heads.specs.Stages.{jobOf, fromEdges, fromDelays, fromRuns, closed}
 
 -- Rows of m numbers each.
 abbrev pub Wide : ℕ → List (List ℕ) → Type 0

@@ -1,14 +1,8 @@
 pub mod AnswerLaws
 pub mod CellLaws
-pub mod CircleLaws
-pub mod EdgeLaws
 pub mod Held
 pub mod JobIn
 pub mod JobShape
 pub mod LinkLaws
 pub mod Loads
-pub mod OrderLaws
-pub mod Rooms
-pub mod RowLaws
-pub mod SortLaws
 pub mod StageLaws

@@ -12,8 +12,8 @@ use lib.ListN.{length, set, length-set}
 use lib.Seq.{getD-set-same, getD-set-other}
 use Rattle.definitions.specs.Lists.{if_then_else_, nth, countFrom, below, keep}
 use Rattle.definitions.specs.Job.{Edge, Job, incoming, outgoing}
-use Rattle.jobs.specs.Memory.{edgeIn}
-use Rattle.jobs.specs.Layout.{memorySize, jobSize, inHeadAt, inNextAt, outHeadAt, outNextAt, levelAt}
+use Rattle.orders.specs.Edges.{edgeIn}
+use Rattle.heads.specs.Layout.{memorySize, jobSize, inHeadAt, inNextAt, outHeadAt, outNextAt, levelAt}
 use Rattle.jobs.specs.Held.{edgeAt, jobIn, chain, Chained, JobHeld, LinkedIn, LinkedOut}
 use Rattle.lists.specs.Kept.{KeptOutside}
 use Rattle.lists.proofs.Upward.{count-last, keep-last}

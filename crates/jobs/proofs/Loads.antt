@@ -12,17 +12,18 @@ use Rattle.definitions.specs.Text.{Result, good, bad}
 use Rattle.definitions.specs.Job.{Job, JobHead, jobHeadRule, readJob}
 use Rattle.lists.specs.Kept.{KeptOutside}
 use Rattle.text.specs.declared.Step.the-variants.{Next, Refused}
-use Rattle.jobs.specs.Layout.{memorySize, FitsIn, roomsFor, inHeadAt, levelAt}
+use Rattle.heads.specs.Layout.{memorySize, FitsIn, roomsFor, inHeadAt, levelAt}
 use Rattle.jobs.specs.Answers.{Loaded}
 use Rattle.jobs.specs.Held.{jobIn, JobHeld, LinkedIn, LinkedOut}
-use Rattle.jobs.specs.Stages.{fromRuns, fromHead, closed}
-use Rattle.jobs.specs.Loading.{headOf, HeadRead, roomy, jobFrom, JobLoaded}
-use Rattle.jobs.specs.declared.Head.{Head}
-use Rattle.jobs.specs.declared.Opening.the-variants.{Opened}
+use Rattle.heads.specs.Stages.{fromRuns, fromHead, closed}
+use Rattle.heads.specs.Heads.{headOf, HeadRead, roomy}
+use Rattle.jobs.specs.Loading.{jobFrom, JobLoaded}
+use Rattle.heads.specs.declared.Head.{Head}
+use Rattle.heads.specs.declared.Opening.the-variants.{Opened}
 use Rattle.jobs.proofs.Held.{tasks-in, processors-in, length-edges, job-kept, held-kept}
 use Rattle.jobs.proofs.JobShape.{closed-shape}
 use Rattle.jobs.proofs.JobIn.{loaded-in}
-use Rattle.jobs.proofs.Rooms.{rooms-fit, rooms-most, roomy-made}
+use Rattle.heads.proofs.Rooms.{rooms-fit, rooms-most, roomy-made}
 
 -- The rest of a job's text ----------------------------------------------------------------------------------------
 

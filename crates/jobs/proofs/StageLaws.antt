@@ -1,66 +1,27 @@
--- The stages of reading a job chain up to the whole: the head, the C lines, the D lines, the E lines, the end.
+-- The stages of reading a job follow one another: the head in a memory, the C lines, the D lines, the E lines, the end.
 use mathlib.Core.Path.{_≡_, refl, ap, _∙_, sym, subst}
 use mathlib.Core.List.{List, [], _∷_, map}
-use mathlib.Core.Bool.{Bool, true, false, not, _||_}
-use Prim.Native.Nat.{ℕ, suc, _+_, _*_, _-_, _<_, _≤_}
+use mathlib.Core.Bool.{Bool, true, false, not}
+use Prim.Native.Nat.{ℕ, _+_, _<_, _≤_}
 use native.Mathlib.Omega.{arith}
-use borrow.Author.Tests.{lt-ltb, le-ltb, ltb-true, ltb-false, not-false}
+use borrow.Author.Tests.{ltb-true, ltb-false, not-false}
 use lib.Dec.{ltb}
-use lib.ListN.{length, take, drop, set, replicate, drop-of-length-le}
-use lib.Seq.{drop-cons, getD-take, length-take-le}
+use lib.ListN.{length, take, drop, set, drop-of-length-le}
+use lib.Seq.{drop-cons, length-take-le}
 use Rattle.definitions.specs.Lists.{bytes, nth, below, empty}
 use Rattle.definitions.specs.Limits.{document01}
-use Rattle.definitions.specs.Text.{found, refused, next, due, firstOf, line, lines, bad}
-use Rattle.definitions.specs.Job.{Edge, JobHead, jobHeadOf, jobHead, jobHeadRule, outside, runRule, delayRule, edgeLine, edgeRule, remaining, circular, jobLines, readJob}
-use Rattle.definitions.proofs.Lists.{either-right, neither, not-outside, passed}
+use Rattle.definitions.specs.Text.{found, refused, firstOf, line, lines}
+use Rattle.definitions.specs.Job.{Edge, JobHead, jobHeadOf, jobHeadRule, outside, runRule, delayRule, edgeLine, edgeRule, remaining, circular}
+use Rattle.definitions.proofs.Lists.{neither, passed}
 use Rattle.definitions.proofs.Reading.{lines-found, ruled-in, job-head-parts}
 use Rattle.text.specs.declared.Step.{Step}
 use Rattle.text.specs.declared.Step.the-variants.{Next, Refused}
-use Rattle.jobs.specs.Layout.{cellsFor}
-use Rattle.jobs.specs.Memory.{jobCells, Pairs}
-use Rattle.jobs.specs.Order.{Within}
+use Rattle.heads.specs.Layout.{cellsFor}
+use Rattle.jobs.specs.Memory.{jobCells}
+use Rattle.orders.specs.Order.{Within}
 use Rattle.jobs.specs.Answers.{Loaded}
-use Rattle.jobs.specs.Stages.{jobOf, fromEdges, fromDelays, fromRuns, fromHead, closed, closing, Headed}
-use Rattle.jobs.proofs.EdgeLaws.{pairs-none}
-
--- The rule of the head ------------------------------------------------------------------------------------------
-
-pub too-low : (low high n : ℕ) → n < low → outside low high n ≡ true
-too-low low high n h = rw (lt-ltb n low h)
-
-pub too-high : (low high n : ℕ) → high < n → outside low high n ≡ true
-too-high low high n h = either-right (ltb n low) (lt-ltb high n h)
-
-module _ (v m e x : ℕ) where
-  pub head-tasks : outside 1 255 v ≡ true → 3 ≡ jobHeadRule document01 (record { tasks = v; processors = m; edges = e; losses = x })
-  unfolding jobHeadRule firstOf
-  head-tasks h = rw h
-
-  pub head-processors : outside 1 16 m ≡ true → 3 ≡ jobHeadRule document01 (record { tasks = v; processors = m; edges = e; losses = x })
-  unfolding jobHeadRule firstOf
-  head-processors h = let o : (outside 1 255 v || outside 1 16 m) ≡ true = either-right (outside 1 255 v) h in rw o
-
-  pub head-edges : outside 0 1024 e ≡ true → 3 ≡ jobHeadRule document01 (record { tasks = v; processors = m; edges = e; losses = x })
-  unfolding jobHeadRule firstOf
-  head-edges h = let o : (outside 1 255 v || outside 1 16 m || outside 0 1024 e) ≡ true = either-right (outside 1 255 v || outside 1 16 m) h in rw o
-
-  pub head-losses : outside 0 7 x ≡ true → 3 ≡ jobHeadRule document01 (record { tasks = v; processors = m; edges = e; losses = x })
-  unfolding jobHeadRule firstOf
-  head-losses h =
-      let o : (outside 1 255 v || outside 1 16 m || outside 0 1024 e || outside 0 7 x) ≡ true = either-right (outside 1 255 v || outside 1 16 m || outside 0 1024 e) h in
-      rw o
-
-  module _ (v1 : 1 ≤ v) (v2 : v ≤ 255) (m1 : 1 ≤ m) (m2 : m ≤ 16) (e2 : e ≤ 1024) (x2 : x ≤ 7) where
-    head-within : (outside 1 255 v || outside 1 16 m || outside 0 1024 e || outside 0 7 x) ≡ false
-    head-within = rw (not-outside 1 255 v v1 v2, not-outside 1 16 m m1 m2, not-outside 0 1024 e (omega arith) e2, not-outside 0 7 x (omega arith) x2)
-
-    pub head-few : m < x + 1 → 4 ≡ jobHeadRule document01 (record { tasks = v; processors = m; edges = e; losses = x })
-    unfolding jobHeadRule firstOf
-    head-few h = rw (head-within, lt-ltb m (x + 1) h)
-
-    pub head-good : x + 1 ≤ m → 0 ≡ jobHeadRule document01 (record { tasks = v; processors = m; edges = e; losses = x })
-    unfolding jobHeadRule firstOf
-    head-good h = rw (head-within, le-ltb m (x + 1) h)
+use Rattle.heads.specs.Stages.{jobOf, fromEdges, fromDelays, fromRuns, closed}
+use Rattle.jobs.specs.Stages.{closing, Headed}
 
 -- A head that was put to the front of a memory.
 pub put-in : (d : List ℕ) (v m e x : ℕ) → 4 ≤ length d
@@ -79,9 +40,6 @@ module _ (mem : List ℕ) (h : JobHead) (q : jobHeadOf mem ≡ h) where
       let k : nth mem 1 + 1 ≡ 1 + nth mem 1 = omega arith in
       let r = subst (λ (g : JobHead). cellsFor g ≤ length mem) (sym q) room in
       record { some-task = v1; tasks-most = v2; processors-most = m2; edges-most = e2; room = rw k at r }
-
-  pub no-pairs : (k : ℕ) → h .tasks * 32 ≤ k → Pairs (nth mem 0) [] (replicate k 0)
-  no-pairs k l = rw (ap (λ (g : JobHead). g .tasks) q) (pairs-none (h .tasks) k l)
 
 pub runs-as : (g h : JobHead) (s mem : List ℕ) (r : Step) → g ≡ h → Loaded (closed (fromRuns g s)) mem r → Loaded (closed (fromRuns h s)) mem r
 runs-as g h s mem r q l = rw q at l
@@ -163,35 +121,3 @@ module _ (h : JobHead) (s mem : List ℕ) where
       → Loaded (closed (fromRuns h s)) mem x
   unfolding fromRuns
   runs-then rs r e g q x l = rw e (rw q at l)
-
--- The whole -----------------------------------------------------------------------------------------------------
-
-module _ (s : List ℕ) where
-  pub job-long : 65536 < length s → readJob document01 s ≡ bad 1
-  unfolding readJob
-  job-long h = rw (lt-ltb _ _ h)
-
-  module _ (h : length s ≤ 65536) where
-    pub job-no : (n : ℕ) → line document01 (bytes "JOB,") 4 s ≡ refused n → readJob document01 s ≡ bad n
-    unfolding readJob jobLines jobHead
-    job-no n e = rw (le-ltb _ _ h, e)
-
-    -- The memory d begins with the numbers of the head, and x is the number of its refusal.
-    module _ (d r : List ℕ) (e : line document01 (bytes "JOB,") 4 s ≡ found (take 4 d) r) (x : ℕ) (f : x ≡ jobHeadRule document01 (jobHeadOf d)) where
-      same-head : jobHeadOf (take 4 d) ≡ jobHeadOf d
-      same-head = rw (getD-take 4 d 0 0 (omega arith), getD-take 4 d 1 0 (omega arith), getD-take 4 d 2 0 (omega arith), getD-take 4 d 3 0 (omega arith))
-
-      job-open : readJob document01 s ≡ closed (fromHead (jobHeadOf (take 4 d)) r)
-      unfolding readJob jobLines jobHead closed fromHead fromRuns fromDelays fromEdges
-      job-open = rw (le-ltb _ _ h, e)
-
-      job-headed : readJob document01 s ≡ closed (next (due x r) (λ _. fromRuns (jobHeadOf d)))
-      unfolding fromHead
-      job-headed = job-open ∙ ap (λ (h : JobHead). closed (fromHead h r)) same-head ∙ rw (← f)
-
-      pub job-refused : 0 < x → readJob document01 s ≡ bad x
-      unfolding closed
-      job-refused g = let o : x ≡ suc (x - 1) = omega arith in rw (job-headed, o)
-
-      pub job-next : x ≤ 0 → (jobHeadRule document01 (jobHeadOf d) ≡ 0) × (readJob document01 s ≡ closed (fromRuns (jobHeadOf d) r))
-      job-next g = let o : x ≡ 0 = omega arith in (sym f ∙ o, rw (job-headed, o))

@@ -8,8 +8,8 @@ use Rattle.definitions.specs.Lists.{if_then_else_, nth, below}
 use Rattle.definitions.specs.Limits.{document01}
 use Rattle.definitions.specs.Job.{Edge, Job, jobHeadOf, incoming, outgoing}
 use Rattle.definitions.proofs.Facts.{JobFacts}
-use Rattle.jobs.specs.Memory.{edgeIn}
-use Rattle.jobs.specs.Layout.{memorySize, FitsIn, inHeadAt, inNextAt, outHeadAt, outNextAt}
+use Rattle.orders.specs.Edges.{edgeIn}
+use Rattle.heads.specs.Layout.{memorySize, FitsIn, inHeadAt, inNextAt, outHeadAt, outNextAt}
 
 -- The cell of edge i.
 abbrev pub edgeAt : List ℕ → ℕ → ℕ

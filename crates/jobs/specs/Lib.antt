@@ -1,7 +1,5 @@
 pub mod Answers
 pub mod Held
-pub mod Layout
 pub mod Loading
 pub mod Memory
-pub mod Order
 pub mod Stages

@@ -1,59 +1,27 @@
 // A job's text, read into a memory.
 ghost use mathlib.Core.Path.{_≡_};
-ghost use mathlib.Core.List.{List, [], map};
+ghost use mathlib.Core.List.{List, map};
 ghost use mathlib.Core.Bool.{not};
 ghost use Prim.Native.Nat.{ℕ, _≤_};
 ghost use lib.Dec.{ltb};
 ghost use lib.ListN.{length, take, drop};
-ghost use Rattle.definitions.specs.Lists.{nth, below, empty};
+ghost use Rattle.definitions.specs.Lists.{below, empty};
 ghost use Rattle.definitions.specs.Limits.{document01};
 ghost use Rattle.definitions.specs.Job.{remaining, readJob, jobHeadOf, jobHeadRule};
 ghost use Rattle.lists.specs.Over.{over};
-ghost use Rattle.jobs.specs.Layout.{memorySize, jobSize, cellsFor, FitsIn, hasRoom};
-ghost use Rattle.jobs.specs.Memory.{edgeIn, Pairs};
-ghost use Rattle.jobs.specs.Order.{Within};
+ghost use Rattle.heads.specs.Heads.{headOf};
+ghost use Rattle.heads.specs.Layout.{memorySize, jobSize, cellsFor, FitsIn};
+ghost use Rattle.heads.specs.Stages.{fromRuns, fromDelays, fromEdges, closed};
+ghost use Rattle.orders.specs.Edges.{edgeIn};
+ghost use Rattle.orders.specs.Order.{Within};
 ghost use Rattle.jobs.specs.Answers.{Loaded};
-ghost use Rattle.jobs.specs.Stages.{Headed, fromRuns, fromDelays, fromEdges, closed, closing, RunsIn, DelaysIn};
-ghost use Rattle.jobs.specs.Loading.{headOf, roomy, JobLoaded};
-use crate::Head;
-use crate::Opening;
-use crate::circle;
-use crate::edges;
-use crate::layout::JOB;
-use crate::layout::ROOM;
+ghost use Rattle.jobs.specs.Stages.{Headed, closing, RunsIn, DelaysIn};
+ghost use Rattle.jobs.specs.Loading.{JobLoaded};
 use crate::links;
-use crate::read_head;
-use crate::rows;
-use crate::rows::Kind;
+use heads::Head;
+use heads::Opening;
+use rows::Kind;
 use text::Step;
-
-// The number of the refusal of a job's head, or 0.
-pub fn check_head(head: Head) -> u64
-    ensures { λ r. ⌜ r ≡ jobHeadRule document01 (headOf head) ⌝ }
-{
-    if head.tasks < 1 {
-        return 3;
-    }
-    if head.tasks > 255 {
-        return 3;
-    }
-    if head.processors < 1 {
-        return 3;
-    }
-    if head.processors > 16 {
-        return 3;
-    }
-    if head.edges > 1024 {
-        return 3;
-    }
-    if head.losses > 7 {
-        return 3;
-    }
-    if head.processors < head.losses + 1 {
-        return 4;
-    }
-    0
-}
 
 // The answer after the last edge line: a line left over (2), a circle (7), or the end of the job's cells.
 fn close(s: &[u8], at: usize, v: usize, edges: &[u64], end: usize) -> Step
@@ -63,22 +31,22 @@ fn close(s: &[u8], at: usize, v: usize, edges: &[u64], end: usize) -> Step
     if at < s.len() {
         return Step::Refused(2);
     }
-    if circle::has_circle(v, edges) {
+    if orders::has_circle(edges, v) {
         return Step::Refused(7);
     }
     Step::Next(end)
 }
 
 // The E lines and what follows them, after the C and D lines' cells in `mem`.
-fn load_edges(s: &[u8], at: usize, mem: &mut [u64], pairs: &mut [u8]) -> Step
-    requires { ⌜ Headed (now mem) × Pairs (nth (now mem) 0) [] (now pairs) ⌝ }
+fn load_edges(s: &[u8], at: usize, mem: &mut [u64]) -> Step
+    requires { ⌜ Headed (now mem) ⌝ }
     ensures { λ r. ⌜ ((runs delays : List (List ℕ)) → DelaysIn (now (mem .entry)) runs delays → Loaded (closed (fromEdges (jobHeadOf (now (mem .entry))) runs delays (drop at (now (s .entry))))) (now (mem .exit)) r) ⌝ }
 {
     let v = mem[0];
     let m = mem[1] as usize;
     let e = mem[2] as usize;
     let a = 4 + (v as usize + m) * (1 + m);
-    match edges::read_edges(s, at, v, e, &mut mem[a..], pairs) {
+    match edges::read_edges(s, at, v, e, &mut mem[a..]) {
         Step::Next(p) => {
             let end = a + e;
             close(s, p, v as usize, &mem[a..end], end)
@@ -88,8 +56,8 @@ fn load_edges(s: &[u8], at: usize, mem: &mut [u64], pairs: &mut [u8]) -> Step
 }
 
 // The D lines and what follows them, after the C lines' cells in `mem`.
-fn load_delays(s: &[u8], at: usize, mem: &mut [u64], pairs: &mut [u8]) -> Step
-    requires { ⌜ Headed (now mem) × Pairs (nth (now mem) 0) [] (now pairs) ⌝ }
+fn load_delays(s: &[u8], at: usize, mem: &mut [u64]) -> Step
+    requires { ⌜ Headed (now mem) ⌝ }
     ensures { λ r. ⌜ ((runs : List (List ℕ)) → RunsIn (now (mem .entry)) runs → Loaded (closed (fromDelays (jobHeadOf (now (mem .entry))) runs (drop at (now (s .entry))))) (now (mem .exit)) r) ⌝ }
 {
     let v = mem[0] as usize;
@@ -97,55 +65,22 @@ fn load_delays(s: &[u8], at: usize, mem: &mut [u64], pairs: &mut [u8]) -> Step
     let k = 1 + m;
     let a = 4 + v * k;
     match rows::read_rows(s, at, b"D,", Kind::Delays, m, k, &mut mem[a..]) {
-        Step::Next(p) => load_edges(s, p, mem, pairs),
+        Step::Next(p) => load_edges(s, p, mem),
         Step::Refused(n) => Step::Refused(n),
     }
 }
 
 // The C lines and what follows them, after the head in `mem`.
-fn load_runs(s: &[u8], at: usize, mem: &mut [u64], pairs: &mut [u8]) -> Step
-    requires { ⌜ Headed (now mem) × Pairs (nth (now mem) 0) [] (now pairs) ⌝ }
+fn load_runs(s: &[u8], at: usize, mem: &mut [u64]) -> Step
+    requires { ⌜ Headed (now mem) ⌝ }
     ensures { λ r. ⌜ Loaded (closed (fromRuns (jobHeadOf (now (mem .entry))) (drop at (now (s .entry))))) (now (mem .exit)) r ⌝ }
 {
     let v = mem[0] as usize;
     let k = 1 + mem[1] as usize;
     match rows::read_rows(s, at, b"C,", Kind::Runs, v, k, &mut mem[4..]) {
-        Step::Next(p) => load_delays(s, p, mem, pairs),
+        Step::Next(p) => load_delays(s, p, mem),
         Step::Refused(n) => Step::Refused(n),
     }
-}
-
-// A job with this head fits a memory of so many rooms.
-pub fn fits(head: Head, rooms: usize) -> bool
-    requires { ⌜ rooms ≤ 32 ⌝ }
-    ensures { λ r. ⌜ r ≡ hasRoom rooms (headOf head) ⌝ }
-{
-    let v = head.tasks as usize;
-    let m = head.processors as usize;
-    let e = head.edges as usize;
-    if v > 8 * rooms {
-        return false;
-    }
-    if e > 32 * rooms {
-        return false;
-    }
-    if m > 32 * JOB {
-        return false;
-    }
-    4 + (v + m) * (m + 1) + e + 2 <= JOB * rooms
-}
-
-// A memory of so many cells has so many rooms, and a job with this head fits it.
-pub fn roomy(head: Head, size: usize, rooms: usize) -> bool
-    ensures { λ r. ⌜ r ≡ roomy rooms size (headOf head) ⌝ }
-{
-    if rooms > 32 {
-        return false;
-    }
-    if size != ROOM * rooms {
-        return false;
-    }
-    fits(head, rooms)
 }
 
 // Puts the numbers of a head to the front of a memory.
@@ -166,12 +101,7 @@ fn load_rest(s: &[u8], at: usize, head: Head, mem: &mut [u64]) -> Step
     ensures { λ r. ⌜ Loaded (closed (fromRuns (headOf head) (drop at (now (s .entry))))) (now (mem .exit)) r ⌝ }
 {
     put_head(mem, head);
-    if head.tasks <= 16 {
-        let mut few = [0u8; 512];
-        return load_runs(s, at, mem, &mut few);
-    }
-    let mut pairs = [0u8; 8192];
-    load_runs(s, at, mem, &mut pairs)
+    load_runs(s, at, mem)
 }
 
 // The rest of a job's text, and the links between its edges, in a memory that the job fits.
@@ -193,7 +123,7 @@ pub fn load_text(s: &[u8], mem: &mut [u64]) -> Step
     requires { ⌜ jobSize 32 ≤ length (now mem) ⌝ }
     ensures { λ r. ⌜ Loaded (readJob document01 (now (s .entry))) (now (mem .exit)) r ⌝ }
 {
-    match read_head(s) {
+    match heads::read_head(s) {
         Opening::Opened(head, at) => load_rest(s, at, head, mem),
         Opening::Refused(x) => Step::Refused(x),
     }

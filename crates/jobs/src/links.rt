@@ -3,13 +3,13 @@ ghost use mathlib.Core.Path.{_≡_};
 ghost use Prim.Native.Nat.{ℕ, _+_, _*_, _<_};
 ghost use lib.ListN.{length, set};
 ghost use Rattle.definitions.specs.Lists.{nth};
-ghost use Rattle.jobs.specs.Layout.{memorySize, inHeadAt, outHeadAt, levelAt};
+ghost use Rattle.heads.specs.Layout.{memorySize, inHeadAt, outHeadAt, levelAt};
 ghost use Rattle.jobs.specs.Held.{edgeAt, JobHeld, JobStands, LinkedIn, LinkedOut};
 ghost use Rattle.lists.specs.Kept.{KeptOutside};
-use crate::layout::IN_HEAD;
-use crate::layout::IN_NEXT;
-use crate::layout::OUT_HEAD;
-use crate::layout::OUT_NEXT;
+use heads::layout::IN_HEAD;
+use heads::layout::IN_NEXT;
+use heads::layout::OUT_HEAD;
+use heads::layout::OUT_NEXT;
 
 // No task has an edge yet.
 fn clear_heads(mem: &mut [u64], rooms: usize)

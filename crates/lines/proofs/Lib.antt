@@ -1,4 +1,3 @@
 pub mod LineLaws
 pub mod ReaderLaws
 pub mod WalkLaws
-pub mod WriteLaws

@@ -4,18 +4,11 @@ ghost use mathlib.Core.List.{[], _∷_};
 ghost use Prim.Native.Nat.{_≤_, _-_};
 ghost use lib.ListN.{length, take, drop};
 ghost use Rattle.definitions.specs.Limits.{document01};
-ghost use Rattle.definitions.specs.Text.{exactly, numbers, line, mark};
+ghost use Rattle.definitions.specs.Text.{exactly, numbers, line};
 ghost use Rattle.text.specs.Told.{told, after};
 use crate::inner;
 use text::Num;
 use text::Step;
-
-// The byte after a field that `left` more fields follow.
-pub fn mark_after(left: usize) -> u8
-    ensures { λ r. ⌜ r ≡ mark left ⌝ }
-{
-    if left == 0 { 10 } else { 44 }
-}
 
 // The place after the byte b, if it stands at `at`.
 fn read_byte(s: &[u8], at: usize, b: u8) -> Step
@@ -47,7 +40,7 @@ fn read_numbers(s: &[u8], at: usize, k: usize, vals: &mut [u64]) -> Step
         };
         vals[i] = v;
         i += 1;
-        if s[next] != mark_after(k - i) {
+        if s[next] != text::mark_after(k - i) {
             return Step::Refused(2);
         }
         p = next + 1;
@@ -69,7 +62,7 @@ fn read_last(s: &[u8], at: usize, begun: usize, k: usize, vals: &mut [u64]) -> S
         };
         vals[i] = v;
         i += 1;
-        match read_byte(s, next, mark_after(k - i)) {
+        match read_byte(s, next, text::mark_after(k - i)) {
             Step::Next(after) => p = after,
             Step::Refused(n) => return Step::Refused(n),
         }

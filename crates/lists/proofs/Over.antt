@@ -38,6 +38,12 @@ lent d at s ys h e =
     let p : postOf at (length d - at) d ≡ [] = drop-of-length-le (drop at d) {i = length d - at} (simp length-drop (omega arith)) in
     rw (e, m) (simp (p, append-nil, zero-add, drop-drop))
 
+-- the rest of a slice was lent, `&mut d[a..]`, and holds ys since
+pub drop-lent : (a : ℕ) (d ys : List ℕ) → a ≤ length d → drop a (putMid a (length d - a) d ys) ≡ ys
+drop-lent a d ys h =
+    let p : postOf a (length d - a) d ≡ [] = drop-of-length-le (drop a d) {i = length d - a} (simp length-drop (omega arith)) in
+    drop-at (take a d) (ys ++ postOf a (length d - a) d) a (length-take-le a d h) ∙ rw (p, append-nil)
+
 -- the same once more: x is what stands in the slice after s was written, and the callee wrote t after it
 pub lent-more : (d x : List ℕ) (at : ℕ) (s t ys : List ℕ) (m : ℕ) → x ≡ over d at s → m ≡ at + length s → at + length s ≤ length d
     → ys ≡ over (midOf m (length x - m) x) 0 t → putMid m (length x - m) x ys ≡ over d at (s ++ t)

@@ -10,13 +10,14 @@ use Rattle.definitions.specs.Plan.{Plan, readPlan}
 use Rattle.definitions.specs.Stops.{Stop, readStops}
 use Rattle.definitions.specs.Replay.{replay, replayText}
 use Rattle.definitions.specs.Tools.{fitting, planAnswer, verdictFor, verdictOn, verdict, replayed, replayAnswer}
-use Rattle.jobs.specs.Layout.{memorySize, roomsFor}
+use Rattle.heads.specs.Layout.{memorySize, roomsFor}
 use Rattle.jobs.specs.Answers.{Answered}
-use Rattle.jobs.specs.Loading.{headOf, HeadRead, jobFrom}
+use Rattle.heads.specs.Heads.{headOf, HeadRead}
+use Rattle.jobs.specs.Loading.{jobFrom}
 use Rattle.jobs.specs.declared.Answer.{Answer}
 use Rattle.jobs.specs.declared.Answer.the-variants.{Refusal}
-use Rattle.jobs.specs.declared.Head.{Head}
-use Rattle.jobs.specs.declared.Opening.the-variants.{Opened}
+use Rattle.heads.specs.declared.Head.{Head}
+use Rattle.heads.specs.declared.Opening.the-variants.{Opened}
 use Rattle.jobs.proofs.Loads.{job-from}
 use Rattle.plans.specs.Loading.{withPlan, readBoth, bothFrom}
 use Rattle.rounds.specs.Tools.{planOf, verdictBoth, replayOf, replayBoth}

@@ -4,8 +4,8 @@ ghost use Rattle.definitions.specs.Limits.{document01};
 ghost use Rattle.definitions.specs.Tools.{planAnswer, verdict, replayAnswer};
 ghost use Rattle.jobs.specs.Answers.{Answered, jobAnswer};
 ghost use Rattle.rounds.specs.Verdicts.{Judged};
+use heads::Opening;
 pub use jobs::Answer;
-use jobs::Opening;
 pub use rounds::Checked;
 
 // Reads a job's text into the lent cells.
@@ -21,9 +21,9 @@ pub fn read_job(text: &[u8], cells: &mut [u64]) -> Answer
 pub fn plan(job: &[u8], out: &mut [u8]) -> Answer
     ensures { λ r. do ⌜ Answered (planAnswer document01 (now (job .entry)) (← ⟦out.len()⟧ .entry)) (now (out .entry)) (now (out .exit)) r ⌝ }
 {
-    match jobs::read_head(job) {
+    match heads::read_head(job) {
         Opening::Opened(head, at) => {
-            let rooms = jobs::rooms_for(head);
+            let rooms = heads::rooms_for(head);
             if rooms == 1 {
                 let mut mem = [0u64; 505];
                 return rounds::plan_in(job, at, head, &mut mem, 1, out);
@@ -49,9 +49,9 @@ pub fn check(job: &[u8], plan: &[u8]) -> Checked
     ensures { λ r. ⌜ Judged (verdict document01 (now (job .entry)) (now (plan .entry))) r ⌝ }
     ensures { λ r. ⌜ Breaks (now (job .entry)) (now (plan .entry)) ⌝ }
 {
-    match jobs::read_head(job) {
+    match heads::read_head(job) {
         Opening::Opened(head, at) => {
-            let rooms = jobs::rooms_for(head);
+            let rooms = heads::rooms_for(head);
             if rooms == 1 {
                 let mut mem = [0u64; 505];
                 let small = rounds::check_in(job, at, head, plan, &mut mem, 1);
@@ -81,9 +81,9 @@ pub fn replay(job: &[u8], plan: &[u8], stops: &[u8], out: &mut [u8]) -> Answer
     ensures { λ r. do ⌜ Answered (replayAnswer document01 (now (job .entry)) (now (plan .entry)) (now (stops .entry)) (← ⟦out.len()⟧ .entry)) (now (out .entry)) (now (out .exit)) r ⌝ }
     ensures { λ r. ⌜ Bears (now (job .entry)) (now (plan .entry)) (now (stops .entry)) ⌝ }
 {
-    match jobs::read_head(job) {
+    match heads::read_head(job) {
         Opening::Opened(head, at) => {
-            let rooms = jobs::rooms_for(head);
+            let rooms = heads::rooms_for(head);
             if rooms == 1 {
                 let mut mem = [0u64; 505];
                 return rounds::replay_in(job, at, head, plan, stops, &mut mem, 1, out);

@@ -12,7 +12,7 @@ use Rattle.definitions.proofs.Facts.{PlanFacts}
 use Rattle.definitions.proofs.Reading.{andThen-good, plan-facts}
 use Rattle.text.specs.declared.Step.{Step}
 use Rattle.text.specs.declared.Step.the-variants.{Next, Refused}
-use Rattle.jobs.specs.Layout.{levelAt, lineAt, farAt}
+use Rattle.heads.specs.Layout.{levelAt, lineAt, farAt}
 use Rattle.jobs.specs.Held.{jobIn, LinkedIn, LinkedOut, JobHeld}
 use Rattle.jobs.specs.Loading.{JobLoaded}
 use Rattle.lists.specs.Kept.{KeptOutside}

@@ -3,4 +3,3 @@ pub mod Lines
 pub mod PlanLaws
 pub mod PlanReading
 pub mod PlanText
-pub mod StopLaws

@@ -14,7 +14,7 @@ use Rattle.definitions.specs.Text.{firstOf}
 use Rattle.definitions.specs.Job.{incoming, outside}
 use Rattle.definitions.specs.Plan.{Replica, Line, processorsOf, descends, PlanHead, planHeadRule, strays, planLineRule}
 use Rattle.definitions.proofs.Lists.{neither, inside, not-outside, either-right, in-append, append-left, append-right, in-has, has-not, in-keep}
-use Rattle.jobs.specs.Layout.{inHeadAt, inNextAt, lineAt, rowAt}
+use Rattle.heads.specs.Layout.{inHeadAt, inNextAt, lineAt, rowAt}
 use Rattle.jobs.specs.Held.{edgeAt, jobIn, chain, LinkedIn}
 use Rattle.plans.specs.Lines.{rowReplicas, linesIn, RowHeld, Standing}
 use Rattle.plans.specs.Loading.{lineIn}

@@ -14,7 +14,7 @@ use Rattle.definitions.specs.Limits.{document01}
 use Rattle.definitions.specs.Text.{Reading, Reader, found, refused, line, lines}
 use Rattle.definitions.specs.Job.{Job}
 use Rattle.definitions.specs.Plan.{Replica, Line, triples, lineOf, planLine, planLineRule}
-use Rattle.jobs.specs.Layout.{jobSize, inHeadAt, inNextAt, levelAt, lineAt, blockedAt, rowAt, farAt}
+use Rattle.heads.specs.Layout.{jobSize, inHeadAt, inNextAt, levelAt, lineAt, blockedAt, rowAt, farAt}
 use Rattle.jobs.specs.Held.{jobIn, LinkedIn, JobHeld}
 use Rattle.plans.specs.Lines.{rowReplicas, linesIn, RowHeld, Standing}
 use Rattle.lists.specs.Kept.{KeptOutside}

@@ -11,7 +11,7 @@ use Rattle.definitions.specs.Limits.{document01}
 use Rattle.definitions.specs.Text.{found, refused, next, return, line, lines, ended}
 use Rattle.definitions.specs.Plan.{Line, planHeadOf, planHead, planHeadRule, planLines, readPlan}
 use Rattle.text.specs.declared.Step.the-variants.{Next, Refused}
-use Rattle.jobs.specs.Layout.{levelAt, lineAt, blockedAt, rowAt, bestAt, worstAt}
+use Rattle.heads.specs.Layout.{levelAt, lineAt, blockedAt, rowAt, bestAt, worstAt}
 use Rattle.jobs.specs.Held.{jobIn, LinkedIn, JobHeld}
 use Rattle.plans.specs.Lines.{linesIn, Standing}
 use Rattle.lists.specs.Kept.{KeptOutside}

@@ -4,21 +4,13 @@ use mathlib.Core.Logic.{_⊎_}
 use mathlib.Core.List.{List, [], _∷_, _++_}
 use mathlib.Core.Bool.{Bool}
 use Prim.Native.Nat.{ℕ, zero, suc, _+_, _*_, _-_, _<_, _≤_}
-use lib.Dec.{eqb}
 use Rattle.definitions.specs.Lists.{if_then_else_, nth}
 use Rattle.definitions.specs.Limits.{document01}
 use Rattle.definitions.specs.Plan.{Replica, Line}
-use Rattle.definitions.specs.Times.{Time, tick, never, Outcome}
-use Rattle.jobs.specs.Layout.{lineAt, rowAt}
+use Rattle.definitions.specs.Times.{Outcome}
+use Rattle.ticks.specs.Cells.{timeIn, Small}
+use Rattle.heads.specs.Layout.{lineAt, rowAt}
 use Rattle.jobs.specs.Held.{JobHeld, LinkedIn}
-
--- Never in a cell: the greatest 64-bit number.
-abbrev pub neverCell : ℕ
-neverCell = 18_446_744_073_709_551_615
-
--- The time that a cell holds.
-abbrev pub timeIn : ℕ → Time
-timeIn x = if eqb x neverCell then never else tick x
 
 -- The first c replicas of the line at a, newest first, with their early or their late times.
 unfoldable pub rowOutcomes : Bool → ℕ → ℕ → List ℕ → List Outcome
@@ -47,10 +39,6 @@ linesIn rooms w (suc k) mem = linesIn rooms w k mem ++ record { task = nth mem (
 -- The line of a task that is placed.
 abbrev pub rowOf : ℕ → ℕ → List ℕ → ℕ
 rowOf rooms t mem = rowAt rooms (nth mem (lineAt rooms + t) - 1)
-
--- A cell holds never, or a tick that does not pass b.
-abbrev pub Small : ℕ → ℕ → Type 0
-Small b x = (x ≡ neverCell) ⊎ (x ≤ b)
 
 -- The line at a has processors of the job and ticks of a plan's range.
 pub record RowHeld (a : ℕ) (mem : List ℕ) : Type 0 where

@@ -1,24 +1,21 @@
--- What the memory holds after a plan, a job with a plan for it, and a stop list were read.
+-- What the memory holds after a plan, and a job with a plan for it, were read.
 use mathlib.Core.Path.{_≡_}
 use mathlib.Core.List.{List, [], _∷_, _++_}
-use Prim.Native.Nat.{ℕ, suc, _+_, _<_}
-use lib.Dec.{ltb}
-use lib.ListN.{length, drop}
-use Rattle.definitions.specs.Lists.{if_then_else_, nth}
+use Prim.Native.Nat.{ℕ, suc, _+_}
+use lib.ListN.{drop}
+use Rattle.definitions.specs.Lists.{nth}
 use Rattle.definitions.specs.Limits.{document01}
 use Rattle.definitions.specs.Text.{next, return, lines, Result, good, bad, andThen, ended}
 use Rattle.definitions.specs.Job.{Job, JobHead, readJob}
 use Rattle.definitions.specs.Plan.{Line, Plan, planLine, planLineRule, readPlan}
-use Rattle.definitions.specs.Stops.{Stop, readStops}
-use Rattle.definitions.specs.Times.{stopTime}
 use Rattle.text.specs.declared.Step.{Step}
 use Rattle.text.specs.declared.Step.the-variants.{Next}
 use Rattle.text.specs.Told.{told, stepTold, ruled}
 use Rattle.lists.specs.Kept.{KeptOutside}
-use Rattle.jobs.specs.Layout.{bestAt, worstAt, lineAt, farAt}
+use Rattle.heads.specs.Layout.{bestAt, worstAt, lineAt, farAt}
 use Rattle.jobs.specs.Held.{jobIn, LinkedOut}
 use Rattle.jobs.specs.Loading.{jobFrom}
-use Rattle.plans.specs.Lines.{rowReplicas, linesIn, timeIn, Small, Standing}
+use Rattle.plans.specs.Lines.{rowReplicas, linesIn, Standing}
 use Rattle.definitions.proofs.Facts.{PlanFacts}
 
 -- The line at a, with the job's number of replicas.
@@ -64,15 +61,6 @@ bothFrom rooms size h s plan = withPlan (jobFrom rooms size h s) plan
 abbrev pub BothLoaded : ℕ → Result (Job × Plan) → List ℕ → Step → Type 0
 BothLoaded rooms (good (j, p)) mem r = ((n : ℕ) × (stepTold r ≡ good n)) × (jobIn mem ≡ j) × (planIn rooms mem ≡ p) × Standing rooms (nth mem 0) mem × LinkedOut rooms mem
 BothLoaded rooms (bad n) mem r = stepTold r ≡ bad n
-
--- A stop list's text for a job, if there are so many cells: 8 if they are fewer than the processors.
-unfoldable pub stopsFrom : ℕ → Job → List ℕ → Result (List Stop)
-stopsFrom size j s = if ltb size (j .processors) then bad 8 else readStops document01 j s
-
--- The stop tick of each processor is in its cell, never in all others; or the refusal.
-abbrev pub StopsLoaded : Result (List Stop) → List ℕ → Step → Type 0
-StopsLoaded (good ss) cells r = ((n : ℕ) × (stepTold r ≡ good n)) × ((p : ℕ) → p < length cells → (timeIn (nth cells p) ≡ stopTime ss p) × Small (document01 .tick) (nth cells p))
-StopsLoaded (bad n) cells r = stepTold r ≡ bad n
 
 -- A plan that was read stands in a memory with its job, a line for each task.
 pub record PlanHeld (rooms : ℕ) (mem : List ℕ) : Type 0 where

@@ -13,17 +13,17 @@ ghost use Rattle.definitions.specs.Plan.{processorsOf, planHeadOf, planHeadRule
 ghost use Rattle.definitions.specs.Plan as Plan;
 ghost use Rattle.text.specs.Told.{told};
 ghost use Rattle.text.specs.declared.Step.the-variants.{Next};
-ghost use Rattle.jobs.specs.Layout.{memorySize, lineAt, blockedAt, farAt};
+ghost use Rattle.heads.specs.Layout.{memorySize, lineAt, blockedAt, farAt};
 ghost use Rattle.jobs.specs.Held.{edgeAt, jobIn, JobHeld, JobStands, LinkedIn};
 ghost use Rattle.plans.specs.Lines.{linesIn, RowHeld, Standing};
 ghost use Rattle.lists.specs.Kept.{KeptOutside};
 ghost use Rattle.plans.specs.Loading.{lineIn, LineRead, planFrom, PlanLoaded};
-use jobs::layout::BEST;
-use jobs::layout::IN_HEAD;
-use jobs::layout::IN_NEXT;
-use jobs::layout::LINE;
-use jobs::layout::ROWS;
-use jobs::layout::WORST;
+use heads::layout::BEST;
+use heads::layout::IN_HEAD;
+use heads::layout::IN_NEXT;
+use heads::layout::LINE;
+use heads::layout::ROWS;
+use heads::layout::WORST;
 use text::Step;
 
 const LAST_TICK: u64 = 4294967295;

@@ -18,9 +18,10 @@ use Rattle.definitions.proofs.Lists.{both, both-true, in-append, map-same}
 use Rattle.definitions.proofs.Tasks.{copyOf}
 use Rattle.definitions.proofs.Bounds.{Bounded, PlacedWithin, least-within, largest-within, finish-most}
 use Rattle.definitions.proofs.Guarantee.{same-times, times-same}
-use Rattle.jobs.specs.Layout.{lineAt, rowAt}
+use Rattle.heads.specs.Layout.{lineAt, rowAt}
 use Rattle.jobs.specs.Held.{jobIn, JobHeld}
-use Rattle.plans.specs.Lines.{timeIn, rowOutcomes, placedIn, rowReplicas, linesIn, Standing}
+use Rattle.ticks.specs.Cells.{timeIn}
+use Rattle.plans.specs.Lines.{rowOutcomes, placedIn, rowReplicas, linesIn, Standing}
 use Rattle.rounds.specs.Schedule.{choiceOf, dataIn, lineTicks, ShortTo}
 use Rattle.rounds.specs.Arrivals.{DelayTable, BothFed, ShortClocks, BothFinish}
 use Rattle.rounds.specs.Planning.{finishOn}

@@ -8,10 +8,11 @@ use lib.ListN.{length, replicate, length-replicate, getD-replicate}
 use Rattle.definitions.specs.Lists.{nth}
 use Rattle.definitions.specs.Job.{Edge, runTime, delay}
 use Rattle.definitions.specs.Times.{Time, tick, later, after, least, largest}
-use Rattle.jobs.specs.Memory.{edgeIn}
-use Rattle.jobs.specs.Layout.{inHeadAt, inNextAt}
+use Rattle.orders.specs.Edges.{edgeIn}
+use Rattle.heads.specs.Layout.{inHeadAt, inNextAt}
 use Rattle.jobs.specs.Held.{edgeAt, jobIn}
-use Rattle.plans.specs.Lines.{timeIn, rowOutcomes, rowOf, RowHeld, Standing}
+use Rattle.ticks.specs.Cells.{timeIn}
+use Rattle.plans.specs.Lines.{rowOutcomes, rowOf, RowHeld, Standing}
 use Rattle.rounds.specs.Schedule.{dataIn}
 use Rattle.ticks.specs.Lanes.{lanes, finishes, shortNever}
 use Rattle.ticks.specs.declared.clocks.Clocks.{Clocks}

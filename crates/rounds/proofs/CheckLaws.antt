@@ -3,11 +3,13 @@ use mathlib.Core.Path.{_≡_, refl, ap, _∙_, sym}
 use mathlib.Core.Logic.{_⊎_, inl, inr, ⊎-elim}
 use mathlib.Core.List.{List, [], _∷_, _++_, map, map-append, append-assoc}
 use mathlib.Core.Bool.{Bool, true, false, not}
-use Prim.Native.Nat.{ℕ, zero, suc, _+_, _*_, _<_, _≤_}
+use Prim.Native.Nat.{ℕ, zero, suc, _+_, _*_, _-_, _/_, _<_, _≤_}
 use native.Mathlib.Omega.{arith}
 use native.Mathlib.Numerals.{add-one}
-use borrow.Author.Tests.{ltb-false, not-false}
-use lib.Dec.{ltb}
+use borrow.Author.Tests.{le-leb, ltb-false, not-false}
+use lib.Dec.{ltb, leb}
+use lib.ListN.{length, take, drop, length-take, length-drop}
+use lib.Seq.{getD-take, getD-drop}
 use Rattle.definitions.specs.Lists.{if_then_else_, nth, In, keep, distinct}
 use Rattle.definitions.specs.Job.{Job}
 use Rattle.definitions.specs.Plan.{Line, processorsOf, descends}
@@ -15,13 +17,19 @@ use Rattle.definitions.specs.Refusals.{doubledTasks}
 use Rattle.definitions.proofs.Lists.{neither, neither-false, append-left, append-right, in-append, apart-head, head-apart, map-in, keep-in}
 use Rattle.definitions.proofs.Facts.{Ordered, LineFacts}
 use Rattle.definitions.proofs.Tasks.{lineTasks}
-use Rattle.jobs.specs.Layout.{rowAt}
+use Rattle.heads.specs.Layout.{rowAt}
 use Rattle.jobs.specs.Held.{jobIn}
 use Rattle.plans.specs.Lines.{rowReplicas, linesIn}
 use Rattle.plans.specs.Loading.{lineIn, planIn}
 use Rattle.plans.specs.Loading.{PlanHeld}
 use Rattle.lists.proofs.Counting.{last-or-before}
 use Rattle.plans.proofs.PlanLaws.{in-tasks-row}
+use Rattle.jobs.proofs.Held.{sizes}
+use Rattle.replicas.specs.Cells.{twins, twice, cellsOf, firstTwice, doubledIn}
+use Rattle.replicas.specs.declared.Doubling.{Doubling}
+use Rattle.replicas.specs.declared.Doubling.the-variants.{Single, Twice}
+use Rattle.replicas.proofs.TwiceLaws.{twins-place, twins-before, twins-apart, first-all, first-some}
+use Rattle.rounds.specs.Checking.{DoubledBy}
 
 -- Numbers that do not descend, and numbers that differ --------------------------------------------------------------
 
@@ -88,11 +96,11 @@ module _ (a : ℕ) (mem : List ℕ) where
       (last-or-before (suc w) c (omega arith))
 
   -- The first c + 1 processors differ, and the last of them is the greatest.
-  pub record Rising (c : ℕ) : Type 0 where
-    pub apart : distinct (rowProcessors a (suc c) mem) ≡ true
-    pub most : (p : ℕ) → In p (rowProcessors a (suc c) mem) → p ≤ on c
+  record Rising (c : ℕ) : Type 0 where
+    apart : distinct (rowProcessors a (suc c) mem) ≡ true
+    most : (p : ℕ) → In p (rowProcessors a (suc c) mem) → p ≤ on c
 
-  pub rising-first : Rising 0
+  rising-first : Rising 0
   unfolding rowProcessors rowReplicas distinct
   rising-first = record { apart = distinct-last [] (on 0) refl (λ i. i); most = λ p. ⊎-elim (λ e. omega arith) absurd }
 
@@ -101,7 +109,7 @@ module _ (a : ℕ) (mem : List ℕ) where
   on-next c = let e : 4 + 3 * c ≡ 1 + 3 * suc c = omega arith in rw e
 
   module _ (c : ℕ) (l : c + 1 < nth mem 3 + 1) where
-    pub rising-next : descends (processorsOf (lineIn a mem)) ≡ false → (on c ≡ nth mem (a + (4 + 3 * c)) → ⊥) → Rising c → Rising (c + 1)
+    rising-next : descends (processorsOf (lineIn a mem)) ≡ false → (on c ≡ nth mem (a + (4 + 3 * c)) → ⊥) → Rising c → Rising (c + 1)
     unfolding rowProcessors
     rising-next h n r =
         let up = ascends (nth mem 3 + 1) c h (omega arith) in
@@ -115,7 +123,7 @@ module _ (a : ℕ) (mem : List ℕ) where
         rw (add-one c) f
 
     -- Two equal neighbours.
-    pub rising-twice : on c ≡ nth mem (a + (4 + 3 * c)) → true ≡ not (distinct (processorsOf (lineIn a mem)))
+    rising-twice : on c ≡ nth mem (a + (4 + 3 * c)) → true ≡ not (distinct (processorsOf (lineIn a mem)))
     unfolding rowProcessors
     rising-twice e = by (distinct (rowProcessors a (nth mem 3 + 1) mem)) refl
       where
@@ -126,12 +134,32 @@ module _ (a : ℕ) (mem : List ℕ) where
             let (_, n) = distinct-front (rowProcessors a (suc c) mem) (on (suc c)) (rw (processors-more (suc c)) at (apart-before (nth mem 3 + 1) (suc (suc c)) (omega arith) d)) in
             absurd (n (rw (processors-more c) (append-right (on (suc c)) ps (on c ∷ []) (inl (e ∙ on-next c)))))
 
-  pub rising-done : (c : ℕ) → c < nth mem 3 + 1 → nth mem 3 + 1 ≤ c + 1 → Rising c → false ≡ not (distinct (processorsOf (lineIn a mem)))
+  rising-done : (c : ℕ) → c < nth mem 3 + 1 → nth mem 3 + 1 ≤ c + 1 → Rising c → false ≡ not (distinct (processorsOf (lineIn a mem)))
   unfolding rowProcessors
   rising-done c h l r =
       let e : nth mem 3 + 1 ≡ suc c = omega arith in
       let d : distinct (rowProcessors a (nth mem 3 + 1) mem) ≡ true = rw e (r .apart) in
       rw d
+
+  -- The cells of the line's replicas.
+  module _ (cells : List ℕ) (on-of : (c : ℕ) → c < nth mem 3 + 1 → nth cells (3 * c) ≡ on c) (up : descends (processorsOf (lineIn a mem)) ≡ false) where
+    next-of : (c : ℕ) → c + 1 < nth mem 3 + 1 → nth cells (3 * c + 3) ≡ nth mem (a + (4 + 3 * c))
+    next-of c l = let e : 3 * c + 3 ≡ 3 * suc c = omega arith in ap (nth cells) e ∙ on-of (suc c) (omega arith) ∙ sym (on-next c)
+
+    rising-to : (c : ℕ) → c < nth mem 3 + 1 → twins c cells ≡ false → Rising c
+    rising-to zero l t = rising-first
+    rising-to (suc c) l t =
+        let r = rising-to c (omega arith) (twins-before cells c (suc c) (omega arith) t) in
+        rw (← add-one c) (rising-next c (omega arith) up (λ e. twins-apart cells c t (on-of c (omega arith) ∙ e ∙ sym (next-of c (omega arith)))) r)
+
+    line-twice : (n : ℕ) → n ≡ nth mem 3 → twins n cells ≡ not (distinct (processorsOf (lineIn a mem)))
+    line-twice n q = by (twins n cells) refl
+      where
+        by : (b : Bool) → twins n cells ≡ b → b ≡ not (distinct (processorsOf (lineIn a mem)))
+        by true e =
+            let (c, l, f) = twins-place cells n e in
+            rising-twice c (omega arith) (sym (on-of c (omega arith)) ∙ f ∙ next-of c (omega arith))
+        by false e = rising-done n (omega arith) (omega arith) (rising-to n (omega arith) e)
 
 -- Line by line ------------------------------------------------------------------------------------------------------
 
@@ -170,19 +198,19 @@ doubled-in n ns i d = map-in (λ n. n .task) n (keep (λ n. not (distinct (proce
 
 module _ (mem : List ℕ) (k : ℕ) where
   -- The first k lines, none of which has a processor twice; and line k.
-  pub doubled-none : (rooms : ℕ) → doubledTasks (linesIn rooms (nth mem 3 + 1) 0 mem) ≡ []
+  doubled-none : (rooms : ℕ) → doubledTasks (linesIn rooms (nth mem 3 + 1) 0 mem) ≡ []
   unfolding doubledTasks keep linesIn
   doubled-none rooms = refl
 
-  pub doubled-next : (rooms : ℕ) → false ≡ not (distinct (processorsOf (lineIn (rowAt rooms k) mem))) → doubledTasks (linesIn rooms (nth mem 3 + 1) k mem) ≡ [] → doubledTasks (linesIn rooms (nth mem 3 + 1) (k + 1) mem) ≡ []
+  doubled-next : (rooms : ℕ) → false ≡ not (distinct (processorsOf (lineIn (rowAt rooms k) mem))) → doubledTasks (linesIn rooms (nth mem 3 + 1) k mem) ≡ [] → doubledTasks (linesIn rooms (nth mem 3 + 1) (k + 1) mem) ≡ []
   unfolding linesIn
   doubled-next rooms d e = rw (add-one k) (doubled-more (linesIn rooms (nth mem 3 + 1) k mem) (lineIn (rowAt rooms k) mem) (not-false (distinct (processorsOf (lineIn (rowAt rooms k) mem))) (sym d)) ∙ e)
 
-  pub doubled-here : (rooms : ℕ) → k < nth mem 0 → true ≡ not (distinct (processorsOf (lineIn (rowAt rooms k) mem))) → In (nth mem (rowAt rooms k)) (doubledTasks (planIn rooms mem .lines))
+  doubled-here : (rooms : ℕ) → k < nth mem 0 → true ≡ not (distinct (processorsOf (lineIn (rowAt rooms k) mem))) → In (nth mem (rowAt rooms k)) (doubledTasks (planIn rooms mem .lines))
   unfolding planIn
   doubled-here rooms l d = doubled-in (lineIn (rowAt rooms k) mem) (linesIn rooms (nth mem 3 + 1) (nth mem 0) mem) (line-among rooms k (nth mem 0) mem l) d
 
-  pub doubled-done : (rooms : ℕ) → nth mem 0 ≤ k → k ≤ nth mem 0 → doubledTasks (linesIn rooms (nth mem 3 + 1) k mem) ≡ [] → doubledTasks (planIn rooms mem .lines) ≡ []
+  doubled-done : (rooms : ℕ) → nth mem 0 ≤ k → k ≤ nth mem 0 → doubledTasks (linesIn rooms (nth mem 3 + 1) k mem) ≡ [] → doubledTasks (planIn rooms mem .lines) ≡ []
   unfolding planIn
   doubled-done rooms l h e = let q : k ≡ nth mem 0 = omega arith in rw q at e
 
@@ -207,3 +235,58 @@ module _ {rooms : ℕ} {mem : List ℕ} (h : PlanHeld rooms mem) (k : ℕ) (l : 
 
   pub line-ascends : descends (processorsOf (lineIn (rowAt rooms k) mem)) ≡ false
   line-ascends = let (us, f, m) = line-facts in f .ascends
+
+-- The line that is found --------------------------------------------------------------------------------------------
+
+module _ {rooms : ℕ} {mem : List ℕ} (h : PlanHeld rooms mem) where
+  -- The lines as they are looked at.
+  abbrev lines : List ℕ
+  lines = take (289 * rooms + nth mem 0 * 25 - 289 * rooms) (drop (289 * rooms) mem)
+
+  lines-length : length lines ≡ nth mem 0 * 25
+  lines-length =
+      let s = sizes (h .standing .job) in
+      omega (arith, length-take (289 * rooms + nth mem 0 * 25 - 289 * rooms) (drop (289 * rooms) mem), length-drop (289 * rooms) mem, s .size, s .tasks-most .1)
+
+  lines-nth : (i : ℕ) → i < nth mem 0 * 25 → nth lines i ≡ nth mem (289 * rooms + i)
+  lines-nth i l = getD-take (289 * rooms + nth mem 0 * 25 - 289 * rooms) (drop (289 * rooms) mem) i 0 (omega arith) ∙ getD-drop (289 * rooms) mem i 0
+
+  abbrev cells : ℕ → List ℕ
+  cells k = cellsOf (nth mem 3 + 1) k lines
+
+  module _ (k : ℕ) (l : k < nth mem 0) where
+    cells-count : length (cells k) / 3 - 1 ≡ nth mem 3
+    cells-count =
+        let s = sizes (h .standing .job) in
+        omega (arith, length-take (3 * (nth mem 3 + 1)) (drop (k * 25 + 1) lines), length-drop (k * 25 + 1) lines, lines-length, s .losses-most)
+
+    cells-on : (c : ℕ) → c < nth mem 3 + 1 → nth (cells k) (3 * c) ≡ nth mem (rowAt rooms k + (1 + 3 * c))
+    cells-on c g =
+        let s = sizes (h .standing .job) in
+        let e : 289 * rooms + (k * 25 + 1 + 3 * c) ≡ rowAt rooms k + (1 + 3 * c) = omega arith in
+        getD-take (3 * (nth mem 3 + 1)) (drop (k * 25 + 1) lines) (3 * c) 0 (omega arith) ∙ getD-drop (k * 25 + 1) lines (3 * c) 0
+        ∙ lines-nth (k * 25 + 1 + 3 * c) (omega (arith, s .losses-most)) ∙ ap (nth mem) e
+
+    twice-here : twice (cells k) ≡ not (distinct (processorsOf (lineIn (rowAt rooms k) mem)))
+    twice-here = line-twice (rowAt rooms k) mem (cells k) cells-on (line-ascends h k l) (length (cells k) / 3 - 1) cells-count
+
+    task-here : nth lines (k * 25) ≡ nth mem (rowAt rooms k)
+    task-here = lines-nth (k * 25) (omega arith)
+
+  none-to : ((k : ℕ) → k < nth mem 0 → twice (cells k) ≡ false) → (k : ℕ) → k ≤ nth mem 0 → doubledTasks (linesIn rooms (nth mem 3 + 1) k mem) ≡ []
+  none-to f zero l = doubled-none mem 0 rooms
+  none-to f (suc k) l = rw (← add-one k) (doubled-next mem k rooms (sym (f k (omega arith)) ∙ twice-here k (omega arith)) (none-to f k (omega arith)))
+
+  pub doubled-said : (r : Doubling) → doubledIn r ≡ (if leb (nth mem 3 + 1) 8 then firstTwice (nth mem 3 + 1) (length lines / 25) lines else []) → DoubledBy (doubledTasks (planIn rooms mem .lines)) (doubledIn r)
+  doubled-said r e = by r (rw (le-leb (nth mem 3 + 1) 8 (omega (arith, sizes (h .standing .job) .losses-most)), n) at e)
+    where
+      n : length lines / 25 ≡ nth mem 0
+      n = omega (arith, lines-length)
+
+      by : (r : Doubling) → doubledIn r ≡ firstTwice (nth mem 3 + 1) (nth mem 0) lines → DoubledBy (doubledTasks (planIn rooms mem .lines)) (doubledIn r)
+      by Single e = doubled-done mem (nth mem 0) rooms (omega arith) (omega arith) (none-to (first-all (nth mem 3 + 1) lines (nth mem 0) (sym e)) (nth mem 0) (omega arith))
+      by (Twice t) e =
+          let (k, l, f, q) = first-some (nth mem 3 + 1) lines t (nth mem 0) (sym e) in
+          let s = sizes (h .standing .job) in
+          let g : nth mem (rowAt rooms k) ≡ t = sym (task-here k l) ∙ q in
+          rw (← g) (doubled-here mem k rooms l (sym f ∙ twice-here k l), omega (arith, h .standing .task-of k l, s .tasks-most .0))

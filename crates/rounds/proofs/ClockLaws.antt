@@ -12,7 +12,7 @@ use lib.Seq.{getD-set-same, getD-set-other}
 use Rattle.definitions.specs.Lists.{if_then_else_, nth}
 use Rattle.definitions.specs.Job.{Job}
 use Rattle.definitions.specs.Times.{tick, Outcome, ready}
-use Rattle.jobs.specs.Layout.{rowAt}
+use Rattle.heads.specs.Layout.{rowAt}
 use Rattle.jobs.specs.Held.{jobIn}
 use Rattle.plans.specs.Lines.{rowOutcomes, placedIn, Standing}
 use Rattle.rounds.specs.Schedule.{ShortTo}

@@ -20,9 +20,10 @@ use Rattle.definitions.specs.Planner.{tickOf, Waiting, freeTasks, ranked, scale
 use Rattle.definitions.proofs.Lists.{both, in-map, in-keep, map-same, map-keep, in-append, append-left, append-right, in-below, all-in}
 use Rattle.definitions.proofs.Tasks.{copyOf, in-incoming}
 use Rattle.definitions.proofs.Placing.{placed-count}
-use Rattle.jobs.specs.Layout.{memorySize, jobSize, levelAt, lineAt, blockedAt, priorityAt, rowAt, farAt}
+use Rattle.heads.specs.Layout.{memorySize, jobSize, levelAt, lineAt, blockedAt, priorityAt, rowAt, farAt}
 use Rattle.jobs.specs.Held.{jobIn}
-use Rattle.plans.specs.Lines.{neverCell, timeIn, rowOutcomes, placedIn, rowReplicas, linesIn, rowOf, Standing}
+use Rattle.ticks.specs.Cells.{neverCell, timeIn}
+use Rattle.plans.specs.Lines.{rowOutcomes, placedIn, rowReplicas, linesIn, rowOf, Standing}
 use Rattle.rounds.specs.Schedule.{choiceOf, dataIn, topIn, FedIn, lineTicks, ShortTo}
 use Rattle.lists.specs.Kept.{KeptOutside}
 use Rattle.rounds.specs.Arrivals.{lastShort, BothFed, ShortClocks}

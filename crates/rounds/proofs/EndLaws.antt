@@ -6,14 +6,16 @@ use Prim.Native.Nat.{ℕ, suc, _+_, _*_, _-_, _<_, _≤_}
 use native.Mathlib.Omega.{arith}
 use native.Mathlib.Nat.{sub-zero}
 use native.Mathlib.Numerals.{add-one}
-use lib.ListN.{length-map}
+use lib.ListN.{length, length-map}
 use Rattle.definitions.specs.Lists.{if_then_else_, nth, countFrom, below, keep, empty, In}
 use Rattle.definitions.specs.Job.{outgoing}
 use Rattle.definitions.specs.Times.{Time, tick, later, sooner, least, largest, ofTask, times, exits, end}
 use Rattle.definitions.proofs.Lists.{distinct-map, full, in-map, in-below, distinct-count, length-count}
-use Rattle.jobs.specs.Layout.{outHeadAt, outNextAt, lineAt, rowAt}
+use Rattle.jobs.proofs.Held.{sizes}
+use Rattle.heads.specs.Layout.{outHeadAt, outNextAt, lineAt, rowAt}
 use Rattle.jobs.specs.Held.{jobIn, LinkedOut}
-use Rattle.plans.specs.Lines.{timeIn, rowOutcomes, placedIn, rowOf, RowHeld, Standing}
+use Rattle.ticks.specs.Cells.{timeIn}
+use Rattle.plans.specs.Lines.{rowOutcomes, placedIn, rowOf, RowHeld, Standing}
 use Rattle.rounds.specs.Schedule.{choiceOf}
 use Rattle.jobs.proofs.Held.{chain-step, chain-end}
 use Rattle.rounds.proofs.Placed.{placed-rowOf, line-in}
@@ -86,6 +88,14 @@ module _ {rooms : ℕ} {mem : List ℕ} (s : Standing rooms (nth mem 0) mem) whe
       let l = all-placed t h in
       let (b, _) = line-in s t (nth mem (lineAt rooms + t) - 1) h (omega arith) in
       (s .row (nth mem (lineAt rooms + t) - 1) b, omega arith)
+
+  -- Where the cells of its line are.
+  pub cells-of-task : (t : ℕ) → t < nth mem 0 → (0 < nth mem (lineAt rooms + t)) × (rowOf rooms t mem + 25 ≤ length mem) × (nth mem 3 ≤ 7)
+  cells-of-task t h =
+      let l = all-placed t h in
+      let m = row-of-task t h .1 in
+      let z = sizes (s .job) in
+      (l, omega (arith, z .size, z .tasks-most .1), z .losses-most)
 
 -- The end of t, if no edge leaves it, else 0.
 abbrev pub exitTime : ℕ → Bool → List ℕ → ℕ → Time

@@ -5,7 +5,7 @@ use Prim.Native.Nat.{ℕ, _+_, _*_, _<_}
 use native.Mathlib.Omega.{arith}
 use Rattle.definitions.specs.Lists.{nth, below, greatest}
 use Rattle.definitions.specs.Planner.{largestDelay}
-use Rattle.jobs.specs.Layout.{memorySize, farAt}
+use Rattle.heads.specs.Layout.{memorySize, farAt}
 use Rattle.jobs.specs.Held.{jobIn, JobHeld}
 use Rattle.lists.specs.Kept.{KeptOutside}
 use Rattle.jobs.proofs.Held.{job-kept}

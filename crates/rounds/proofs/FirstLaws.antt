@@ -3,18 +3,21 @@ use mathlib.Core.Path.{_≡_, refl, ap, _∙_, sym}
 use mathlib.Core.Logic.{_⊎_, inl, inr, ⊎-elim}
 use mathlib.Core.List.{List, [], _∷_, map}
 use mathlib.Core.Bool.{Bool, true, false, false≢true}
-use Prim.Native.Nat.{ℕ, suc, _+_, _*_, _-_, _<_, _≤_, min}
+use Prim.Native.Nat.{ℕ, zero, suc, _+_, _*_, _-_, _<_, _≤_, min}
 use native.Mathlib.Omega.{arith}
 use native.Mathlib.Numerals.{add-one}
-use borrow.Author.Tests.{eqb-true}
-use lib.Dec.{eqb}
+use borrow.Author.Tests.{eqb-true, ltb-true, ltb-false}
+use lib.Dec.{eqb, ltb}
 use Rattle.definitions.specs.Lists.{if_then_else_, nth, In, keep}
 use Rattle.definitions.specs.Times.{Time, tick, never, sooner, same, least, Outcome, ofTask, times}
 use Rattle.definitions.specs.Replay.{firstFinish, lowest, firstBox}
 use Rattle.definitions.proofs.Lists.{in-map, map-in, in-keep, keep-in}
 use Rattle.definitions.proofs.Guarantee.{time-same}
-use Rattle.jobs.specs.Layout.{lineAt, rowAt}
-use Rattle.plans.specs.Lines.{neverCell, timeIn, rowOutcomes, rowOf, Standing}
+use Rattle.heads.specs.Layout.{lineAt, rowAt}
+use Rattle.ticks.specs.Cells.{neverCell, timeIn}
+use Rattle.plans.specs.Lines.{rowOutcomes, rowOf, Standing}
+use Rattle.replicas.specs.Cells.{leastEarly, leastOn}
+use Rattle.replicas.proofs.TwiceLaws.{least-none, least-sooner, least-stays}
 use Rattle.rounds.specs.Replaying.{outcomesIn, RisingIn, FirstIn}
 use Rattle.lists.proofs.Counting.{equal-or-not}
 use Rattle.rounds.proofs.TimeLaws.{time-tick, sooner-left, sooner-right}
@@ -101,7 +104,7 @@ pub record FirstOf (ds : List Outcome) (x p : ℕ) : Type 0 where
   pub found : (x ≡ neverCell → ⊥) → (d : Outcome) × In d ds × (d .time ≡ timeIn x) × (d .processor ≡ p)
   pub lowest-of : (x ≡ neverCell → ⊥) → (d : Outcome) → In d ds → d .time ≡ timeIn x → p ≤ d .processor
 
-pub first-none : (p : ℕ) → FirstOf [] neverCell p
+first-none : (p : ℕ) → FirstOf [] neverCell p
 unfolding least
 first-none p = record { finish = refl; found = λ n. absurd (n refl); lowest-of = λ n d i. absurd i }
 
@@ -110,7 +113,7 @@ module _ (ds : List Outcome) (x p : ℕ) (f : FirstOf ds x p) (h : x ≤ neverCe
   next = record { task = t; processor = q; time = timeIn y }
 
   -- One more outcome, on a processor that is not lower, is sooner, or it is not.
-  pub first-sooner : y < x → FirstOf (next ∷ ds) y q
+  first-sooner : y < x → FirstOf (next ∷ ds) y q
   unfolding least
   first-sooner l =
       record {
@@ -129,7 +132,7 @@ module _ (ds : List Outcome) (x p : ℕ) (f : FirstOf ds x p) (h : x ≤ neverCe
       cell-itself true = tt
       cell-itself false = omega arith
 
-  pub first-stays : x ≤ y → y ≤ neverCell → ((d : Outcome) → In d ds → d .processor ≤ q) → FirstOf (next ∷ ds) x p
+  first-stays : x ≤ y → y ≤ neverCell → ((d : Outcome) → In d ds → d .processor ≤ q) → FirstOf (next ∷ ds) x p
   unfolding least
   first-stays l m up =
       record {
@@ -157,27 +160,27 @@ module _ (rooms : ℕ) (mem : List ℕ) (r : RisingIn rooms mem) (i : ℕ) (h : 
       m
 
 -- x is the first finish, on p, of the first c replicas of a task's line.
-abbrev pub Seen : ℕ → List ℕ → ℕ → ℕ → ℕ → ℕ → Type 0
+abbrev Seen : ℕ → List ℕ → ℕ → ℕ → ℕ → ℕ → Type 0
 Seen rooms mem t c x p = FirstOf (rowOutcomes false (rowOf rooms t mem) c mem) x p
 
-pub seen-none : (rooms : ℕ) (mem : List ℕ) (t p : ℕ) → Seen rooms mem t 0 neverCell p
+seen-none : (rooms : ℕ) (mem : List ℕ) (t p : ℕ) → Seen rooms mem t 0 neverCell p
 unfolding rowOutcomes
 seen-none rooms mem t p = first-none p
 
 module _ {rooms : ℕ} {mem : List ℕ} (s : Standing rooms (nth mem 0) mem) (r : RisingIn rooms mem) (t : ℕ) (h : t < nth mem 0) where
   module _ (c x p : ℕ) (f : Seen rooms mem t c x p) (g : c < nth mem 3 + 1) (m : x ≤ neverCell) where
-    pub seen-sooner : nth mem (rowOf rooms t mem + (2 + 3 * c)) < x → Seen rooms mem t (c + 1) (nth mem (rowOf rooms t mem + (2 + 3 * c))) (nth mem (rowOf rooms t mem + (1 + 3 * c)))
+    seen-sooner : nth mem (rowOf rooms t mem + (2 + 3 * c)) < x → Seen rooms mem t (c + 1) (nth mem (rowOf rooms t mem + (2 + 3 * c))) (nth mem (rowOf rooms t mem + (1 + 3 * c)))
     unfolding rowOutcomes
     seen-sooner l = rw (add-one c) (first-sooner _ x p f m _ _ _ l)
 
-    pub seen-stays : x ≤ nth mem (rowOf rooms t mem + (2 + 3 * c)) → nth mem (rowOf rooms t mem + (2 + 3 * c)) ≤ neverCell → Seen rooms mem t (c + 1) x p
+    seen-stays : x ≤ nth mem (rowOf rooms t mem + (2 + 3 * c)) → nth mem (rowOf rooms t mem + (2 + 3 * c)) ≤ neverCell → Seen rooms mem t (c + 1) x p
     unfolding rowOutcomes
     seen-stays l n =
         rw (add-one c)
         (first-stays (rowOutcomes false (rowOf rooms t mem) c mem) x p f m _ _ _ l n
         (rising-row rooms mem r (nth mem (lineAt rooms + t) - 1) (omega (arith, all-placed s t h, row-of-task s t h .1)) c g))
 
-  pub seen-all : (c x p : ℕ) → c ≡ nth mem 3 + 1 → Seen rooms mem t c x p → FirstIn rooms t x p mem
+  seen-all : (c x p : ℕ) → c ≡ nth mem 3 + 1 → Seen rooms mem t c x p → FirstIn rooms t x p mem
   unfolding firstFinish firstBox
   seen-all c x p e f₀ =
       let own : ofTask t (outcomesIn rooms mem) ≡ rowOutcomes false (rowOf rooms t mem) (nth mem 3 + 1) mem = placed-rowOf s false (nth mem 3 + 1) (nth mem 0) (omega arith) t h (all-placed s t h) (row-of-task s t h .1) in
@@ -194,3 +197,28 @@ module _ {rooms : ℕ} {mem : List ℕ} (s : Standing rooms (nth mem 0) mem) (r 
             let (i, z) = in-keep same-time d ds m in
             rw (← q) (f .lowest-of n d i (same-is (d .time) (timeIn x) z)));
       }
+
+  -- The cells of the task's replicas, and what is seen in them.
+  module _ (small : (i : ℕ) → nth mem i ≤ neverCell) (cells : List ℕ) (on : (c : ℕ) → c < nth mem 3 + 1 → nth cells (3 * c) ≡ nth mem (rowOf rooms t mem + (1 + 3 * c)))
+      (early : (c : ℕ) → c < nth mem 3 + 1 → nth cells (3 * c + 1) ≡ nth mem (rowOf rooms t mem + (2 + 3 * c))) where
+    seen-more : (c : ℕ) → c < nth mem 3 + 1 → Seen rooms mem t c (leastEarly c cells) (leastOn c cells) → leastEarly c cells ≤ neverCell
+        → Seen rooms mem t (c + 1) (leastEarly (c + 1) cells) (leastOn (c + 1) cells) × (leastEarly (c + 1) cells ≤ neverCell)
+    seen-more c l f m = by (ltb (nth cells (3 * c + 1)) (leastEarly c cells)) refl
+      where
+        by : (b : Bool) → ltb (nth cells (3 * c + 1)) (leastEarly c cells) ≡ b
+            → Seen rooms mem t (c + 1) (leastEarly (c + 1) cells) (leastOn (c + 1) cells) × (leastEarly (c + 1) cells ≤ neverCell)
+        by true e =
+            let g = ltb-true _ _ e in
+            let (p, q) = least-sooner cells c g in
+            rw (← p, ← q, early c l, on c l) (seen-sooner c _ _ f l m (rw (early c l) at g), small (rowOf rooms t mem + (2 + 3 * c)))
+        by false e =
+            let g = ltb-false _ _ e in
+            let (p, q) = least-stays cells c g in
+            rw (← p, ← q) (seen-stays c _ _ f l m (rw (early c l) at g) (small (rowOf rooms t mem + (2 + 3 * c))), m)
+
+    seen-to : (c : ℕ) → c ≤ nth mem 3 + 1 → Seen rooms mem t c (leastEarly c cells) (leastOn c cells) × (leastEarly c cells ≤ neverCell)
+    seen-to zero l = let (e, f) = least-none cells in rw (e, f) (seen-none rooms mem t 0, omega arith)
+    seen-to (suc c) l = let (f, m) = seen-to c (omega arith) in rw (← add-one c) (seen-more c (omega arith) f m)
+
+    pub first-seen : (w : ℕ) → w ≡ nth mem 3 + 1 → FirstIn rooms t (leastEarly w cells) (leastOn w cells) mem
+    first-seen w e = seen-all w _ _ e (seen-to w (omega arith) .0)

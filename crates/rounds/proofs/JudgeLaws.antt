@@ -16,9 +16,10 @@ use Rattle.definitions.specs.Times.{Time, tick, never, later, sooner, same, lea
 use Rattle.definitions.specs.Refusals.{doubledTasks, ticksAgree, endsAgree, planRefusal}
 use Rattle.definitions.specs.Tools.{verdictFor}
 use Rattle.definitions.proofs.Lists.{map-same, in-some}
-use Rattle.jobs.specs.Layout.{rowAt, bestAt, worstAt}
+use Rattle.heads.specs.Layout.{rowAt, bestAt, worstAt}
 use Rattle.jobs.specs.Held.{jobIn}
-use Rattle.plans.specs.Lines.{neverCell, timeIn, placedIn}
+use Rattle.ticks.specs.Cells.{neverCell, timeIn}
+use Rattle.plans.specs.Lines.{placedIn}
 use Rattle.rounds.specs.Schedule.{choiceOf}
 use Rattle.plans.specs.Loading.{planIn}
 use Rattle.plans.specs.Loading.{PlanHeld}
@@ -126,17 +127,6 @@ module _ {rooms : ℕ} {mem : List ℕ} (h : PlanHeld rooms mem) (one : doubledT
         → eqb y (nth mem (worstAt rooms)) ≡ endsAgree (jobIn mem) (planIn rooms mem)
     unfolding endsAgree
     worst-decides q y f = rw (best-same x e, eq-eqb x (nth mem (bestAt rooms)) q, worst-same y f)
-
--- The line that was found ------------------------------------------------------------------------------------------
-
--- What the search for a doubled task ensures, by its result.
-module _ (rooms : ℕ) (mem : List ℕ) (r : ℕ)
-    (found : ((r ≡ nth mem 0) × (doubledTasks (planIn rooms mem .lines) ≡ [])) ⊎ ((r < nth mem 0) × In (nth mem (rowAt rooms r)) (doubledTasks (planIn rooms mem .lines)))) where
-  pub some-doubled : r < nth mem 0 → In (nth mem (rowAt rooms r)) (doubledTasks (planIn rooms mem .lines))
-  some-doubled l = ⊎-elim (λ f. absurd (omega (arith, f .0))) (λ f. f .1) found
-
-  pub none-doubled : nth mem 0 ≤ r → doubledTasks (planIn rooms mem .lines) ≡ []
-  none-doubled l = ⊎-elim (λ f. f .1) (λ f. absurd (omega (arith, f .0))) found
 
 -- The answer --------------------------------------------------------------------------------------------------------
 

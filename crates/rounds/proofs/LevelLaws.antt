@@ -18,19 +18,19 @@ use Rattle.definitions.proofs.Lists.{in-reverse, map-same, full, nth-most}
 use Rattle.definitions.proofs.Tasks.{in-outgoing}
 use Rattle.definitions.proofs.Bounds.{bottom-most}
 use Rattle.definitions.proofs.BottomLevels.{bottom-level}
-use Rattle.jobs.specs.Memory.{edgeIn}
-use Rattle.jobs.specs.Layout.{outHeadAt, outNextAt, levelAt, lineAt}
+use Rattle.orders.specs.Edges.{edgeIn}
+use Rattle.heads.specs.Layout.{outHeadAt, outNextAt, levelAt, lineAt}
 use Rattle.jobs.specs.Held.{edgeAt, jobIn, chain, JobHeld, LinkedOut}
 use Rattle.lists.specs.Kept.{KeptOutside}
 use Rattle.rounds.specs.Schedule.{LevelsFilled}
-use Rattle.jobs.specs.Order.{Within, listed, Arranged, sortable, ArrangedIf}
+use Rattle.orders.specs.Order.{Within, listed, Arranged, sortable, ArrangedIf}
 use Rattle.rounds.specs.Levels.{levelMost, sent}
 use Rattle.lists.proofs.Counting.{equal-or-not, last-or-before}
 use Rattle.lists.proofs.Kept.{same-before, kept-all, kept-set}
 use Rattle.jobs.proofs.Held.{tasks-in, edges-in, sizes, job-kept, held-kept, linked-out-same, chain-end, chain-step}
 use Rattle.jobs.proofs.JobIn.{members}
 use Rattle.rounds.proofs.RowSums.{total-in, total-most, scaled-most}
-use Rattle.jobs.proofs.OrderLaws.{listed-length, listed-place, place-listed, places-apart, arranged-all, sortable-made}
+use Rattle.orders.proofs.OrderLaws.{listed-length, listed-place, place-listed, places-apart, arranged-all, sortable-made}
 
 -- The tasks of an order ---------------------------------------------------------------------------------------
 

@@ -15,7 +15,7 @@ use Rattle.definitions.specs.Replay.{firstFinish, lowest, firstBox, roundEnd, r
 use Rattle.definitions.proofs.Lists.{in-append, in-map, in-keep, in-below, length-count}
 use Rattle.definitions.proofs.Decimal.{width-powers, width-monotone, length-decimal, length-none, length-numbers, length-line}
 use Rattle.definitions.proofs.Tasks.{in-task}
-use Rattle.jobs.specs.Layout.{rowAt}
+use Rattle.heads.specs.Layout.{rowAt}
 use Rattle.jobs.specs.Held.{jobIn}
 use Rattle.plans.specs.Lines.{rowOutcomes, placedIn, Standing}
 use Rattle.rounds.specs.Replaying.{outcomesIn}

@@ -20,9 +20,10 @@ use Rattle.definitions.specs.Planner.{tickOf, largestDelay, scale, topLevel, tr
 use Rattle.definitions.proofs.Lists.{both, both-true, in-map, in-keep, map-same, map-keep, in-below}
 use Rattle.definitions.proofs.Tasks.{in-incoming}
 use Rattle.definitions.proofs.Chosen.{chosen-count, chosen-below, chosen-distinct}
-use Rattle.jobs.specs.Layout.{memorySize, jobSize, inHeadAt, inNextAt, levelAt, lineAt, blockedAt, priorityAt, rowAt, farAt}
+use Rattle.heads.specs.Layout.{memorySize, jobSize, inHeadAt, inNextAt, levelAt, lineAt, blockedAt, priorityAt, rowAt, farAt}
 use Rattle.jobs.specs.Held.{jobIn}
-use Rattle.plans.specs.Lines.{timeIn, rowOutcomes, placedIn, rowReplicas, linesIn, RowHeld, Standing}
+use Rattle.ticks.specs.Cells.{timeIn}
+use Rattle.plans.specs.Lines.{rowOutcomes, placedIn, rowReplicas, linesIn, RowHeld, Standing}
 use Rattle.rounds.specs.Schedule.{choiceOf, FedIn, topIn, lineTicks}
 use Rattle.lists.specs.Kept.{KeptOutside}
 use Rattle.rounds.specs.Arrivals.{BothFinish}

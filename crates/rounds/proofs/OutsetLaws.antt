@@ -18,8 +18,8 @@ use Rattle.definitions.specs.Planner.{waitingFrom, bottomLevels, planFor}
 use Rattle.definitions.proofs.Lists.{both, keep-length, keep-every, nth-below, length-count, in-below}
 use Rattle.definitions.proofs.Tasks.{in-incoming}
 use Rattle.definitions.proofs.BottomLevels.{length-bottom-levels}
-use Rattle.jobs.specs.Layout.{memorySize, jobSize, inHeadAt, inNextAt, levelAt, lineAt, blockedAt, priorityAt, rowAt, farAt}
-use Rattle.jobs.specs.Memory.{edgeIn}
+use Rattle.heads.specs.Layout.{memorySize, jobSize, inHeadAt, inNextAt, levelAt, lineAt, blockedAt, priorityAt, rowAt, farAt}
+use Rattle.orders.specs.Edges.{edgeIn}
 use Rattle.jobs.specs.Held.{edgeAt, jobIn, JobHeld, LinkedIn, LinkedOut}
 use Rattle.plans.specs.Lines.{placedIn, linesIn}
 use Rattle.rounds.specs.Schedule.{topIn, FarFilled, LevelsFilled}

@@ -13,7 +13,7 @@ use Rattle.definitions.specs.Times.{later, after, least, largest, Outcome, ofTa
 use Rattle.definitions.specs.Planner.{tickOf, largestDelay, scale, topLevel}
 use Rattle.definitions.proofs.Lists.{map-same, in-append, append-left, append-right, in-has, has-not}
 use Rattle.definitions.proofs.Tasks.{in-incoming}
-use Rattle.jobs.specs.Layout.{lineAt, farAt, rowAt}
+use Rattle.heads.specs.Layout.{lineAt, farAt, rowAt}
 use Rattle.jobs.specs.Held.{jobIn}
 use Rattle.rounds.specs.Schedule.{choiceOf, arrivalIn, dataIn, FedIn, topIn, FarFilled}
 use Rattle.plans.specs.Lines.{rowOutcomes, placedIn, rowOf, Standing}

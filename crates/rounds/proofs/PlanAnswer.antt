@@ -21,11 +21,12 @@ use Rattle.definitions.proofs.Placing.{placed-apart, placed-agrees, placed-ends
 use Rattle.definitions.proofs.Claims.{own-facts, own-fits, roomy01}
 use Rattle.lists.specs.Over.{over}
 use Rattle.text.specs.declared.Step.the-variants.{Next, Refused}
-use Rattle.jobs.specs.Layout.{memorySize, inHeadAt, bestAt, worstAt, rowAt}
+use Rattle.heads.specs.Layout.{memorySize, inHeadAt, bestAt, worstAt, rowAt}
 use Rattle.jobs.specs.Answers.{Answered}
 use Rattle.jobs.specs.Loading.{JobLoaded}
 use Rattle.jobs.specs.Held.{jobIn, LinkedOut, JobHeld}
-use Rattle.plans.specs.Lines.{timeIn, placedIn, linesIn, Standing}
+use Rattle.ticks.specs.Cells.{timeIn}
+use Rattle.plans.specs.Lines.{placedIn, linesIn, Standing}
 use Rattle.rounds.specs.Schedule.{choiceOf}
 use Rattle.lists.specs.Kept.{KeptOutside}
 use Rattle.rounds.specs.Planning.{Drawn}

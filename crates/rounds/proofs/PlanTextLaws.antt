@@ -10,13 +10,12 @@ use Rattle.definitions.specs.Lists.{bytes, nth}
 use Rattle.definitions.specs.Limits.{document01}
 use Rattle.definitions.specs.Text.{lineText}
 use Rattle.definitions.specs.Plan.{Replica, Line, replicaNumbers, planLinesText, planText}
-use Rattle.definitions.proofs.Decimal.{length-line}
 use Rattle.lists.specs.Over.{over}
 use Rattle.lists.proofs.Over.{length-over, over-then}
 use Rattle.text.specs.Told.{written, placeAfter}
 use Rattle.text.proofs.Writing.{front-whole}
-use Rattle.lines.proofs.WriteLaws.{numbers-most, line-exact}
-use Rattle.jobs.specs.Layout.{rowAt}
+use Rattle.printing.proofs.WriteLaws.{few-counted}
+use Rattle.heads.specs.Layout.{rowAt}
 use Rattle.jobs.specs.Held.{jobIn}
 use Rattle.jobs.proofs.Held.{Sizes}
 use Rattle.plans.specs.Lines.{rowReplicas, linesIn}
@@ -73,16 +72,6 @@ module _ {rooms : ℕ} {mem : List ℕ} (s : Sizes rooms mem) where
       let r = row-numbers mem (rowAt rooms k) (nth mem 3 + 1) (omega (arith, row-within k h, row-few)) in
       rw (add-one k, lines-last (linesIn rooms (nth mem 3 + 1) k mem) (record { task = nth mem (rowAt rooms k); replicas = rowReplicas (rowAt rooms k) (nth mem 3 + 1) mem }), r, n)
 
--- A line of a few numbers has few bytes.
-pub line-most : (opening vals : List ℕ) (k : ℕ) → length vals ≤ k → length (lineText document01 opening vals) ≤ length opening + 11 * k
-line-most opening vals k h = omega (arith, length-line document01 opening vals, numbers-most vals, h)
-
-pub line-counted : (opening vals : List ℕ) (k r : ℕ) → length vals ≤ k → length opening + 11 * k < 2 ^ 64 → r ≡ length (lineText document01 opening vals) % 2 ^ 64
-    → (r ≡ length (lineText document01 opening vals)) × (r ≤ length opening + 11 * k)
-line-counted opening vals k r h b e =
-    let f = line-exact opening vals r (omega (arith, h, b)) e in
-    (f, omega (arith, f, line-most opening vals k h))
-
 -- The cells of row k, as they are passed.
 abbrev rowPart : ℕ → ℕ → List ℕ → List ℕ
 rowPart rooms k mem = take (rowAt rooms k + (4 + 3 * nth mem 3) - rowAt rooms k) (drop (rowAt rooms k) mem)
@@ -95,13 +84,13 @@ pub row-counted : {rooms : ℕ} {mem : List ℕ} → Sizes rooms mem → (k r : 
     → (r ≡ length (rowLine rooms k mem)) × (r ≤ 277)
 row-counted {rooms} {mem} s k r e =
     let m : length (rowPart rooms k mem) ≤ 25 = omega (arith, length-take (rowAt rooms k + (4 + 3 * nth mem 3) - rowAt rooms k) (drop (rowAt rooms k) mem), row-few s) in
-    let (f, g) = line-counted (bytes "T,") (rowPart rooms k mem) 25 r m (omega arith) e in
+    let (f, g) = few-counted (bytes "T,") (rowPart rooms k mem) 25 r m (omega arith) e in
     (f ∙ ap length (row-part rooms k mem), g)
 
 pub head-counted : (rooms : ℕ) (mem vals : List ℕ) (r : ℕ) → vals ≡ headIn rooms mem → r ≡ length (lineText document01 (bytes "PLAN,") vals) % 2 ^ 64
     → (r ≡ length (headLine rooms mem)) × (r ≤ 60)
 unfolding headLine
-head-counted rooms mem vals r q e = line-counted (bytes "PLAN,") (headIn rooms mem) 5 r (omega arith) (omega arith) (rw q at e)
+head-counted rooms mem vals r q e = few-counted (bytes "PLAN,") (headIn rooms mem) 5 r (omega arith) (omega arith) (rw q at e)
 
 -- The head, as it is passed.
 pub head-part : (rooms : ℕ) (mem vals : List ℕ) → vals ≡ headIn rooms mem → lineText document01 (bytes "PLAN,") vals ≡ headLine rooms mem

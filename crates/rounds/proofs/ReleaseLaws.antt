@@ -14,8 +14,8 @@ use Rattle.definitions.specs.Job.{Edge, incoming, outgoing}
 use Rattle.definitions.specs.Planner.{tickOf, scale, topLevel}
 use Rattle.definitions.proofs.Lists.{both, both-true}
 use Rattle.definitions.proofs.Tasks.{in-incoming}
-use Rattle.jobs.specs.Layout.{memorySize, outHeadAt, outNextAt, levelAt, lineAt, blockedAt, priorityAt, rowAt}
-use Rattle.jobs.specs.Memory.{edgeIn}
+use Rattle.heads.specs.Layout.{memorySize, outHeadAt, outNextAt, levelAt, lineAt, blockedAt, priorityAt, rowAt}
+use Rattle.orders.specs.Edges.{edgeIn}
 use Rattle.jobs.specs.Held.{edgeAt, jobIn, chain, JobHeld}
 use Rattle.rounds.specs.Schedule.{topIn, FedIn, FarFilled}
 use Rattle.lists.specs.Kept.{KeptOutside}

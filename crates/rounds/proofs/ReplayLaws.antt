@@ -19,11 +19,12 @@ use Rattle.definitions.specs.Replay.{replay, firstFinish, firstBox, roundEnd, r
 use Rattle.definitions.proofs.Lists.{map-same, in-map, map-in, in-keep, keep-in, in-reverse, reverse-left}
 use Rattle.lists.specs.Over.{over}
 use Rattle.text.specs.declared.Step.the-variants.{Next, Refused}
-use Rattle.jobs.specs.Layout.{levelAt}
+use Rattle.heads.specs.Layout.{levelAt}
 use Rattle.jobs.specs.Answers.{Answered}
 use Rattle.jobs.specs.Held.{jobIn, LinkedOut, JobHeld}
 use Rattle.plans.specs.Lines.{Standing}
-use Rattle.plans.specs.Loading.{planIn, BothLoaded, stopsFrom, StopsLoaded, PlanHeld}
+use Rattle.stops.specs.Loading.{stopsFrom, StopsLoaded}
+use Rattle.plans.specs.Loading.{planIn, BothLoaded, PlanHeld}
 use Rattle.rounds.specs.Tools.{replayBoth}
 use Rattle.rounds.specs.Replaying.{StopsIn, outcomesIn, RisingIn, RoundRun, replayIn}
 use Rattle.jobs.specs.declared.Answer.{Answer}

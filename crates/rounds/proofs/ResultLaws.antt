@@ -17,51 +17,11 @@ use Rattle.lists.proofs.Upward.{below-more}
 use Rattle.text.specs.Told.{written, placeAfter}
 use Rattle.text.proofs.Writing.{written-fits, place-fits, written-more, place-more}
 use Rattle.jobs.specs.Held.{jobIn}
-use Rattle.plans.specs.Lines.{neverCell, timeIn}
+use Rattle.ticks.specs.Cells.{neverCell, timeIn}
 use Rattle.rounds.specs.Replaying.{outcomesIn, FirstIn}
 use Rattle.rounds.specs.Texts.{taskLine, taskLines}
 use Rattle.lists.proofs.Counting.{equal-or-not}
 use Rattle.rounds.proofs.TimeLaws.{time-tick}
-
--- One line ------------------------------------------------------------------------------------------------------------
-
-module _ (t x p : ℕ) where
-  -- A task that is done.
-  pub result-tick : (x ≡ neverCell → ⊥) → resultLine document01 t (timeIn x) p ≡ lineText document01 (bytes "R,") (t ∷ p ∷ x ∷ [])
-  result-tick n = rw (time-tick x n)
-
-  module _ (e : x ≡ neverCell) where
-    -- A task that is not.
-    result-never : resultLine document01 t (timeIn x) p ≡ bytes "R," ++ decimal document01 t ++ bytes ",-,-\n"
-    result-never = rw e
-
-    pub length-never : length (resultLine document01 t (timeIn x) p) ≡ 7 + width document01 t
-    length-never = rw result-never (simp length-append (omega (arith, length-decimal document01 t)))
-
-    pub write-never : (d x₁ x₂ x₃ : List ℕ) (a b c : ℕ) → length (resultLine document01 t (timeIn x) p) ≤ length d
-        → x₁ ≡ written d 0 (bytes "R,") → a ≡ placeAfter d 0 (bytes "R,")
-        → x₂ ≡ written x₁ a (decimal document01 t) → b ≡ placeAfter x₁ a (decimal document01 t)
-        → x₃ ≡ written x₂ b (bytes ",-,-\n") → c ≡ placeAfter x₂ b (bytes ",-,-\n")
-        → (c ≡ length (resultLine document01 t (timeIn x) p)) × (x₃ ≡ over d 0 (resultLine document01 t (timeIn x) p))
-    write-never d x₁ x₂ x₃ a b c h f₁ g₁ f₂ g₂ f₃ g₃ =
-        let s : List ℕ = bytes "R," in
-        let u : List ℕ = s ++ decimal document01 t in
-        let l = length-never in
-        let n : length u ≡ 2 + width document01 t = simp length-append (omega (arith, length-decimal document01 t)) in
-        let k : length (u ++ bytes ",-,-\n") ≡ 7 + width document01 t = simp length-append (omega (arith, length-decimal document01 t)) in
-        let e₁ : x₁ ≡ over d 0 s = f₁ ∙ written-fits d 0 s (omega arith) in
-        let p₁ : a ≡ 0 + length s = g₁ ∙ place-fits d 0 s (omega arith) in
-        let e₂ : x₂ ≡ over d 0 u = f₂ ∙ written-more d x₁ 0 a s (decimal document01 t) e₁ p₁ (omega arith) in
-        let p₂ : b ≡ 0 + length u = g₂ ∙ place-more d x₁ 0 a s (decimal document01 t) e₁ p₁ (omega arith) in
-        rw result-never
-        (omega (arith, g₃, place-more d x₂ 0 b u (bytes ",-,-\n") e₂ p₂ (omega arith)), f₃ ∙ written-more d x₂ 0 b u (bytes ",-,-\n") e₂ p₂ (omega arith))
-
-module _ (x : ℕ) where
-  pub end-tick : (x ≡ neverCell → ⊥) → endLine document01 (timeIn x) ≡ lineText document01 (bytes "L,") (x ∷ [])
-  end-tick n = rw (time-tick x n)
-
-  pub end-never : x ≡ neverCell → endLine document01 (timeIn x) ≡ bytes "L,-\n"
-  end-never e = rw e
 
 -- All lines ------------------------------------------------------------------------------------------------------------
 

@@ -17,7 +17,7 @@ use Rattle.definitions.specs.Replay.{replay}
 use Rattle.definitions.proofs.Lists.{in-append, nth-in}
 use Rattle.definitions.proofs.Facts.{LineFacts, Ordered}
 use Rattle.definitions.proofs.Doubled.{rising}
-use Rattle.jobs.specs.Layout.{jobSize, lineAt, rowAt, farAt}
+use Rattle.heads.specs.Layout.{jobSize, lineAt, rowAt, farAt}
 use Rattle.jobs.specs.Held.{jobIn, JobHeld}
 use Rattle.plans.specs.Lines.{rowOutcomes, placedIn, rowReplicas, linesIn, Standing}
 use Rattle.rounds.specs.Arrivals.{DelayTable}

@@ -14,7 +14,7 @@ use Rattle.definitions.specs.Lists.{if_then_else_, nth, countFrom, below, keep,
 use Rattle.definitions.specs.Job.{runTime, delay}
 use Rattle.definitions.specs.Planner.{scaledRun, totalDelay}
 use Rattle.definitions.proofs.Lists.{length-count, in-below, sum-most}
-use Rattle.jobs.specs.Layout.{jobSize}
+use Rattle.heads.specs.Layout.{jobSize}
 use Rattle.jobs.specs.Held.{jobIn, JobHeld}
 use Rattle.lists.proofs.Counting.{below-same, getD-below}
 use Rattle.jobs.proofs.Held.{tasks-in, processors-in, run-in, delay-in, Sizes, sizes, row-below}

@@ -21,9 +21,10 @@ use Rattle.definitions.specs.Claims.{Within}
 use Rattle.definitions.proofs.Lists.{map-same, map-in, in-keep, below-in}
 use Rattle.definitions.proofs.Tasks.{in-incoming, copyOf}
 use Rattle.definitions.proofs.Bounds.{weaker, PlacedWithin, trial-most}
-use Rattle.jobs.specs.Layout.{jobSize, inHeadAt, inNextAt, lineAt, rowAt}
+use Rattle.heads.specs.Layout.{jobSize, inHeadAt, inNextAt, lineAt, rowAt}
 use Rattle.jobs.specs.Held.{jobIn, JobHeld}
-use Rattle.plans.specs.Lines.{neverCell, timeIn, rowOutcomes, placedIn, rowReplicas, rowOf, Small, Standing}
+use Rattle.ticks.specs.Cells.{neverCell, timeIn, Small}
+use Rattle.plans.specs.Lines.{rowOutcomes, placedIn, rowReplicas, rowOf, Standing}
 use Rattle.rounds.specs.Schedule.{dataIn, lineTicks}
 use Rattle.lists.specs.Kept.{KeptOutside}
 use Rattle.rounds.specs.Arrivals.{lastShort, FirstFed}

@@ -13,11 +13,12 @@ use lib.Seq.{getD-set-same, getD-set-other}
 use Rattle.definitions.specs.Lists.{if_then_else_, nth}
 use Rattle.definitions.specs.Job.{delay}
 use Rattle.definitions.specs.Times.{tick, later, sooner, after, least, largest}
-use Rattle.jobs.specs.Layout.{jobSize}
+use Rattle.heads.specs.Layout.{jobSize}
 use Rattle.ticks.specs.Lanes.{lanes, arrives, shortNever, widenedTick}
 use Rattle.rounds.specs.Arrivals.{shortIn, lastShort, DelayTable}
 use Rattle.jobs.specs.Held.{jobIn, JobHeld}
-use Rattle.plans.specs.Lines.{neverCell, timeIn, rowOutcomes, Small}
+use Rattle.ticks.specs.Cells.{neverCell, timeIn, Small}
+use Rattle.plans.specs.Lines.{rowOutcomes}
 use Rattle.lists.proofs.Counting.{equal-or-not, last-or-before}
 use Rattle.jobs.proofs.Held.{Sizes, sizes, delay-in, job-same}
 use Rattle.lists.proofs.Kept.{Same}

@@ -3,7 +3,7 @@ use mathlib.Core.List.{List}
 use Prim.Native.Nat.{ℕ, _+_, _-_, _<_}
 use native.Mathlib.Omega.{arith}
 use Rattle.definitions.specs.Lists.{nth}
-use Rattle.jobs.specs.Layout.{memorySize, jobSize, levelAt, lineAt, farAt}
+use Rattle.heads.specs.Layout.{memorySize, jobSize, levelAt, lineAt, farAt}
 use Rattle.jobs.specs.Held.{JobHeld}
 use Rattle.rounds.specs.Schedule.{LevelsFilled, FarFilled}
 use Rattle.lists.proofs.Kept.{Same}

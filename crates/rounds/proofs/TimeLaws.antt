@@ -12,10 +12,11 @@ use Rattle.definitions.specs.Job.{Edge, delay, incoming}
 use Rattle.definitions.specs.Times.{Time, tick, never, later, sooner, after, least, largest}
 use Rattle.definitions.proofs.Lists.{in-reverse}
 use Rattle.definitions.proofs.Tasks.{in-incoming}
-use Rattle.jobs.specs.Memory.{edgeIn}
-use Rattle.jobs.specs.Layout.{inHeadAt, inNextAt, lineAt, rowAt}
+use Rattle.orders.specs.Edges.{edgeIn}
+use Rattle.heads.specs.Layout.{inHeadAt, inNextAt, lineAt, rowAt}
 use Rattle.jobs.specs.Held.{edgeAt, jobIn, chain, JobHeld}
-use Rattle.plans.specs.Lines.{neverCell, timeIn, rowOutcomes, rowOf, Small, RowHeld, Standing}
+use Rattle.ticks.specs.Cells.{neverCell, timeIn, Small}
+use Rattle.plans.specs.Lines.{rowOutcomes, rowOf, RowHeld, Standing}
 use Rattle.rounds.specs.Schedule.{choiceOf, arrivalIn, FedIn}
 use Rattle.rounds.specs.Walks.{Feeds}
 use Rattle.lists.proofs.Counting.{equal-or-not}

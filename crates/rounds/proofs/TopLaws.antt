@@ -12,9 +12,10 @@ use Rattle.definitions.specs.Job.{Edge}
 use Rattle.definitions.specs.Times.{Time, tick, later, sooner, least}
 use Rattle.definitions.specs.Planner.{tickOf, scale}
 use Rattle.definitions.proofs.Bounds.{largestDelay-most}
-use Rattle.jobs.specs.Layout.{lineAt, rowAt, farAt}
+use Rattle.heads.specs.Layout.{lineAt, rowAt, farAt}
 use Rattle.jobs.specs.Held.{jobIn, JobHeld}
-use Rattle.plans.specs.Lines.{timeIn, rowOutcomes, rowOf, Standing}
+use Rattle.ticks.specs.Cells.{timeIn}
+use Rattle.plans.specs.Lines.{rowOutcomes, rowOf, Standing}
 use Rattle.rounds.specs.Schedule.{topIn, FarFilled}
 use Rattle.rounds.specs.Planning.{Sends, spreadIn}
 use Rattle.jobs.proofs.Held.{processors-in, sizes}

@@ -5,7 +5,7 @@ use Prim.Native.Nat.{ℕ, _+_, _*_, _-_, _/_, _%_, _<_, _≤_}
 use native.Mathlib.Omega.{arith}
 use lib.ListN.{length}
 use Rattle.definitions.specs.Lists.{nth}
-use Rattle.jobs.specs.Layout.{inNextAt, outNextAt, lineAt, rowAt}
+use Rattle.heads.specs.Layout.{inNextAt, outNextAt, lineAt, rowAt}
 use Rattle.jobs.specs.Held.{edgeAt}
 use Rattle.jobs.proofs.Held.{sizes, to-below}
 use Rattle.rounds.specs.Walks.{EntersAt, Entered, LeavesAt, Left}

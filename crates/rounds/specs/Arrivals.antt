@@ -9,10 +9,11 @@ use Rattle.definitions.specs.Lists.{if_then_else_, nth, In}
 use Rattle.definitions.specs.Limits.{document01}
 use Rattle.definitions.specs.Job.{Edge, runTime, delay, incoming}
 use Rattle.definitions.specs.Times.{Time, tick, never, later, after}
-use Rattle.jobs.specs.Layout.{lineAt}
+use Rattle.heads.specs.Layout.{lineAt}
 use Rattle.jobs.specs.Held.{jobIn}
 use Rattle.rounds.specs.Schedule.{arrivalIn, dataIn}
-use Rattle.plans.specs.Lines.{rowOf, Small}
+use Rattle.ticks.specs.Cells.{Small}
+use Rattle.plans.specs.Lines.{rowOf}
 use Rattle.ticks.specs.Lanes.{shortNever}
 use Rattle.ticks.specs.declared.clocks.Clocks.{Clocks}
 

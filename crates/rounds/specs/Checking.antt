@@ -1,13 +1,14 @@
 -- What the checker's tests speak of: a plan that was read, and the ticks of its lines.
 use mathlib.Core.Path.{_≡_}
-use mathlib.Core.List.{List}
+use mathlib.Core.List.{List, [], _∷_}
 use mathlib.Core.Bool.{Bool, true, false}
 use Prim.Native.Nat.{ℕ, _+_, _*_, _<_}
-use Rattle.definitions.specs.Lists.{if_then_else_, nth}
+use Rattle.definitions.specs.Lists.{if_then_else_, nth, In}
 use Rattle.definitions.specs.Times.{Time}
-use Rattle.jobs.specs.Layout.{rowAt}
+use Rattle.heads.specs.Layout.{rowAt}
 use Rattle.jobs.specs.Held.{jobIn}
-use Rattle.plans.specs.Lines.{timeIn, placedIn}
+use Rattle.ticks.specs.Cells.{timeIn}
+use Rattle.plans.specs.Lines.{placedIn}
 use Rattle.rounds.specs.Planning.{finishOn, ClocksHeld}
 use Rattle.ticks.specs.declared.clocks.Clocks.{Clocks}
 
@@ -26,3 +27,8 @@ AgreesTo rooms k c mem = (late : Bool) (i : ℕ) → i < c → finishIn rooms la
 -- All of line k are.
 abbrev pub LineAgrees : ℕ → ℕ → List ℕ → Type 0
 LineAgrees rooms k mem = AgreesTo rooms k (nth mem 3 + 1) mem
+
+-- What is said of the tasks that have two replicas on one processor: there is none, or one of them.
+abbrev pub DoubledBy : List ℕ → List ℕ → Type 0
+DoubledBy ts [] = ts ≡ []
+DoubledBy ts (t ∷ _) = In t ts × (t < 256)

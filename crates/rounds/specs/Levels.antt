@@ -4,7 +4,7 @@ use Prim.Native.Nat.{ℕ, _+_, _*_}
 use Rattle.definitions.specs.Lists.{nth}
 use Rattle.definitions.specs.Job.{Edge}
 use Rattle.definitions.specs.Planner.{totalDelay}
-use Rattle.jobs.specs.Layout.{levelAt}
+use Rattle.heads.specs.Layout.{levelAt}
 use Rattle.jobs.specs.Held.{jobIn}
 
 -- What a bottom level is at most: for each of 255 tasks 16 × 16 times a run of 1,000,000 and a message of 4,095 × 255.

@@ -14,7 +14,7 @@ use Rattle.definitions.specs.Times.{Time, tick, after, least, Outcome, ready, f
 use Rattle.definitions.specs.Planner.{tickOf, greatestOf, Waiting, waitingFrom, scale, topLevel, trial, chosen, place, planFor}
 use Rattle.rounds.specs.Walks.{edgeOf}
 use Rattle.definitions.proofs.Tasks.{copyOf}
-use Rattle.jobs.specs.Layout.{outNextAt, levelAt, lineAt, blockedAt, priorityAt, rowAt, farAt}
+use Rattle.heads.specs.Layout.{outNextAt, levelAt, lineAt, blockedAt, priorityAt, rowAt, farAt}
 use Rattle.jobs.specs.Held.{chain, jobIn, JobStands, LinkedOut}
 use Rattle.rounds.specs.Schedule.{choiceOf, topIn, FarFilled, LevelsFilled, ShortTo}
 use Rattle.plans.specs.Lines.{rowOutcomes, placedIn, rowReplicas, linesIn, RowHeld, Standing}

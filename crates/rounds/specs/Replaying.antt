@@ -13,10 +13,11 @@ use Rattle.definitions.specs.Times.{least, Copy, Outcome, ready, stopTime, walk
 use Rattle.definitions.specs.Replay.{replay, firstFinish, firstBox, replayText}
 use Rattle.definitions.specs.Tools.{fitting}
 use Rattle.definitions.proofs.Bounds.{PlacedWithin}
-use Rattle.jobs.specs.Layout.{lineAt, rowAt, farAt}
+use Rattle.heads.specs.Layout.{lineAt, rowAt, farAt}
 use Rattle.jobs.specs.Held.{jobIn}
 use Rattle.rounds.specs.Schedule.{lineTicks}
-use Rattle.plans.specs.Lines.{neverCell, timeIn, rowOutcomes, placedIn, rowReplicas, Small, Standing}
+use Rattle.ticks.specs.Cells.{neverCell, timeIn, Small}
+use Rattle.plans.specs.Lines.{rowOutcomes, placedIn, rowReplicas, Standing}
 use Rattle.lists.specs.Kept.{KeptOutside}
 use Rattle.plans.specs.Loading.{planIn}
 

@@ -10,7 +10,7 @@ use Rattle.definitions.specs.Times.{Time, tick, after, least, largest}
 use Rattle.definitions.specs.Planner.{largestDelay, bottomLevels}
 use Rattle.jobs.specs.Held.{jobIn}
 use Rattle.plans.specs.Lines.{rowOutcomes, rowOf}
-use Rattle.jobs.specs.Layout.{levelAt, lineAt, farAt, rowAt}
+use Rattle.heads.specs.Layout.{levelAt, lineAt, farAt, rowAt}
 
 -- The choice among a predecessor's copies: the least early, the largest late.
 abbrev pub choiceOf : Bool → List Time → Time

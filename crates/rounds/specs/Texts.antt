@@ -7,7 +7,7 @@ use Rattle.definitions.specs.Limits.{document01}
 use Rattle.definitions.specs.Text.{lineText}
 use Rattle.definitions.specs.Plan.{planLinesText}
 use Rattle.definitions.specs.Replay.{firstFinish, firstBox, resultLine, resultLines}
-use Rattle.jobs.specs.Layout.{bestAt, worstAt, rowAt}
+use Rattle.heads.specs.Layout.{bestAt, worstAt, rowAt}
 use Rattle.plans.specs.Lines.{linesIn}
 use Rattle.rounds.specs.Replaying.{outcomesIn}
 

@@ -4,8 +4,8 @@ use mathlib.Core.List.{List}
 use Prim.Native.Nat.{ℕ, _+_, _*_, _-_, _<_, _≤_}
 use Rattle.definitions.specs.Lists.{nth}
 use Rattle.definitions.specs.Job.{Edge}
-use Rattle.jobs.specs.Memory.{edgeIn}
-use Rattle.jobs.specs.Layout.{inNextAt, outNextAt, lineAt}
+use Rattle.orders.specs.Edges.{edgeIn}
+use Rattle.heads.specs.Layout.{inNextAt, outNextAt, lineAt}
 use Rattle.jobs.specs.Held.{edgeAt, JobHeld, LinkedOut}
 use Rattle.plans.specs.Lines.{rowOf, RowHeld}
 

@@ -1,64 +1,40 @@
 // The checker: 12, 13 and 14 of a plan in memory.
 ghost use mathlib.Core.Path.{_≡_};
-ghost use mathlib.Core.Logic.{_⊎_};
 ghost use mathlib.Core.List.{[]};
-ghost use mathlib.Core.Bool.{true, false, not};
-ghost use Prim.Native.Nat.{_+_, _≤_, _<_};
-ghost use lib.ListN.{length};
-ghost use Rattle.definitions.specs.Lists.{nth, In, distinct};
+ghost use mathlib.Core.Bool.{true};
+ghost use Prim.Native.Nat.{_+_, _<_};
+ghost use Rattle.definitions.specs.Lists.{nth};
 ghost use Rattle.definitions.specs.Limits.{document01};
 ghost use Rattle.definitions.specs.Text.{good};
-ghost use Rattle.definitions.specs.Plan.{processorsOf, descends};
 ghost use Rattle.definitions.specs.Refusals.{doubledTasks, ticksAgree, endsAgree};
 ghost use Rattle.definitions.specs.Tools.{verdictFor};
-ghost use Rattle.jobs.specs.Layout.{rowAt};
-ghost use Rattle.jobs.specs.Held.{jobIn, JobStands, LinkedOut};
+ghost use Rattle.jobs.specs.Held.{jobIn, LinkedOut};
 ghost use Rattle.rounds.specs.Schedule.{ShortTo};
-ghost use Rattle.plans.specs.Loading.{lineIn, planIn};
+ghost use Rattle.plans.specs.Loading.{planIn};
 ghost use Rattle.rounds.specs.Verdicts.{Judged};
 ghost use Rattle.rounds.specs.Arrivals.{DelayTable};
 ghost use Rattle.plans.specs.Loading.{PlanHeld};
-ghost use Rattle.rounds.specs.Checking.{ClocksAfter, LineAgrees};
+ghost use Rattle.replicas.specs.Cells.{doubledIn};
+ghost use Rattle.rounds.specs.Checking.{ClocksAfter, LineAgrees, DoubledBy};
 use crate::Checked;
 use crate::clocks;
 use crate::ends;
 use crate::times;
-use jobs::layout::BEST;
-use jobs::layout::ROWS;
-use jobs::layout::WORST;
+use heads::layout::BEST;
+use heads::layout::ROWS;
+use heads::layout::WORST;
+use replicas::Doubling;
 use ticks::clocks::Clocks;
 
-// In the line at `a` two replicas are on one processor. Processors do not descend.
-fn doubles(mem: &[u64], a: usize) -> bool
-    requires { ⌜ JobStands (now mem) × (a + 25 ≤ length (now mem)) × (descends (processorsOf (lineIn a (now mem))) ≡ false) ⌝ }
-    ensures { λ r. ⌜ r ≡ not (distinct (processorsOf (lineIn a (now (mem .entry))))) ⌝ }
-{
-    let w = mem[3] as usize + 1;
-    let mut c = 0;
-    while c + 1 < w {
-        if mem[a + (1 + 3 * c)] == mem[a + (4 + 3 * c)] {
-            return true;
-        }
-        c += 1;
-    }
-    false
-}
-
-// The first line with two replicas on one processor; the number of lines if there is none.
-fn doubled_line(mem: &[u64], rooms: usize) -> usize
+// Whether some task has two replicas on one processor, and one that has.
+fn doubled(mem: &[u64], rooms: usize) -> Doubling
     requires { ⌜ PlanHeld rooms (now mem) ⌝ }
-    ensures { λ r. ⌜ ((r ≡ nth (now (mem .entry)) 0) × (doubledTasks (planIn rooms (now (mem .entry)) .lines) ≡ [])) ⊎ ((r < nth (now (mem .entry)) 0) × In (nth (now (mem .entry)) (rowAt rooms r)) (doubledTasks (planIn rooms (now (mem .entry)) .lines))) ⌝ }
+    ensures { λ r. ⌜ DoubledBy (doubledTasks (planIn rooms (now (mem .entry)) .lines)) (doubledIn r) ⌝ }
 {
     let rows = ROWS * rooms;
-    let v = mem[0] as usize;
-    let mut k = 0;
-    while k < v {
-        if doubles(mem, rows + k * 25) {
-            return k;
-        }
-        k += 1;
-    }
-    v
+    let end = rows + mem[0] as usize * 25;
+    let w = mem[3] as usize + 1;
+    replicas::doubled_task(&mem[rows..end], w)
 }
 
 // The ticks of line k are the equations'.
@@ -122,17 +98,11 @@ fn ends_agree(mem: &[u64], rooms: usize) -> bool
     worst == mem[worst_at]
 }
 
-// The checker's answer to the plan in memory.
-pub fn judge(mem: &[u64], rooms: usize) -> Checked
-    requires { ⌜ PlanHeld rooms (now mem) × LinkedOut rooms (now mem) ⌝ }
+// The checker's answer to the plan in memory, none of whose tasks has two replicas on one processor.
+fn compare(mem: &[u64], rooms: usize) -> Checked
+    requires { ⌜ PlanHeld rooms (now mem) × LinkedOut rooms (now mem) × (doubledTasks (planIn rooms (now mem) .lines) ≡ []) ⌝ }
     ensures { λ r. ⌜ Judged (verdictFor document01 (jobIn (now (mem .entry))) (good (planIn rooms (now (mem .entry))))) r ⌝ }
 {
-    let rows = ROWS * rooms;
-    let k = doubled_line(mem, rooms);
-    if k < mem[0] as usize {
-        let t = mem[rows + k * 25] as u8;
-        return Checked::Doubled(t);
-    }
     if ticks_agree(mem, rooms) {
         if ends_agree(mem, rooms) {
             return Checked::Accepted;
@@ -140,4 +110,15 @@ pub fn judge(mem: &[u64], rooms: usize) -> Checked
         return Checked::Refused(14);
     }
     Checked::Refused(13)
+}
+
+// The checker's answer to the plan in memory.
+pub fn judge(mem: &[u64], rooms: usize) -> Checked
+    requires { ⌜ PlanHeld rooms (now mem) × LinkedOut rooms (now mem) ⌝ }
+    ensures { λ r. ⌜ Judged (verdictFor document01 (jobIn (now (mem .entry))) (good (planIn rooms (now (mem .entry))))) r ⌝ }
+{
+    match doubled(mem, rooms) {
+        Doubling::Single => compare(mem, rooms),
+        Doubling::Twice(t) => Checked::Doubled(t as u8),
+    }
 }

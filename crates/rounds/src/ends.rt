@@ -7,13 +7,14 @@ ghost use Rattle.definitions.specs.Lists.{if_then_else_, nth, empty};
 ghost use Rattle.definitions.specs.Job.{outgoing};
 ghost use Rattle.definitions.specs.Times.{tick, times, ofTask, end};
 ghost use Rattle.jobs.specs.Held.{jobIn, LinkedOut, JobStands};
-ghost use Rattle.plans.specs.Lines.{timeIn, rowOutcomes, placedIn, Standing};
+ghost use Rattle.ticks.specs.Cells.{timeIn};
+ghost use Rattle.plans.specs.Lines.{rowOutcomes, placedIn, Standing};
 ghost use Rattle.rounds.specs.Schedule.{choiceOf};
 use crate::times;
-use jobs::layout::LINE;
-use jobs::layout::NEVER;
-use jobs::layout::OUT_HEAD;
-use jobs::layout::ROWS;
+use heads::layout::LINE;
+use heads::layout::NEVER;
+use heads::layout::OUT_HEAD;
+use heads::layout::ROWS;
 
 // The choice among no times.
 fn chosen_of_none(late: bool) -> u64

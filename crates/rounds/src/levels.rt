@@ -5,15 +5,15 @@ ghost use Prim.Native.Nat.{_+_, _<_, _≤_};
 ghost use Rattle.definitions.specs.Lists.{nth, In, greatest};
 ghost use Rattle.definitions.specs.Job.{Edge, outgoing};
 ghost use Rattle.definitions.specs.Planner.{scaledRun, totalDelay};
-ghost use Rattle.jobs.specs.Layout.{levelAt, lineAt};
+ghost use Rattle.heads.specs.Layout.{levelAt, lineAt};
 ghost use Rattle.jobs.specs.Held.{jobIn, JobHeld, JobStands, LinkedOut};
 ghost use Rattle.rounds.specs.Schedule.{LevelsFilled};
 ghost use Rattle.lists.specs.Kept.{KeptOutside};
-ghost use Rattle.jobs.specs.Order.{Arranged};
+ghost use Rattle.orders.specs.Order.{Arranged};
 ghost use Rattle.rounds.specs.Levels.{levelMost, sent};
 use crate::walk;
-use jobs::layout::LEVEL;
-use jobs::layout::OUT_HEAD;
+use heads::layout::LEVEL;
+use heads::layout::OUT_HEAD;
 use ticks::lanes;
 
 // The scaled average run time of t.
@@ -95,7 +95,7 @@ pub fn settle_levels(mem: &mut [u64], rooms: usize)
     let v = mem[0] as usize;
     let a = walk::edges_at(&mem[..]);
     let end = a + mem[2] as usize;
-    let order = jobs::arrange(&mem[a..end], v);
+    let order = orders::arrange(&mem[a..end], v);
     let tasks = order.tasks;
     let total = total_delay(&mem[..]);
     fill_levels(mem, rooms, &tasks, total);

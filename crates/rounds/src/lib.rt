@@ -1,12 +1,13 @@
 // The planner, the checker and the replay, from texts to text, each in a working memory that is lent.
 ghost use lib.ListN.{length, drop};
 ghost use Rattle.jobs.specs.Answers.{Answered};
-ghost use Rattle.jobs.specs.Loading.{headOf, jobFrom};
+ghost use Rattle.heads.specs.Heads.{headOf};
+ghost use Rattle.jobs.specs.Loading.{jobFrom};
 ghost use Rattle.plans.specs.Loading.{bothFrom};
 ghost use Rattle.rounds.specs.Tools.{planOf, verdictBoth, replayBoth};
 ghost use Rattle.rounds.specs.Verdicts.{Judged};
+use heads::Head;
 use jobs::Answer;
-use jobs::Head;
 use text::Step;
 
 mod checker;

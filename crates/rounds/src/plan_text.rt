@@ -14,10 +14,10 @@ ghost use Rattle.jobs.specs.Answers.{Answered};
 ghost use Rattle.rounds.specs.Texts.{headIn, rowLine, rowLines};
 use crate::ends;
 use crate::planner;
+use heads::layout::BEST;
+use heads::layout::ROWS;
+use heads::layout::WORST;
 use jobs::Answer;
-use jobs::layout::BEST;
-use jobs::layout::ROWS;
-use jobs::layout::WORST;
 
 // The numbers of the head of the plan in memory.
 fn plan_head(mem: &[u64], rooms: usize) -> [u64; 5]
@@ -36,7 +36,7 @@ fn row_length(mem: &[u64], rooms: usize, k: usize) -> usize
 {
     let a = ROWS * rooms + k * 25;
     let b = a + (4 + 3 * mem[3] as usize);
-    lines::line_length(b"T,", &mem[a..b])
+    printing::line_length(b"T,", &mem[a..b])
 }
 
 // The bytes that the plan in memory takes.
@@ -45,7 +45,7 @@ pub fn plan_length(mem: &[u64], rooms: usize) -> usize
     ensures { λ r. ⌜ r ≡ length (planText document01 (jobIn (now (mem .entry))) (planIn rooms (now (mem .entry)))) ⌝ }
 {
     let v = mem[0] as usize;
-    let mut n = lines::line_length(b"PLAN,", &plan_head(mem, rooms));
+    let mut n = printing::line_length(b"PLAN,", &plan_head(mem, rooms));
     let mut k = 0;
     while k < v {
         n += row_length(mem, rooms, k);
@@ -61,7 +61,7 @@ fn write_row(out: &mut [u8], at: usize, mem: &[u64], rooms: usize, k: usize) -> 
 {
     let a = ROWS * rooms + k * 25;
     let b = a + (4 + 3 * mem[3] as usize);
-    at + lines::write_line(&mut out[at..], b"T,", &mem[a..b])
+    at + printing::write_line(&mut out[at..], b"T,", &mem[a..b])
 }
 
 // The T lines, written from `from` on. The answer is the place after them.
@@ -84,7 +84,7 @@ pub fn write_plan(out: &mut [u8], mem: &[u64], rooms: usize) -> usize
     requires { ⌜ JobHeld rooms (now mem) × (length (planText document01 (jobIn (now mem)) (planIn rooms (now mem))) ≤ length (now out)) ⌝ }
     ensures { λ r. ⌜ (r ≡ length (planText document01 (jobIn (now (mem .entry))) (planIn rooms (now (mem .entry))))) × (now (out .exit) ≡ over (now (out .entry)) 0 (planText document01 (jobIn (now (mem .entry))) (planIn rooms (now (mem .entry))))) ⌝ }
 {
-    let at = lines::write_line(out, b"PLAN,", &plan_head(mem, rooms));
+    let at = printing::write_line(out, b"PLAN,", &plan_head(mem, rooms));
     write_rows(out, at, mem, rooms)
 }
 

@@ -5,7 +5,7 @@ ghost use Prim.Native.Nat.{ℕ, _+_, _-_, _*_, _≤_, _<_};
 ghost use lib.ListN.{length};
 ghost use Rattle.definitions.specs.Lists.{nth};
 ghost use Rattle.definitions.specs.Job.{incoming, outgoing};
-ghost use Rattle.jobs.specs.Layout.{memorySize, inHeadAt, outNextAt, lineAt, blockedAt, priorityAt, rowAt, farAt};
+ghost use Rattle.heads.specs.Layout.{memorySize, inHeadAt, outNextAt, lineAt, blockedAt, priorityAt, rowAt, farAt};
 ghost use Rattle.jobs.specs.Held.{jobIn, JobHeld, LinkedIn, LinkedOut};
 ghost use Rattle.lists.specs.Kept.{KeptOutside};
 ghost use Rattle.rounds.specs.Arrivals.{DelayTable};
@@ -16,13 +16,12 @@ use crate::levels;
 use crate::priority;
 use crate::times;
 use crate::walk;
-use jobs::layout::BLOCKED;
-use jobs::layout::LEVEL;
-use jobs::layout::LINE;
-use jobs::layout::OUT_HEAD;
-use jobs::layout::PRIORITY;
-use jobs::layout::ROWS;
-use ticks::choice;
+use heads::layout::BLOCKED;
+use heads::layout::LEVEL;
+use heads::layout::LINE;
+use heads::layout::OUT_HEAD;
+use heads::layout::PRIORITY;
+use heads::layout::ROWS;
 use ticks::clocks::Clocks;
 
 // No task is placed; each has its bottom level for a priority.
@@ -85,7 +84,7 @@ fn fill_line(mem: &mut [u64], rooms: usize, k: usize, t: usize, early: [u32; 16]
     let mut c = 0;
     let mut p = 0;
     while p < m {
-        if choice::is_chosen(&early, m, w, p) {
+        if choices::is_chosen(&early, m, w, p) {
             put_replica(mem, a, c, p, early[p] as u64, late[p] as u64);
             c += 1;
         }

@@ -7,15 +7,15 @@ ghost use Rattle.definitions.specs.Lists.{nth, below, greatest};
 ghost use Rattle.definitions.specs.Limits.{document01};
 ghost use Rattle.definitions.specs.Times.{tick};
 ghost use Rattle.definitions.specs.Planner.{tickOf, scale};
-ghost use Rattle.jobs.specs.Layout.{memorySize, farAt, rowAt};
+ghost use Rattle.heads.specs.Layout.{memorySize, farAt, rowAt};
 ghost use Rattle.jobs.specs.Held.{jobIn, JobHeld};
 ghost use Rattle.rounds.specs.Schedule.{topIn, FarFilled, FedIn};
 ghost use Rattle.lists.specs.Kept.{KeptOutside};
 ghost use Rattle.plans.specs.Lines.{Standing};
 ghost use Rattle.rounds.specs.Planning.{Sends, spreadIn};
 use crate::walk;
-use jobs::layout::FAR;
-use jobs::layout::IN_HEAD;
+use heads::layout::FAR;
+use heads::layout::IN_HEAD;
 
 // The largest of the m delays from `a` on.
 fn largest_delay(mem: &[u64], a: usize, m: usize) -> u64

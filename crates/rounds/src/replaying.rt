@@ -7,14 +7,16 @@ ghost use Rattle.definitions.specs.Lists.{nth};
 ghost use Rattle.definitions.specs.Times.{unlessStopped};
 ghost use Rattle.definitions.proofs.Facts.{Ordered};
 ghost use Rattle.jobs.specs.Held.{jobIn};
-ghost use Rattle.plans.specs.Lines.{timeIn, Small, Standing};
+ghost use Rattle.ticks.specs.Cells.{timeIn, Small};
+ghost use Rattle.plans.specs.Lines.{Standing};
 ghost use Rattle.rounds.specs.Arrivals.{DelayTable};
 ghost use Rattle.plans.specs.Loading.{planIn};
 ghost use Rattle.rounds.specs.Replaying.{Running, FedBefore, LineRun, RisingIn, RoundRun, FirstIn};
 use crate::times;
-use jobs::layout::LINE;
-use jobs::layout::NEVER;
-use jobs::layout::ROWS;
+use heads::layout::LINE;
+use heads::layout::NEVER;
+use heads::layout::ROWS;
+use replicas::First;
 use ticks::clocks::Ready;
 
 // A finish that does not come by the stop never comes.
@@ -75,34 +77,13 @@ pub fn run_round(mem: &mut [u64], rooms: usize, stops: &[u64])
     }
 }
 
-// A task's first finish and its processor.
-pub struct First {
-    pub time: u64,
-    pub processor: u64,
-}
-
 // The first finish of t, on the lowest processor that has it.
 pub fn first_finish(mem: &[u64], rooms: usize, t: usize) -> First
     requires { ⌜ Standing rooms (nth (now mem) 0) (now mem) × RisingIn rooms (now mem) × (t < nth (now mem) 0) ⌝ }
     ensures { λ r. ⌜ FirstIn rooms t (r .time) (r .processor) (now (mem .entry)) ⌝ }
 {
-    let rows = ROWS * rooms;
-    let line = LINE * rooms;
-    let w = mem[3] as usize + 1;
-    let a = rows + (mem[line + t] as usize - 1) * 25;
-    let mut time = NEVER;
-    let mut processor = 0;
-    let mut c = 0;
-    while c < w {
-        let x = mem[a + (2 + 3 * c)];
-        if x < time {
-            time = x;
-            processor = mem[a + (1 + 3 * c)];
-        }
-        c += 1;
-    }
-    First {
-        time: time,
-        processor: processor,
-    }
+    let line = mem[LINE * rooms + t] as usize;
+    let a = ROWS * rooms + (line - 1) * 25 + 1;
+    let end = a + 3 * (mem[3] as usize + 1);
+    replicas::first_finish(&mem[a..end])
 }

@@ -5,68 +5,18 @@ ghost use lib.Dec.{leb};
 ghost use lib.ListN.{length};
 ghost use Rattle.definitions.specs.Lists.{nth};
 ghost use Rattle.definitions.specs.Limits.{document01};
-ghost use Rattle.definitions.specs.Replay.{resultLine, endLine, replayText};
+ghost use Rattle.definitions.specs.Replay.{replayText};
 ghost use Rattle.lists.specs.Over.{over};
 ghost use Rattle.jobs.specs.Held.{jobIn, LinkedOut};
-ghost use Rattle.plans.specs.Lines.{timeIn, Standing};
+ghost use Rattle.plans.specs.Lines.{Standing};
 ghost use Rattle.rounds.specs.Replaying.{outcomesIn, RisingIn, replayIn};
 ghost use Rattle.rounds.specs.Texts.{taskLine, taskLines};
 ghost use Rattle.jobs.specs.Answers.{Answered};
 ghost use Rattle.plans.specs.Loading.{PlanHeld};
 use crate::ends;
 use crate::replaying;
-use crate::replaying::First;
 use jobs::Answer;
-use jobs::layout::NEVER;
 use text::Step;
-
-// The bytes that the R line of t takes.
-fn result_length(t: u64, first: First) -> usize
-    ensures { λ r. ⌜ (r ≡ length (resultLine document01 t (timeIn (first .time)) (first .processor))) × (r ≤ 35) ⌝ }
-{
-    let x = first.time;
-    if x == NEVER {
-        return 7 + text::width_of(t);
-    }
-    let p = first.processor;
-    lines::line_length(b"R,", &[t, p, x])
-}
-
-// The R line of t, written at the front of `out`, which is what is left of an output. The answer is its length.
-fn write_result(out: &mut [u8], t: u64, first: First) -> usize
-    requires { ⌜ length (resultLine document01 t (timeIn (first .time)) (first .processor)) ≤ length (now out) ⌝ }
-    ensures { λ r. ⌜ (r ≡ length (resultLine document01 t (timeIn (first .time)) (first .processor))) × (now (out .exit) ≡ over (now (out .entry)) 0 (resultLine document01 t (timeIn (first .time)) (first .processor))) ⌝ }
-{
-    let x = first.time;
-    if x == NEVER {
-        let a = text::write_fixed(out, 0, b"R,");
-        let b = text::write_number(out, a, t);
-        return text::write_fixed(out, b, b",-,-\n");
-    }
-    let p = first.processor;
-    lines::write_line(out, b"R,", &[t, p, x])
-}
-
-// The bytes that the L line takes.
-fn end_length(x: u64) -> usize
-    ensures { λ r. ⌜ (r ≡ length (endLine document01 (timeIn x))) × (r ≤ 13) ⌝ }
-{
-    if x == NEVER {
-        return 4;
-    }
-    lines::line_length(b"L,", &[x])
-}
-
-// The L line, written at the front of `out`, which is what is left of an output. The answer is its length.
-fn write_end(out: &mut [u8], x: u64) -> usize
-    requires { ⌜ length (endLine document01 (timeIn x)) ≤ length (now out) ⌝ }
-    ensures { λ r. ⌜ (r ≡ length (endLine document01 (timeIn x))) × (now (out .exit) ≡ over (now (out .entry)) 0 (endLine document01 (timeIn x))) ⌝ }
-{
-    if x == NEVER {
-        return text::write_fixed(out, 0, b"L,-\n");
-    }
-    lines::write_line(out, b"L,", &[x])
-}
 
 // The bytes that the answer takes.
 pub fn replay_length(mem: &[u64], rooms: usize) -> usize
@@ -78,10 +28,10 @@ pub fn replay_length(mem: &[u64], rooms: usize) -> usize
     let mut t = 0;
     while t < v {
         let first = replaying::first_finish(mem, rooms, t);
-        n += result_length(t as u64, first);
+        n += replicas::result_length(t as u64, first);
         t += 1;
     }
-    n + end_length(ends::end_of(mem, rooms, false))
+    n + replicas::end_length(ends::end_of(mem, rooms, false))
 }
 
 // The R line of task t, written from `at` on. The answer is the place after it.
@@ -90,7 +40,7 @@ fn write_task(out: &mut [u8], at: usize, mem: &[u64], rooms: usize, t: usize) ->
     ensures { λ r. ⌜ (r ≡ at + length (taskLine rooms t (now (mem .entry)))) × (now (out .exit) ≡ over (now (out .entry)) at (taskLine rooms t (now (mem .entry)))) ⌝ }
 {
     let first = replaying::first_finish(mem, rooms, t);
-    at + write_result(&mut out[at..], t as u64, first)
+    at + replicas::write_result(&mut out[at..], t as u64, first)
 }
 
 // The R lines, written at the front of `out`. The answer is their length.
@@ -115,7 +65,7 @@ pub fn write_replay(out: &mut [u8], mem: &[u64], rooms: usize) -> usize
 {
     let at = write_tasks(out, mem, rooms);
     let end = ends::end_of(mem, rooms, false);
-    at + write_end(&mut out[at..], end)
+    at + replicas::write_end(&mut out[at..], end)
 }
 
 // The answer fits an output of this size; the longest has 5,113 bytes.
@@ -136,7 +86,7 @@ pub fn put_replay(stops: &[u8], mem: &mut [u64], rooms: usize, out: &mut [u8]) -
 {
     let mut cells = [0u64; 16];
     let m = mem[1];
-    match plans::load_stops(stops, m, &mut cells) {
+    match stops::load_stops(stops, m, &mut cells) {
         Step::Next(_) => {
             replaying::run_round(mem, rooms, &cells);
             if replay_fits(&mem[..], rooms, out.len()) {

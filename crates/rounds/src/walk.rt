@@ -2,10 +2,10 @@
 ghost use mathlib.Core.Path.{_≡_};
 ghost use Rattle.jobs.specs.Held.{edgeAt, JobStands};
 ghost use Rattle.rounds.specs.Walks.{EntersAt, Entered, LeavesAt, Left};
-use jobs::layout::IN_NEXT;
-use jobs::layout::LINE;
-use jobs::layout::OUT_NEXT;
-use jobs::layout::ROWS;
+use heads::layout::IN_NEXT;
+use heads::layout::LINE;
+use heads::layout::OUT_NEXT;
+use heads::layout::ROWS;
 
 // Where the edges stand among the job's cells.
 pub fn edges_at(mem: &[u64]) -> usize

@@ -3,7 +3,7 @@ ghost use mathlib.Core.Path.{_≡_};
 ghost use Prim.Native.Nat.{_≤_, _<_, _-_, _+_, _^_};
 ghost use lib.ListN.{length, drop};
 ghost use Rattle.definitions.specs.Limits.{document01};
-ghost use Rattle.definitions.specs.Text.{digits, number, exactly, width, lowDigits, decimal};
+ghost use Rattle.definitions.specs.Text.{digits, number, exactly, mark, width, lowDigits, decimal};
 ghost use Rattle.lists.specs.Over.{over};
 ghost use Rattle.text.specs.Told.{numberTold, Placed, told, PlacedAt, written, placeAfter};
 
@@ -105,6 +105,13 @@ pub fn read_fixed(s: &[u8], at: usize, opening: &[u8]) -> Step
         p += 1;
     }
     Step::Next(p)
+}
+
+// The byte after a field that `left` more fields follow.
+pub fn mark_after(left: usize) -> u8
+    ensures { λ r. ⌜ r ≡ mark left ⌝ }
+{
+    if left == 0 { 10 } else { 44 }
 }
 
 // How many digits of n are written.

@@ -4,6 +4,7 @@ use Prim.Native.Nat.{ℕ, zero, suc, _+_, _*_, _%_, _^_, max}
 use lib.Dec.{eqb}
 use lib.ListN.{set}
 use Rattle.definitions.specs.Lists.{if_then_else_, nth}
+use Rattle.ticks.specs.Cells.{neverCell}
 
 -- The first n places of a list, each changed by f, which is given the place and what stands there.
 unfoldable pub lanes : (ℕ → ℕ → ℕ) → ℕ → List ℕ → List ℕ
@@ -18,12 +19,9 @@ arrives x volume delay = (x + volume * delay) % 2 ^ 32
 abbrev pub finishes : ℕ → ℕ → ℕ → ℕ
 finishes x y n = (max x y + n) % 2 ^ 32
 
--- Never in a cell of 32 bits, and in one of 64: the greatest number.
+-- Never in a cell of 32 bits: the greatest number.
 abbrev pub shortNever : ℕ
 shortNever = 4_294_967_295
-
-abbrev pub neverCell : ℕ
-neverCell = 18_446_744_073_709_551_615
 
 -- A tick of 32 bits as a cell of 64.
 abbrev pub widenedTick : ℕ → ℕ

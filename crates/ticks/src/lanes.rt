@@ -3,7 +3,8 @@ ghost use mathlib.Core.Path.{_≡_};
 ghost use Prim.Native.Nat.{_+_, _*_, _%_, _^_, min, max};
 ghost use lib.ListN.{replicate};
 ghost use Rattle.definitions.specs.Lists.{nth, sum};
-ghost use Rattle.ticks.specs.Lanes.{lanes, arrives, finishes, neverCell, widenedTick};
+ghost use Rattle.ticks.specs.Cells.{neverCell};
+ghost use Rattle.ticks.specs.Lanes.{lanes, arrives, finishes, widenedTick};
 use crate::clocks::Clocks;
 
 // Never, in a cell of 64 bits and in one of 32.

@@ -1,4 +1,3 @@
-// What is done on all processors at once, which processors and tasks go first, and the clocks.
-pub mod choice;
+// What is done on all processors at once, and the clocks.
 pub mod clocks;
 pub mod lanes;

@@ -3,8 +3,8 @@ use mathlib.Core.Path.{refl, sym, _∙_}
 use native.Mathlib.Omega.{arith}
 use borrow.Author.Needs.{needs}
 use lib.ListN.{length, drop}
-use Rattle.jobs.specs.Loading.{headOf}
-use Rattle.jobs.proofs.Rooms.{roomy-parts}
+use Rattle.heads.specs.Heads.{headOf}
+use Rattle.heads.proofs.Rooms.{roomy-parts}
 use Rattle.jobs.proofs.Loads.{from-refused, from-short, from-room}
 use Rattle.jobs.proofs.load_job.Statement.{statement}
 use Rattle.jobs.proofs.load_job.Tie as tie

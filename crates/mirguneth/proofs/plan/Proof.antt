@@ -3,8 +3,7 @@ use mathlib.Core.Path.{sym, _∙_}
 use Prim.Native.Nat.{ℕ}
 use borrow.Author.Needs.{needs}
 use lib.ListN.{length-replicate}
-use Rattle.jobs.specs.Loading.{headOf}
-use Rattle.jobs.proofs.Rooms.{rooms-last}
+use Rattle.heads.proofs.Rooms.{rooms-last}
 use Rattle.mirguneth.proofs.Page.{plan-page, plan-refused}
 use Rattle.mirguneth.proofs.plan.Statement.{statement}
 use Rattle.mirguneth.proofs.plan.Tie as tie

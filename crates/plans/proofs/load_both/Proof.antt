@@ -1,7 +1,8 @@
 -- The job is read with its links, and the plan is read for it.
 use borrow.Author.Needs.{needs}
 use lib.ListN.{length, drop}
-use Rattle.jobs.specs.Loading.{headOf, jobFrom}
+use Rattle.heads.specs.Heads.{headOf}
+use Rattle.jobs.specs.Loading.{jobFrom}
 use Rattle.plans.proofs.JobAndPlan.{no-job, job-standing, both-loaded}
 use Rattle.plans.proofs.load_both.Statement.{statement}
 use Rattle.plans.proofs.load_both.Tie as tie

@@ -1,7 +1,8 @@
 -- What the memory holds after both texts were read is what the judgment asks for.
 use borrow.Author.Needs.{needs}
 use lib.ListN.{length, drop}
-use Rattle.jobs.specs.Loading.{headOf, jobFrom}
+use Rattle.heads.specs.Heads.{headOf}
+use Rattle.jobs.specs.Loading.{jobFrom}
 use Rattle.plans.specs.Loading.{withPlan}
 use Rattle.plans.proofs.JobAndPlan.{both-held}
 use Rattle.rounds.proofs.VerdictLaws.{texts-refused, plan-judged}

@@ -1,7 +1,8 @@
 -- What load_job left in the memory is a job with its links, if it was not refused.
 use borrow.Author.Needs.{needs}
 use lib.ListN.{length, drop}
-use Rattle.jobs.specs.Loading.{headOf, jobFrom}
+use Rattle.heads.specs.Heads.{headOf}
+use Rattle.jobs.specs.Loading.{jobFrom}
 use Rattle.jobs.proofs.Loads.{loaded-job}
 use Rattle.rounds.proofs.PlanAnswer.{plan-no, plan-put}
 use Rattle.rounds.proofs.plan_in.Statement.{statement}

@@ -1,7 +1,8 @@
 -- The plan stands in the memory, if neither it nor the job was refused.
 use borrow.Author.Needs.{needs}
 use lib.ListN.{length, drop}
-use Rattle.jobs.specs.Loading.{headOf, jobFrom}
+use Rattle.heads.specs.Heads.{headOf}
+use Rattle.jobs.specs.Loading.{jobFrom}
 use Rattle.plans.specs.Loading.{withPlan}
 use Rattle.plans.proofs.JobAndPlan.{both-held}
 use Rattle.rounds.proofs.ReplayLaws.{replay-refused, replay-put}

@@ -1,17 +1,17 @@
 -- The D lines' cells stand after those of the C lines, and the rest is as load_edges leaves it.
+use borrow.Author.Needs.{needs}
 use mathlib.Core.Path.{refl, sym, ap, _∙_}
 use Prim.Native.Nat.{_-_, _+_}
 use native.Mathlib.Omega.{arith}
-use borrow.Author.Needs.{needs}
-use lib.ListN.{length, drop, length-take, length-drop}
+use lib.ListN.{length, drop}
 use mathlib.Core.List.{map}
 use borrow.Rule.Slice.PartMut.{putMid}
-use Rattle.definitions.specs.Lists.{nth}
+use Rattle.definitions.specs.Lists.{bytes, nth}
 use Rattle.definitions.specs.Job.{jobHeadOf}
 use Rattle.text.specs.Told.{told}
-use Rattle.jobs.specs.Memory.{rows}
+use Rattle.rows.specs.Rows.{rows}
 use Rattle.jobs.specs.Stages.{delaysAt}
-use Rattle.jobs.proofs.CellLaws.{lent-nth, runs-most, delays-most, lent-head, lent-headed, delays-in}
+use Rattle.jobs.proofs.CellLaws.{runs-most, delays-read, lent-head, lent-headed, delays-in}
 use Rattle.jobs.proofs.StageLaws.{delays-no, delays-then}
 use Rattle.jobs.proofs.job.load_delays.Statement.{statement}
 use Rattle.jobs.proofs.job.load_delays.Tie as tie
@@ -26,42 +26,39 @@ add-k : tie.Need-add-k
 add-k c = search needs
 
 mul-a : tie.Need-mul-a
-mul-a c = omega (arith, runs-most (c .before .before .before .before .before .args .mem .now) (c .before .before .before .before .before .pre .0))
+mul-a c = omega (arith, runs-most (c .before .before .before .before .args .mem .now) (c .before .before .before .before .pre))
 
 add-a : tie.Need-add-a
-add-a c = omega (arith, runs-most (c .before .before .before .before .before .args .mem .now) (c .before .before .before .before .before .pre .0))
+add-a c = omega (arith, runs-most (c .before .before .before .before .args .mem .now) (c .before .before .before .before .pre))
 
 slice-aggregate-read-rows : tie.Need-slice-aggregate-read-rows
 slice-aggregate-read-rows c = search needs
 
 mul-read-rows : tie.Need-mul-read-rows
-mul-read-rows c = omega (arith, runs-most (c .before .before .before .before .before .before .args .mem .now) (c .before .before .before .before .before .before .pre .0))
+mul-read-rows c = omega (arith, runs-most (c .before .before .before .before .before .args .mem .now) (c .before .before .before .before .before .pre))
 
 sub-read-rows : tie.Need-sub-read-rows
-sub-read-rows c = omega (arith, runs-most (c .before .before .before .before .before .before .args .mem .now) (c .before .before .before .before .before .before .pre .0))
+sub-read-rows c = omega (arith, runs-most (c .before .before .before .before .before .args .mem .now) (c .before .before .before .before .before .pre))
 
 part-read-rows-start : tie.Need-part-read-rows-start
-part-read-rows-start c = omega (arith, runs-most (c .before .before .before .before .before .before .args .mem .now) (c .before .before .before .before .before .before .pre .0))
+part-read-rows-start c = omega (arith, runs-most (c .before .before .before .before .before .args .mem .now) (c .before .before .before .before .before .pre))
 
 part-read-rows-end : tie.Need-part-read-rows-end
 part-read-rows-end c = search needs
 
 read-rows-requires : tie.Need-read-rows-requires
-read-rows-requires c κs =
-    let r = runs-most (c .before .before .before .before .before .before .before .args .mem .now) (c .before .before .before .before .before .before .before .pre .0) in
-    let t = delays-most (c .before .before .before .before .before .before .before .args .mem .now) (c .before .before .before .before .before .before .before .pre .0) in
-    (omega arith, simp (length-take, length-drop) (omega arith), λ _. omega arith)
+read-rows-requires c κs = search needs
 
 enum-known-p : tie.Need-enum-known-p
 enum-known-p c = search needs
 
 load-edges-requires : tie.Need-load-edges-requires
 load-edges-requires c κs =
-    let d = c .before .before .before .before .before .before .before .before .before .before .before .before .before .before .before .args .mem .now in
+    let d = c .before .before .before .before .before .before .before .before .before .before .before .before .before .args .mem .now in
     let a = delaysAt (jobHeadOf d) in
-    let ys = c .before .before .before .before .before .before .before .read-rows .last .1 .1 .1 .1 .1 .1 .0 in
-    let r = runs-most d (c .before .before .before .before .before .before .before .before .before .before .before .before .before .before .before .pre .0) in
-    (lent-headed d (putMid a (length d - a) d ys) ys a refl (c .before .before .before .before .before .before .before .read-rows .kept .1 .1 .1 .1 .1 .1 .0) (omega arith) (omega arith) (c .before .before .before .before .before .before .before .before .before .before .before .before .before .before .before .pre .0), rw (lent-nth d (putMid a (length d - a) d ys) ys a refl (omega arith) 0 (omega arith)) (c .before .before .before .before .before .before .before .before .before .before .before .before .before .before .before .pre .1))
+    let ys = c .before .before .before .before .before .before .read-rows .last .1 .1 .1 .1 .1 .1 .0 in
+    let r = runs-most d (c .before .before .before .before .before .before .before .before .before .before .before .before .before .pre) in
+    lent-headed d (putMid a (length d - a) d ys) ys a refl (c .before .before .before .before .before .before .read-rows .kept .1 .1 .1 .1 .1 .1 .0) (omega arith) (omega arith) (c .before .before .before .before .before .before .before .before .before .before .before .before .before .pre)
 
 enum-known-n : tie.Need-enum-known-n
 enum-known-n c = search needs
@@ -69,31 +66,32 @@ enum-known-n c = search needs
 same-length : tie.Need-same-length
 same-length c = search needs
 
+returns : tie.Need-returns
+returns c runs q =
+    let s = c .before .before .before .before .before .before .before .before .before .before .before .before .before .before .before .before .args .s .now in
+    let d = c .before .before .before .before .before .before .before .before .before .before .before .before .before .before .before .before .args .mem .now in
+    let at = c .before .before .before .before .before .before .before .before .before .before .before .before .before .before .before .before .args .at in
+    let w = c .before .before .before .before .before .before .before .before .before .before .before .before .before .before .before .before .pre in
+    let a = delaysAt (jobHeadOf d) in
+    let ys = c .before .before .before .before .before .before .before .before .before .read-rows .last .1 .1 .1 .1 .1 .1 .0 in
+    let x = putMid a (length d - a) d ys in
+    let ds = rows (1 + nth d 1) (nth d 1) ys in
+    let r = runs-most d w in
+    let f = sym (c .before .before .before .before .before .before .before .before .before .read-rows .ensures ∙ delays-read d w (bytes "D,") (drop at s)) ∙ ap (told s ds) (c .before .before .before .before .before .p .given .1) in
+    delays-then (jobHeadOf d) runs (drop at s) _ ds _ f (jobHeadOf x) (lent-head d x ys a refl (omega arith) (omega arith)) _
+    (c .before .before .load-edges .ensures runs (map (drop 1) ds) (delays-in d x ys w runs q refl _ _ f))
+
 same-length-2 : tie.Need-same-length-2
 same-length-2 c = search needs
 
-returns : tie.Need-returns
-returns c runs q =
-    let s = c .before .before .before .before .before .before .before .before .before .before .before .before .before .before .before .before .before .before .before .before .args .s .now in
-    let d = c .before .before .before .before .before .before .before .before .before .before .before .before .before .before .before .before .before .before .before .before .args .mem .now in
-    let a = delaysAt (jobHeadOf d) in
-    let ys = c .before .before .before .before .before .before .before .before .before .before .before .before .read-rows .last .1 .1 .1 .1 .1 .1 .0 in
-    let x = putMid a (length d - a) d ys in
-    let ds = rows (1 + nth d 1) (nth d 1) ys in
-    let r = runs-most d (c .before .before .before .before .before .before .before .before .before .before .before .before .before .before .before .before .before .before .before .before .pre .0) in
-    let f = sym (c .before .before .before .before .before .before .before .before .before .before .before .before .read-rows .ensures) ∙ ap (told s ds) (c .before .before .before .before .before .before .before .before .p .given .1) in
-    delays-then (jobHeadOf d) runs (drop (c .before .before .before .before .before .before .before .before .before .before .before .before .before .before .before .before .before .before .before .before .args .at) s) _ ds _ f (jobHeadOf x) (lent-head d x ys a refl (omega arith) (omega arith)) _
-    (c .before .before .before .before .load-edges .ensures runs (map (drop 1) ds) (delays-in d x ys (c .before .before .before .before .before .before .before .before .before .before .before .before .before .before .before .before .before .before .before .before .pre .0) runs q refl _ _ f))
-
-same-length-3 : tie.Need-same-length-3
-same-length-3 c = search needs
-
 returns-2 : tie.Need-returns-2
 returns-2 c runs q =
-    let s = c .before .before .before .before .before .before .before .before .before .before .before .before .before .args .s .now in
-    let d = c .before .before .before .before .before .before .before .before .before .before .before .before .before .args .mem .now in
+    let s = c .before .before .before .before .before .before .before .before .before .before .before .before .args .s .now in
+    let d = c .before .before .before .before .before .before .before .before .before .before .before .before .args .mem .now in
+    let at = c .before .before .before .before .before .before .before .before .before .before .before .before .args .at in
+    let w = c .before .before .before .before .before .before .before .before .before .before .before .before .pre in
     let ds = rows (1 + nth d 1) (nth d 1) (c .before .before .before .before .before .read-rows .last .1 .1 .1 .1 .1 .1 .0) in
-    delays-no (jobHeadOf d) runs (drop (c .before .before .before .before .before .before .before .before .before .before .before .before .before .args .at) s) _ _ (sym (c .before .before .before .before .before .read-rows .ensures) ∙ ap (told s ds) (c .before .n .given .1))
+    delays-no (jobHeadOf d) runs (drop at s) _ _ (sym (c .before .before .before .before .before .read-rows .ensures ∙ delays-read d w (bytes "D,") (drop at s)) ∙ ap (told s ds) (c .before .n .given .1))
 
 pub load-delays-spec : {M : Type 1} → statement M
 load-delays-spec =
@@ -114,7 +112,6 @@ load-delays-spec =
     load-edges-requires
     enum-known-n
     same-length
-    same-length-2
     returns
-    same-length-3
+    same-length-2
     returns-2)

@@ -1,62 +1,62 @@
 -- The edges' cells stand after those of the C and D lines; the circle is tried on them.
+use borrow.Author.Needs.{needs}
 use mathlib.Core.Path.{refl, sym, ap, _∙_}
 use mathlib.Core.List.{map}
 use native.Mathlib.Omega.{arith}
-use borrow.Author.Needs.{needs}
-use lib.ListN.{take, drop, length-take, length-drop}
+use lib.ListN.{take, drop, length-take}
 use Rattle.definitions.specs.Lists.{nth}
 use Rattle.definitions.specs.Job.{jobHeadOf}
 use Rattle.text.specs.Told.{told}
-use Rattle.jobs.specs.Memory.{edgeIn}
-use Rattle.jobs.proofs.CellLaws.{rows-most, edges-fit, edges-part, edges-in}
+use Rattle.orders.specs.Edges.{edgeIn}
+use Rattle.jobs.proofs.CellLaws.{rows-most, edges-read, edges-fit, edges-part, edges-in}
 use Rattle.jobs.proofs.StageLaws.{edges-within, edges-no, edges-closed}
 use Rattle.jobs.proofs.job.load_edges.Statement.{statement}
 use Rattle.jobs.proofs.job.load_edges.Tie as tie
 
 slice-read-v : tie.Need-slice-read-v
-slice-read-v c = omega (arith, c .before .before .before .before .pre .0 .room)
+slice-read-v c = omega (arith, c .before .before .before .pre .room)
 
 slice-read-m : tie.Need-slice-read-m
-slice-read-m c = omega (arith, c .before .before .before .before .before .pre .0 .room)
+slice-read-m c = omega (arith, c .before .before .before .before .pre .room)
 
 slice-read-e : tie.Need-slice-read-e
-slice-read-e c = omega (arith, c .before .before .before .before .before .before .pre .0 .room)
+slice-read-e c = omega (arith, c .before .before .before .before .before .pre .room)
 
 add-a : tie.Need-add-a
-add-a c = omega (arith, c .before .before .before .before .before .before .pre .0 .tasks-most, c .before .before .before .before .before .before .pre .0 .processors-most)
+add-a c = omega (arith, c .before .before .before .before .before .pre .tasks-most, c .before .before .before .before .before .pre .processors-most)
 
 add-a-2 : tie.Need-add-a-2
-add-a-2 c = omega (arith, c .before .before .before .before .before .before .pre .0 .processors-most)
+add-a-2 c = omega (arith, c .before .before .before .before .before .pre .processors-most)
 
 mul-a : tie.Need-mul-a
-mul-a c = omega (arith, rows-most (c .before .before .before .before .before .before .args .mem .now) (c .before .before .before .before .before .before .pre .0))
+mul-a c = omega (arith, rows-most (c .before .before .before .before .before .args .mem .now) (c .before .before .before .before .before .pre))
 
 add-a-3 : tie.Need-add-a-3
-add-a-3 c = omega (arith, rows-most (c .before .before .before .before .before .before .args .mem .now) (c .before .before .before .before .before .before .pre .0))
+add-a-3 c = omega (arith, rows-most (c .before .before .before .before .before .args .mem .now) (c .before .before .before .before .before .pre))
 
 mul-read-edges : tie.Need-mul-read-edges
-mul-read-edges c = omega (arith, rows-most (c .before .before .before .before .before .before .args .mem .now) (c .before .before .before .before .before .before .pre .0))
+mul-read-edges c = omega (arith, rows-most (c .before .before .before .before .before .args .mem .now) (c .before .before .before .before .before .pre))
 
 sub-read-edges : tie.Need-sub-read-edges
-sub-read-edges c = omega (arith, rows-most (c .before .before .before .before .before .before .args .mem .now) (c .before .before .before .before .before .before .pre .0), c .before .before .before .before .before .before .pre .0 .room)
+sub-read-edges c = omega (arith, rows-most (c .before .before .before .before .before .args .mem .now) (c .before .before .before .before .before .pre), c .before .before .before .before .before .pre .room)
 
 part-read-edges-start : tie.Need-part-read-edges-start
-part-read-edges-start c = omega (arith, rows-most (c .before .before .before .before .before .before .args .mem .now) (c .before .before .before .before .before .before .pre .0), c .before .before .before .before .before .before .pre .0 .room)
+part-read-edges-start c = omega (arith, rows-most (c .before .before .before .before .before .args .mem .now) (c .before .before .before .before .before .pre), c .before .before .before .before .before .pre .room)
 
 part-read-edges-end : tie.Need-part-read-edges-end
 part-read-edges-end c = search needs
 
 read-edges-requires : tie.Need-read-edges-requires
-read-edges-requires c κs = (c .before .before .before .before .before .before .before .before .pre .0 .tasks-most, simp (length-take, length-drop) (omega (arith, c .before .before .before .before .before .before .before .before .pre .0 .room)), c .before .before .before .before .before .before .before .before .pre .1)
+read-edges-requires c κs = search needs
 
 enum-known-p : tie.Need-enum-known-p
 enum-known-p c = search needs
 
 add-end : tie.Need-add-end
-add-end c = omega (arith, rows-most (c .before .before .before .before .before .before .before .before .before .before .before .before .before .before .before .before .args .mem .now) (c .before .before .before .before .before .before .before .before .before .before .before .before .before .before .before .before .pre .0), c .before .before .before .before .before .before .before .before .before .before .before .before .before .before .before .before .pre .0 .edges-most)
+add-end c = omega (arith, rows-most (c .before .before .before .before .before .before .before .before .before .before .before .before .args .mem .now) (c .before .before .before .before .before .before .before .before .before .before .before .before .pre), c .before .before .before .before .before .before .before .before .before .before .before .before .pre .edges-most)
 
 mul-close : tie.Need-mul-close
-mul-close c = omega (arith, rows-most (c .before .before .before .before .before .before .before .before .before .before .before .before .before .before .before .before .args .mem .now) (c .before .before .before .before .before .before .before .before .before .before .before .before .before .before .before .before .pre .0))
+mul-close c = omega (arith, rows-most (c .before .before .before .before .before .before .before .before .before .before .before .before .args .mem .now) (c .before .before .before .before .before .before .before .before .before .before .before .before .pre))
 
 sub-close : tie.Need-sub-close
 sub-close c = search needs
@@ -65,18 +65,18 @@ part-close-start : tie.Need-part-close-start
 part-close-start c = search needs
 
 part-close-end : tie.Need-part-close-end
-part-close-end c = edges-fit (c .before .before .before .before .before .before .before .before .before .before .before .before .before .before .before .before .before .args .mem .now) _ (c .before .before .before .before .before .before .before .before .read-edges .last .1 .1 .1 .1 .0) (c .before .before .before .before .before .before .before .before .before .before .before .before .before .before .before .before .before .pre .0) refl (c .before .before .before .before .before .before .before .before .read-edges .kept .1 .1 .1 .1 .0)
+part-close-end c = edges-fit (c .before .before .before .before .before .before .before .before .before .before .before .before .before .args .mem .now) _ (c .before .before .before .before .before .before .read-edges .last .1 .1 .1 .1 .0) (c .before .before .before .before .before .before .before .before .before .before .before .before .before .pre) refl (c .before .before .before .before .before .before .read-edges .kept .1 .1 .1 .1 .0)
 
 close-requires : tie.Need-close-requires
-close-requires c κs = let s = c .before .before .before .before .before .before .before .before .before .before .before .before .before .before .before .before .before .before .args .s .now in
-    let d = c .before .before .before .before .before .before .before .before .before .before .before .before .before .before .before .before .before .before .args .mem .now in
-    let ys = c .before .before .before .before .before .before .before .before .before .read-edges .last .1 .1 .1 .1 .0 in
+close-requires c κs = let s = c .before .before .before .before .before .before .before .before .before .before .before .before .before .before .args .s .now in
+    let d = c .before .before .before .before .before .before .before .before .before .before .before .before .before .before .args .mem .now in
+    let ys = c .before .before .before .before .before .before .before .read-edges .last .1 .1 .1 .1 .0 in
     let es = map edgeIn (take (nth d 2) ys) in
-    let w = c .before .before .before .before .before .before .before .before .before .before .before .before .before .before .before .before .before .before .pre .0 in
-    let q = edges-part d _ ys w refl (c .before .before .before .before .before .before .before .before .before .read-edges .kept .1 .1 .1 .1 .0) in (
+    let w = c .before .before .before .before .before .before .before .before .before .before .before .before .before .before .pre in
+    let q = edges-part d _ ys w refl (c .before .before .before .before .before .before .before .read-edges .kept .1 .1 .1 .1 .0) in (
       w .tasks-most,
       rw q (omega (arith, length-take (nth d 2) ys, w .edges-most)),
-      rw q (edges-within (nth d 0) (nth d 2) _ es _ (sym (c .before .before .before .before .before .before .before .before .before .read-edges .ensures) ∙ ap (told s es) (c .before .before .before .p .given .1))),
+      rw q (edges-within (nth d 0) (nth d 2) _ es _ (sym (c .before .before .before .before .before .before .before .read-edges .ensures ∙ edges-read d (c .before .before .before .before .before .before .before .before .before .before .before .before .before .before .pre) (drop (c .before .before .before .before .before .before .before .before .before .before .before .before .before .before .args .at) s)) ∙ ap (told s es) (c .before .before .before .p .given .1))),
     )
 
 enum-known-n : tie.Need-enum-known-n
@@ -85,32 +85,26 @@ enum-known-n c = search needs
 same-length : tie.Need-same-length
 same-length c = search needs
 
+returns : tie.Need-returns
+returns c runs delays q =
+    let s = c .before .before .before .before .before .before .before .before .before .before .before .before .before .before .before .args .s .now in
+    let d = c .before .before .before .before .before .before .before .before .before .before .before .before .before .before .before .args .mem .now in
+    let ys = c .before .before .before .before .before .before .before .before .read-edges .last .1 .1 .1 .1 .0 in
+    let l = c .before .before .before .before .before .before .before .before .read-edges .kept .1 .1 .1 .1 .0 in
+    let es = map edgeIn (take (nth d 2) ys) in
+    rw (c .close .ensures, edges-part d _ ys (c .before .before .before .before .before .before .before .before .before .before .before .before .before .before .before .pre) refl l)
+    (edges-closed (jobHeadOf d) runs delays (drop (c .before .before .before .before .before .before .before .before .before .before .before .before .before .before .before .args .at) s) _ es s (c .before .before .before .before .p .given .0 .0) (sym (c .before .before .before .before .before .before .before .before .read-edges .ensures ∙ edges-read d (c .before .before .before .before .before .before .before .before .before .before .before .before .before .before .before .pre) (drop (c .before .before .before .before .before .before .before .before .before .before .before .before .before .before .before .args .at) s)) ∙ ap (told s es) (c .before .before .before .before .p .given .1))
+    _ (edges-fit d _ ys (c .before .before .before .before .before .before .before .before .before .before .before .before .before .before .before .pre) refl l) (edges-in d _ ys (c .before .before .before .before .before .before .before .before .before .before .before .before .before .before .before .pre) refl l runs delays q))
+
 same-length-2 : tie.Need-same-length-2
 same-length-2 c = search needs
 
-returns : tie.Need-returns
-returns c runs delays q =
-    let s = c .before .before .before .before .before .before .before .before .before .before .before .before .before .before .before .before .before .before .before .args .s .now in
-    let d = c .before .before .before .before .before .before .before .before .before .before .before .before .before .before .before .before .before .before .before .args .mem .now in
-    let ys = c .before .before .before .before .before .before .before .before .before .before .read-edges .last .1 .1 .1 .1 .0 in
-    let l = c .before .before .before .before .before .before .before .before .before .before .read-edges .kept .1 .1 .1 .1 .0 in
-    let es = map edgeIn (take (nth d 2) ys) in
-    rw (c .close .ensures, edges-part d _ ys (c .before .before .before .before .before .before .before .before .before .before .before .before .before .before .before .before .before .before .before .pre .0) refl l)
-    (edges-closed (jobHeadOf d) runs delays (drop (c .before .before .before .before .before .before .before .before .before .before .before .before .before .before .before .before .before .before .before .args .at) s) _ es s (c .before .before .before .before .p .given .0 .0) (sym (c .before .before .before .before .before .before .before .before .before .before .read-edges .ensures) ∙ ap (told s es) (c .before .before .before .before .p .given .1))
-    _ (edges-fit d _ ys (c .before .before .before .before .before .before .before .before .before .before .before .before .before .before .before .before .before .before .before .pre .0) refl l) (edges-in d _ ys (c .before .before .before .before .before .before .before .before .before .before .before .before .before .before .before .before .before .before .before .pre .0) refl l runs delays q))
-
-same-length-3 : tie.Need-same-length-3
-same-length-3 c = search needs
-
-same-length-4 : tie.Need-same-length-4
-same-length-4 c = search needs
-
 returns-2 : tie.Need-returns-2
 returns-2 c runs delays q =
-    let s = c .before .before .before .before .before .before .before .before .before .before .before .before .before .before .before .before .args .s .now in
-    let d = c .before .before .before .before .before .before .before .before .before .before .before .before .before .before .before .before .args .mem .now in
-    let es = map edgeIn (take (nth d 2) (c .before .before .before .before .before .before .before .read-edges .last .1 .1 .1 .1 .0)) in
-    edges-no (jobHeadOf d) runs delays (drop (c .before .before .before .before .before .before .before .before .before .before .before .before .before .before .before .before .args .at) s) _ _ (sym (c .before .before .before .before .before .before .before .read-edges .ensures) ∙ ap (told s es) (c .before .n .given .1))
+    let s = c .before .before .before .before .before .before .before .before .before .before .before .before .args .s .now in
+    let d = c .before .before .before .before .before .before .before .before .before .before .before .before .args .mem .now in
+    let es = map edgeIn (take (nth d 2) (c .before .before .before .before .before .read-edges .last .1 .1 .1 .1 .0)) in
+    edges-no (jobHeadOf d) runs delays (drop (c .before .before .before .before .before .before .before .before .before .before .before .before .args .at) s) _ _ (sym (c .before .before .before .before .before .read-edges .ensures ∙ edges-read d (c .before .before .before .before .before .before .before .before .before .before .before .before .pre) (drop (c .before .before .before .before .before .before .before .before .before .before .before .before .args .at) s)) ∙ ap (told s es) (c .before .n .given .1))
 
 pub load-edges-spec : {M : Type 1} → statement M
 load-edges-spec =
@@ -137,8 +131,6 @@ load-edges-spec =
     close-requires
     enum-known-n
     same-length
-    same-length-2
     returns
-    same-length-3
-    same-length-4
+    same-length-2
     returns-2)

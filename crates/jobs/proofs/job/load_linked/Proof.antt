@@ -3,8 +3,8 @@ use mathlib.Core.Path.{_∙_}
 use native.Mathlib.Omega.{arith}
 use borrow.Author.Needs.{needs}
 use lib.ListN.{drop}
-use Rattle.jobs.specs.Stages.{fromRuns, closed}
-use Rattle.jobs.specs.Loading.{headOf}
+use Rattle.heads.specs.Stages.{fromRuns, closed}
+use Rattle.heads.specs.Heads.{headOf}
 use Rattle.jobs.proofs.Loads.{rest-held, rest-linked, rest-refused}
 use Rattle.jobs.proofs.job.load_linked.Statement.{statement}
 use Rattle.jobs.proofs.job.load_linked.Tie as tie

@@ -1,16 +1,16 @@
 -- The C lines' cells stand after the head, and the rest is as load_delays leaves it.
+use borrow.Author.Needs.{needs}
 use mathlib.Core.Path.{refl, sym, ap, _∙_}
 use Prim.Native.Nat.{_-_, _+_}
 use native.Mathlib.Omega.{arith}
-use borrow.Author.Needs.{needs}
-use lib.ListN.{length, drop, length-take, length-drop}
+use lib.ListN.{length, drop}
 use mathlib.Core.List.{map}
 use borrow.Rule.Slice.PartMut.{putMid}
-use Rattle.definitions.specs.Lists.{nth}
+use Rattle.definitions.specs.Lists.{bytes, nth}
 use Rattle.definitions.specs.Job.{jobHeadOf}
 use Rattle.text.specs.Told.{told}
-use Rattle.jobs.specs.Memory.{rows}
-use Rattle.jobs.proofs.CellLaws.{lent-nth, runs-most, lent-head, lent-headed, runs-in, runs-are-not}
+use Rattle.rows.specs.Rows.{rows}
+use Rattle.jobs.proofs.CellLaws.{runs-read, lent-head, lent-headed, runs-in}
 use Rattle.jobs.proofs.StageLaws.{runs-no, runs-then}
 use Rattle.jobs.proofs.job.load_runs.Statement.{statement}
 use Rattle.jobs.proofs.job.load_runs.Tie as tie
@@ -37,18 +37,16 @@ part-read-rows-end : tie.Need-part-read-rows-end
 part-read-rows-end c = search needs
 
 read-rows-requires : tie.Need-read-rows-requires
-read-rows-requires c κs =
-    let r = runs-most (c .before .before .before .before .before .before .before .args .mem .now) (c .before .before .before .before .before .before .before .pre .0) in
-    (omega arith, simp (length-take, length-drop) (omega arith), λ e. absurd (runs-are-not e))
+read-rows-requires c κs = search needs
 
 enum-known-p : tie.Need-enum-known-p
 enum-known-p c = search needs
 
 load-delays-requires : tie.Need-load-delays-requires
 load-delays-requires c κs =
-    let d = c .before .before .before .before .before .before .before .before .before .before .before .before .before .before .before .args .mem .now in
-    let ys = c .before .before .before .before .before .before .before .read-rows .last .1 .1 .1 .1 .1 .1 .0 in
-    (lent-headed d (putMid 4 (length d - 4) d ys) ys 4 refl (c .before .before .before .before .before .before .before .read-rows .kept .1 .1 .1 .1 .1 .1 .0) (omega arith) (omega arith) (c .before .before .before .before .before .before .before .before .before .before .before .before .before .before .before .pre .0), rw (lent-nth d (putMid 4 (length d - 4) d ys) ys 4 refl (omega arith) 0 (omega arith)) (c .before .before .before .before .before .before .before .before .before .before .before .before .before .before .before .pre .1))
+    let d = c .before .before .before .before .before .before .before .before .before .before .before .before .before .args .mem .now in
+    let ys = c .before .before .before .before .before .before .read-rows .last .1 .1 .1 .1 .1 .1 .0 in
+    lent-headed d (putMid 4 (length d - 4) d ys) ys 4 refl (c .before .before .before .before .before .before .read-rows .kept .1 .1 .1 .1 .1 .1 .0) (omega arith) (omega arith) (c .before .before .before .before .before .before .before .before .before .before .before .before .before .pre)
 
 enum-known-n : tie.Need-enum-known-n
 enum-known-n c = search needs
@@ -56,29 +54,30 @@ enum-known-n c = search needs
 same-length : tie.Need-same-length
 same-length c = search needs
 
+returns : tie.Need-returns
+returns c =
+    let s = c .before .before .before .before .before .before .before .before .before .before .before .before .before .before .before .before .args .s .now in
+    let d = c .before .before .before .before .before .before .before .before .before .before .before .before .before .before .before .before .args .mem .now in
+    let at = c .before .before .before .before .before .before .before .before .before .before .before .before .before .before .before .before .args .at in
+    let w = c .before .before .before .before .before .before .before .before .before .before .before .before .before .before .before .before .pre in
+    let ys = c .before .before .before .before .before .before .before .before .before .read-rows .last .1 .1 .1 .1 .1 .1 .0 in
+    let x = putMid 4 (length d - 4) d ys in
+    let rs = rows (1 + nth d 1) (nth d 0) ys in
+    let f = sym (c .before .before .before .before .before .before .before .before .before .read-rows .ensures ∙ runs-read d w (bytes "C,") (drop at s)) ∙ ap (told s rs) (c .before .before .before .before .before .p .given .1) in
+    runs-then (jobHeadOf d) (drop at s) _ rs _ f (jobHeadOf x) (lent-head d x ys 4 refl (omega arith) (omega arith)) _
+    (c .before .before .load-delays .ensures (map (drop 1) rs) (runs-in d x ys w refl _ _ f))
+
 same-length-2 : tie.Need-same-length-2
 same-length-2 c = search needs
 
-returns : tie.Need-returns
-returns c =
-    let s = c .before .before .before .before .before .before .before .before .before .before .before .before .before .before .before .before .before .before .before .before .args .s .now in
-    let d = c .before .before .before .before .before .before .before .before .before .before .before .before .before .before .before .before .before .before .before .before .args .mem .now in
-    let ys = c .before .before .before .before .before .before .before .before .before .before .before .before .read-rows .last .1 .1 .1 .1 .1 .1 .0 in
-    let x = putMid 4 (length d - 4) d ys in
-    let rs = rows (1 + nth d 1) (nth d 0) ys in
-    let f = sym (c .before .before .before .before .before .before .before .before .before .before .before .before .read-rows .ensures) ∙ ap (told s rs) (c .before .before .before .before .before .before .before .before .p .given .1) in
-    runs-then (jobHeadOf d) (drop (c .before .before .before .before .before .before .before .before .before .before .before .before .before .before .before .before .before .before .before .before .args .at) s) _ rs _ f (jobHeadOf x) (lent-head d x ys 4 refl (omega arith) (omega arith)) _
-    (c .before .before .before .before .load-delays .ensures (map (drop 1) rs) (runs-in d x ys (c .before .before .before .before .before .before .before .before .before .before .before .before .before .before .before .before .before .before .before .before .pre .0) refl _ _ f))
-
-same-length-3 : tie.Need-same-length-3
-same-length-3 c = search needs
-
 returns-2 : tie.Need-returns-2
 returns-2 c =
-    let s = c .before .before .before .before .before .before .before .before .before .before .before .before .before .args .s .now in
-    let d = c .before .before .before .before .before .before .before .before .before .before .before .before .before .args .mem .now in
+    let s = c .before .before .before .before .before .before .before .before .before .before .before .before .args .s .now in
+    let d = c .before .before .before .before .before .before .before .before .before .before .before .before .args .mem .now in
+    let at = c .before .before .before .before .before .before .before .before .before .before .before .before .args .at in
+    let w = c .before .before .before .before .before .before .before .before .before .before .before .before .pre in
     let rs = rows (1 + nth d 1) (nth d 0) (c .before .before .before .before .before .read-rows .last .1 .1 .1 .1 .1 .1 .0) in
-    runs-no (jobHeadOf d) (drop (c .before .before .before .before .before .before .before .before .before .before .before .before .before .args .at) s) _ _ (sym (c .before .before .before .before .before .read-rows .ensures) ∙ ap (told s rs) (c .before .n .given .1))
+    runs-no (jobHeadOf d) (drop at s) _ _ (sym (c .before .before .before .before .before .read-rows .ensures ∙ runs-read d w (bytes "C,") (drop at s)) ∙ ap (told s rs) (c .before .n .given .1))
 
 pub load-runs-spec : {M : Type 1} → statement M
 load-runs-spec =
@@ -96,7 +95,6 @@ load-runs-spec =
     load-delays-requires
     enum-known-n
     same-length
-    same-length-2
     returns
-    same-length-3
+    same-length-2
     returns-2)

@@ -2,7 +2,7 @@
 use mathlib.Core.Path.{refl}
 use native.Mathlib.Omega.{arith}
 use borrow.Author.Needs.{needs}
-use Rattle.jobs.proofs.Rooms.{fits-most}
+use Rattle.heads.proofs.Rooms.{fits-most}
 use Rattle.jobs.proofs.job.load_text.Statement.{statement}
 use Rattle.jobs.proofs.job.load_text.Tie as tie
 

@@ -5,7 +5,7 @@ use native.Mathlib.Omega.{arith}
 use borrow.Author.Needs.{needs}
 use lib.ListN.{length-set}
 use Rattle.definitions.specs.Lists.{nth}
-use Rattle.jobs.specs.Layout.{inHeadAt, outHeadAt, levelAt}
+use Rattle.heads.specs.Layout.{inHeadAt, outHeadAt, levelAt}
 use Rattle.lists.specs.Kept.{KeptOutside}
 use Rattle.lists.proofs.Kept.{kept-all, kept-set}
 use Rattle.jobs.proofs.LinkLaws.{cleared-next}

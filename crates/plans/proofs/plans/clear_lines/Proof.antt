@@ -4,7 +4,7 @@ use native.Mathlib.Omega.{arith}
 use borrow.Author.Needs.{needs}
 use lib.ListN.{length}
 use Rattle.definitions.specs.Lists.{nth}
-use Rattle.jobs.specs.Layout.{lineAt, blockedAt}
+use Rattle.heads.specs.Layout.{lineAt, blockedAt}
 use Rattle.lists.specs.Kept.{KeptOutside}
 use Rattle.lists.proofs.Kept.{kept-all, kept-set}
 use Rattle.plans.proofs.PlanReading.{cleared-more}

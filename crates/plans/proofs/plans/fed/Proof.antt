@@ -4,7 +4,7 @@ use Prim.Native.Nat.{_≤_, _+_}
 use native.Mathlib.Omega.{arith}
 use borrow.Author.Needs.{needs}
 use Rattle.definitions.specs.Lists.{nth}
-use Rattle.jobs.specs.Layout.{inHeadAt}
+use Rattle.heads.specs.Layout.{inHeadAt}
 use Rattle.jobs.proofs.Held.{sizes}
 use Rattle.plans.proofs.PlanLaws.{linedFrom, lined-all, lined-end, lined-no, lined-next, link-falls}
 use Rattle.plans.proofs.plans.fed.Statement.{statement}

@@ -6,7 +6,7 @@ use borrow.Author.Needs.{needs}
 use lib.ListN.{length-set}
 use Rattle.definitions.specs.Lists.{nth}
 use Rattle.text.specs.Told.{told}
-use Rattle.jobs.specs.Layout.{lineAt, farAt}
+use Rattle.heads.specs.Layout.{lineAt, farAt}
 use Rattle.jobs.proofs.Held.{sizes}
 use Rattle.lists.proofs.Kept.{kept-then, kept-wider}
 use Rattle.plans.specs.Lines.{linesIn}

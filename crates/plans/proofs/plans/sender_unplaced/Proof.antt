@@ -6,7 +6,7 @@ use borrow.Author.Needs.{needs}
 use lib.ListN.{length}
 use Rattle.definitions.specs.Lists.{nth}
 use Rattle.jobs.specs.Held.{edgeAt, JobHeld}
-use Rattle.jobs.specs.Layout.{lineAt}
+use Rattle.heads.specs.Layout.{lineAt}
 use Rattle.jobs.proofs.Held.{sizes, from-below}
 use Rattle.plans.proofs.plans.sender_unplaced.Statement.{statement}
 use Rattle.plans.proofs.plans.sender_unplaced.Tie as tie

@@ -2,7 +2,6 @@
 use mathlib.Core.Path.{_≡_, refl}
 use Prim.Native.Nat.{_≤_, _-_, _+_}
 use native.Mathlib.Omega.{arith}
-use borrow.Author.Needs.{needs}
 use borrow.Author.Needs.{needs, elem-fits-field}
 use mir.Syntax.{w32, w64}
 use lib.ListN.{getD}
@@ -26,16 +25,16 @@ shared-slice-read-w : tie.Need-shared-slice-read-w Inv-loop μ-loop
 shared-slice-read-w c = let s = sizes (c .before .before .pre .0 .standing .job) in omega arith
 
 add-w : tie.Need-add-w Inv-loop μ-loop
-add-w c = let s = sizes (c .before .before .pre .0 .standing .job) in omega arith
+add-w c = omega (arith, sizes (c .before .before .pre .0 .standing .job) .losses-most)
 
 mul-a : tie.Need-mul-a Inv-loop μ-loop
-mul-a c = let s = sizes (c .before .before .pre .0 .standing .job) in omega arith
+mul-a c = omega (arith, c .before .before .pre .2, sizes (c .before .before .pre .0 .standing .job) .tasks-most .0)
 
 add-a : tie.Need-add-a Inv-loop μ-loop
 add-a c = let s = sizes (c .before .before .pre .0 .standing .job) in omega arith
 
 mul-t : tie.Need-mul-t Inv-loop μ-loop
-mul-t c = let s = sizes (c .before .before .pre .0 .standing .job) in omega arith
+mul-t c = omega (arith, c .before .before .pre .2, sizes (c .before .before .pre .0 .standing .job) .tasks-most .0)
 
 shared-slice-read-t : tie.Need-shared-slice-read-t Inv-loop μ-loop
 shared-slice-read-t c = let s = sizes (c .before .before .before .pre .0 .standing .job) in omega arith
@@ -47,10 +46,10 @@ loop-holds : tie.Need-loop-holds Inv-loop μ-loop
 loop-holds c = (omega arith, agrees-none (c .before .before .before .before .args .rooms) (c .before .before .before .before .args .k) (c .before .before .before .before .args .mem .now))
 
 mul-p : tie.Need-mul-p Inv-loop μ-loop
-mul-p c = let s = sizes (c .before .before .before .before .before .before .pre .0 .standing .job) in omega arith
+mul-p c = omega (arith, c .loop-test .taken, sizes (c .before .before .before .before .before .before .pre .0 .standing .job) .losses-most)
 
 add-p : tie.Need-add-p Inv-loop μ-loop
-add-p c = let s = sizes (c .before .before .before .before .before .before .pre .0 .standing .job) in omega arith
+add-p c = omega (arith, c .loop-test .taken, sizes (c .before .before .before .before .before .before .pre .0 .standing .job) .losses-most)
 
 add-p-2 : tie.Need-add-p-2 Inv-loop μ-loop
 add-p-2 c = let s = sizes (c .before .before .before .before .before .before .pre .0 .standing .job) in omega arith
@@ -71,10 +70,10 @@ cast-if1 : tie.Need-cast-if1 Inv-loop μ-loop
 cast-if1 c = search needs
 
 mul-if1-2 : tie.Need-mul-if1-2 Inv-loop μ-loop
-mul-if1-2 c = let s = sizes (c .before .before .before .before .before .before .before .before .pre .0 .standing .job) in omega arith
+mul-if1-2 c = omega (arith, c .before .before .loop-test .taken, sizes (c .before .before .before .before .before .before .before .before .pre .0 .standing .job) .losses-most)
 
 add-if1 : tie.Need-add-if1 Inv-loop μ-loop
-add-if1 c = let s = sizes (c .before .before .before .before .before .before .before .before .pre .0 .standing .job) in omega arith
+add-if1 c = omega (arith, c .before .before .loop-test .taken, sizes (c .before .before .before .before .before .before .before .before .pre .0 .standing .job) .losses-most)
 
 add-if1-2 : tie.Need-add-if1-2 Inv-loop μ-loop
 add-if1-2 c = let s = sizes (c .before .before .before .before .before .before .before .before .pre .0 .standing .job) in omega arith
@@ -98,10 +97,10 @@ cast-if2 : tie.Need-cast-if2 Inv-loop μ-loop
 cast-if2 c = elem-fits-field w32 w64 (c .before .before .before .before .before .before .before .finishes .result .late) _ _ (c .before .before .before .before .before .before .before .finishes .ok .1 .1 .1 .0 .1 .1) tt
 
 mul-if2-2 : tie.Need-mul-if2-2 Inv-loop μ-loop
-mul-if2-2 c = let s = sizes (c .before .before .before .before .before .before .before .before .before .before .before .pre .0 .standing .job) in omega arith
+mul-if2-2 c = omega (arith, c .before .before .before .before .before .loop-test .taken, sizes (c .before .before .before .before .before .before .before .before .before .before .before .pre .0 .standing .job) .losses-most)
 
 add-if2 : tie.Need-add-if2 Inv-loop μ-loop
-add-if2 c = let s = sizes (c .before .before .before .before .before .before .before .before .before .before .before .pre .0 .standing .job) in omega arith
+add-if2 c = omega (arith, c .before .before .before .before .before .loop-test .taken, sizes (c .before .before .before .before .before .before .before .before .before .before .before .pre .0 .standing .job) .losses-most)
 
 add-if2-2 : tie.Need-add-if2-2 Inv-loop μ-loop
 add-if2-2 c = let s = sizes (c .before .before .before .before .before .before .before .before .before .before .before .pre .0 .standing .job) in omega arith
@@ -116,7 +115,7 @@ returns-2 : tie.Need-returns-2 Inv-loop μ-loop
 returns-2 c = let l = c .before .before .before .before .before .before .before .before .loop in (λ z. absurd (false≢true z), λ a. absurd (late-not (c .before .before .before .before .before .before .before .before .before .before .before .before .before .pre .0) (c .before .before .before .before .before .before .before .before .before .before .before .before .before .args .k) (c .before .before .before .before .before .before .before .before .before .before .before .before .before .pre .2) (l .c) (c .before .before .before .before .before .before .before .loop-test .taken) (c .before .before .before .before .before .before .before .before .before .before .before .before .before .args .clocks) (c .before .before .before .before .before .before .before .before .before .before .before .before .before .pre .4) (c .before .before .before .before .before .before .before .before .before .finishes .result .early) (c .before .before .before .before .before .before .before .before .before .finishes .result .late) (c .before .before .before .before .before .before .before .before .before .finishes .ensures) (c .if2 .taken) a))
 
 add-c : tie.Need-add-c Inv-loop μ-loop
-add-c c = let s = sizes (c .before .before .before .before .before .before .before .before .before .before .before .before .before .pre .0 .standing .job) in omega arith
+add-c c = omega (arith, c .before .before .before .before .before .before .before .loop-test .taken, sizes (c .before .before .before .before .before .before .before .before .before .before .before .before .before .pre .0 .standing .job) .losses-most)
 
 loop-less : tie.Need-loop-less Inv-loop μ-loop
 loop-less c = search needs

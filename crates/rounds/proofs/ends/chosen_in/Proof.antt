@@ -4,7 +4,7 @@ use Prim.Native.Nat.{ℕ, _≤_, _-_, _+_}
 use native.Mathlib.Omega.{arith}
 use borrow.Author.Needs.{needs}
 use Rattle.definitions.specs.Lists.{nth}
-use Rattle.plans.specs.Lines.{timeIn}
+use Rattle.ticks.specs.Cells.{timeIn}
 use Rattle.jobs.proofs.Held.{Sizes, sizes}
 use Rattle.rounds.proofs.EndLaws.{chosenIn, chosen-first, chosen-next, place-most}
 use Rattle.rounds.proofs.ends.chosen_in.Statement.{statement}

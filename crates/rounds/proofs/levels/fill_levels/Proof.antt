@@ -5,7 +5,7 @@ use native.Mathlib.Omega.{arith}
 use borrow.Author.Needs.{needs}
 use lib.ListN.{length}
 use Rattle.definitions.specs.Lists.{nth}
-use Rattle.jobs.specs.Layout.{memorySize}
+use Rattle.heads.specs.Layout.{memorySize}
 use Rattle.jobs.proofs.Held.{sizes}
 use Rattle.rounds.proofs.LevelLaws.{Filling, filling-none, filling-held, filling-linked, filling-job, filling-task, filling-below, filling-run, filling-most, filling-more, filling-done}
 use Rattle.rounds.proofs.levels.fill_levels.Statement.{statement}

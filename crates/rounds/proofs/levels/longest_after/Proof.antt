@@ -4,7 +4,7 @@ use Prim.Native.Nat.{_≤_, _+_, _*_}
 use native.Mathlib.Omega.{arith}
 use borrow.Author.Needs.{needs}
 use Rattle.definitions.specs.Lists.{nth}
-use Rattle.jobs.specs.Layout.{levelAt}
+use Rattle.heads.specs.Layout.{levelAt}
 use Rattle.jobs.proofs.Held.{sizes}
 use Rattle.rounds.specs.Levels.{sent}
 use Rattle.rounds.specs.Walks.{edgeOf}

@@ -5,7 +5,7 @@ use native.Mathlib.Omega.{arith}
 use borrow.Author.Needs.{needs}
 use lib.ListN.{length, length-set}
 use Rattle.definitions.specs.Lists.{nth}
-use Rattle.jobs.specs.Layout.{memorySize, lineAt, rowAt}
+use Rattle.heads.specs.Layout.{memorySize, lineAt, rowAt}
 use Rattle.lists.specs.Kept.{KeptOutside}
 use Rattle.rounds.specs.Planning.{Cleared}
 use Rattle.jobs.proofs.Held.{sizes}

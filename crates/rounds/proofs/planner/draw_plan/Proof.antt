@@ -1,12 +1,12 @@
 -- k lines are drawn up, what is left to place gives the rest of the plan, and the free tasks are listed.
 use mathlib.Core.Path.{_≡_, refl, sym, _∙_}
 use mathlib.Core.List.{[]}
-use Prim.Native.Nat.{_≤_, _-_, _+_}
+use Prim.Native.Nat.{_≤_, _<_, _-_, _+_}
 use native.Mathlib.Omega.{arith}
 use borrow.Author.Needs.{needs}
 use mathlib.Core.Logic.{⊎-elim}
 use Rattle.definitions.specs.Lists.{nth}
-use Rattle.jobs.specs.Layout.{memorySize, jobSize, inHeadAt}
+use Rattle.heads.specs.Layout.{memorySize, jobSize, inHeadAt}
 use Rattle.jobs.specs.Held.{jobIn}
 use Rattle.plans.specs.Lines.{placedIn}
 use Rattle.lists.specs.Kept.{KeptOutside}
@@ -26,6 +26,14 @@ Inv-loop mem₀ rooms v delays clocks₀ free₀ n₀ k₀ mem clocks free n k =
 
 abbrev μ-loop : tie.MeasureT-loop
 μ-loop mem₀ rooms v delays clocks₀ free₀ n₀ k₀ mem clocks free n k = v - k
+
+-- Some task is free while lines are left.
+some : (c : tie.In-loop Inv-loop μ-loop) → 0 < c .before .loop .n
+some c = let l = c .before .loop in listed-some (l .inv .3) (omega (arith, c .loop-test .taken, l .inv .1)) (l .inv .4) (l .free) (l .n) (l .inv .6)
+
+-- The last of them is a task of the job.
+last-task : (c : tie.In-loop Inv-loop μ-loop) → nth (c .before .loop .free) (c .before .loop .n - 1) < nth (c .before .loop .mem) 0
+last-task c = let l = c .before .loop in l .inv .6 .tasks .task-of (l .n - 1) (omega (arith, some c))
 
 prepare-requires : tie.Need-prepare-requires Inv-loop μ-loop
 prepare-requires c κs = search needs
@@ -54,41 +62,36 @@ loop-holds c =
     (search needs, refl, kept-all, s .1, s .2, outset-clocks (rw (processors-in (c .before .before .before .before .before .before .before .before .before .before .prepare .last .0)) (sizes (s .1 .standing .job) .processors-most)) (c .before .before .before .before .new .ensures .0) (c .before .before .before .before .new .ensures .1), c .before .list-free .ensures)
 
 sub-t : tie.Need-sub-t Inv-loop μ-loop
-sub-t c = let l = c .before .loop in omega (arith, listed-some (l .inv .3) (omega arith) (l .inv .4) (l .free) (l .n) (l .inv .6))
+sub-t c = some c
 
 array-read-t : tie.Need-array-read-t Inv-loop μ-loop
 array-read-t c =
     let l = c .before .loop in
-    omega (arith, l .inv .6 .tasks .size, free-few (l .inv .6 .tasks), sizes (l .inv .3 .standing .job) .tasks-most, listed-some (l .inv .3) (omega arith) (l .inv .4) (l .free) (l .n) (l .inv .6))
+    omega (arith, l .inv .6 .tasks .size, free-few (l .inv .6 .tasks), sizes (l .inv .3 .standing .job) .tasks-most .0, some c)
 
 cast-t : tie.Need-cast-t Inv-loop μ-loop
-cast-t c =
-    let l = c .before .loop in
-    let some = listed-some (l .inv .3) (omega arith) (l .inv .4) (l .free) (l .n) (l .inv .6) in
-    omega (arith, l .inv .6 .tasks .task-of (l .n - 1) (omega arith), sizes (l .inv .3 .standing .job) .tasks-most)
+cast-t c = omega (arith, last-task c, sizes (c .before .loop .inv .3 .standing .job) .tasks-most .0)
 
 place-task-requires : tie.Need-place-task-requires Inv-loop μ-loop
 place-task-requires c κs =
     let l = c .before .before .before .loop in
-    let some = listed-some (l .inv .3) (omega arith) (l .inv .4) (l .free) (l .n) (l .inv .6) in
-    (delays-kept (c .before .before .before .before .before .before .before .before .before .before .before .before .before .before .prepare .ensures .1 .standing .job) (same-before 0 (jobSize _) (l .inv .2) (omega arith)) (c .before .before .before .before .before .before .before .before .before .delay-table .ensures), l .inv .3, l .inv .4, omega arith, last-best (l .inv .6) some, l .inv .5)
+    (delays-kept (c .before .before .before .before .before .before .before .before .before .before .before .before .before .before .prepare .ensures .1 .standing .job) (same-before 0 (jobSize _) (l .inv .2) (omega arith)) (c .before .before .before .before .before .before .before .before .before .delay-table .ensures), l .inv .3, l .inv .4, omega (arith, c .before .before .loop-test .taken, l .inv .1), last-best (l .inv .6) (some (c .before .before)), l .inv .5)
 
 slice-aggregate-release : tie.Need-slice-aggregate-release Inv-loop μ-loop
 slice-aggregate-release c = search needs
 
 sub-release : tie.Need-sub-release Inv-loop μ-loop
-sub-release c = let l = c .before .before .before .before .before .before .before .before .loop in omega (arith, listed-some (l .inv .3) (omega arith) (l .inv .4) (l .free) (l .n) (l .inv .6))
+sub-release c = some (c .before .before .before .before .before .before .before)
 
 release-requires : tie.Need-release-requires Inv-loop μ-loop
 release-requires c κs =
     let l = c .before .before .before .before .before .before .before .before .loop in
     let p = c .before .before .before .before .place-task .ensures in
-    let some = listed-some (l .inv .3) (omega arith) (l .inv .4) (l .free) (l .n) (l .inv .6) in
     let z : nth (c .before .before .before .before .place-task .last .0) 0 ≡ nth (l .mem) 0 = p .0 .before 0 (omega arith) in
-    ((l .k + 1, p .1), p .2, free-out (l .inv .6) some (p .4) z, rw z (l .inv .6 .tasks .task-of (l .n - 1) (omega arith)))
+    ((l .k + 1, p .1), p .2, free-out (l .inv .6) (some (c .before .before .before .before .before .before .before)) (p .4) z, rw z (last-task (c .before .before .before .before .before .before .before)))
 
 add-k : tie.Need-add-k Inv-loop μ-loop
-add-k c = omega (arith, sizes (c .before .before .before .before .before .before .before .before .before .before .before .before .loop .inv .3 .standing .job))
+add-k c = omega (arith, c .before .before .before .before .before .before .before .before .before .before .before .loop-test .taken, c .before .before .before .before .before .before .before .before .before .before .before .before .loop .inv .1, sizes (c .before .before .before .before .before .before .before .before .before .before .before .before .loop .inv .3 .standing .job) .tasks-most .0)
 
 loop-less : tie.Need-loop-less Inv-loop μ-loop
 loop-less c = search needs

@@ -7,7 +7,7 @@ use lib.ListN.{length}
 use mathlib.Core.Logic.{⊎-elim}
 use Rattle.definitions.specs.Lists.{nth, keep, countFrom, below}
 use Rattle.rounds.specs.Planning.{Begun}
-use Rattle.ticks.proofs.ChoiceLaws.{among}
+use Rattle.choices.proofs.ChoiceLaws.{among}
 use Rattle.jobs.proofs.Held.{Sizes, sizes}
 use Rattle.rounds.proofs.DrawLaws.{isChosen}
 use Rattle.rounds.proofs.Drawing.{begun-none, pass-box, box-room, box-within, take-box, boxes-taken}

@@ -4,7 +4,7 @@ use Prim.Native.Nat.{_+_, _<_, _*_}
 use native.Mathlib.Omega.{arith}
 use borrow.Author.Needs.{needs}
 use lib.ListN.{length, length-set, set}
-use Rattle.jobs.specs.Layout.{lineAt, rowAt}
+use Rattle.heads.specs.Layout.{lineAt, rowAt}
 use Rattle.jobs.proofs.Held.{sizes}
 use Rattle.rounds.proofs.Placed.{fed-all}
 use Rattle.rounds.proofs.Drawing.{clocks-short, fed-short, task-below, task-fed}

@@ -4,7 +4,7 @@ use borrow.Author.Needs.{needs}
 use Rattle.jobs.proofs.Held.{held-kept}
 use Rattle.lists.specs.Kept.{KeptOutside}
 use Rattle.lists.proofs.Kept.{kept-all}
-use Rattle.jobs.specs.Layout.{inHeadAt, levelAt}
+use Rattle.heads.specs.Layout.{inHeadAt, levelAt}
 use Rattle.jobs.specs.Held.{LinkedIn, LinkedOut}
 use Rattle.rounds.proofs.OutsetLaws.{outset-kept, outset, outset-counts}
 use Rattle.rounds.proofs.planner.prepare.Statement.{statement}

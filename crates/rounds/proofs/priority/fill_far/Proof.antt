@@ -6,7 +6,7 @@ use borrow.Author.Needs.{needs}
 use lib.ListN.{length}
 use Rattle.definitions.specs.Lists.{nth}
 use Rattle.definitions.specs.Planner.{largestDelay}
-use Rattle.jobs.specs.Layout.{memorySize, farAt}
+use Rattle.heads.specs.Layout.{memorySize, farAt}
 use Rattle.jobs.specs.Held.{jobIn}
 use Rattle.lists.specs.Kept.{KeptOutside}
 use Rattle.jobs.proofs.Held.{sizes, job-kept}

@@ -4,7 +4,7 @@ use Prim.Native.Nat.{_≤_}
 use native.Mathlib.Omega.{arith}
 use borrow.Author.Needs.{needs}
 use Rattle.definitions.specs.Times.{Time, later}
-use Rattle.plans.specs.Lines.{timeIn}
+use Rattle.ticks.specs.Cells.{timeIn}
 use Rattle.jobs.proofs.Held.{sizes}
 use Rattle.rounds.specs.Walks.{edgeOf, Feeds}
 use Rattle.rounds.proofs.TimeLaws.{Gathering, gather-first, gather-edge, gather-falls, gather-next}

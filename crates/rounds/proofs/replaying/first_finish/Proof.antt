@@ -1,136 +1,101 @@
--- What was seen of the line has its first finish.
-use Prim.Native.Nat.{_≤_, _-_, _+_, _*_}
-use native.Mathlib.Omega.{arith}
 use borrow.Author.Needs.{needs}
-use lib.ListN.{getD}
-use mathlib.Core.Logic.{⊎-elim}
-use Rattle.plans.specs.Lines.{neverCell}
+use mathlib.Core.Path.{_∙_}
+use Prim.Native.Nat.{ℕ, _+_, _≤_}
+use native.Mathlib.Omega.{arith}
+use Rattle.definitions.specs.Lists.{nth}
+use Rattle.ticks.specs.Cells.{neverCell}
 use Rattle.jobs.proofs.Held.{sizes}
-use Rattle.rounds.proofs.EndLaws.{all-placed, row-of-task}
-use Rattle.rounds.proofs.FirstLaws.{Seen, seen-none, seen-sooner, seen-stays, seen-all}
+use Rattle.plans.specs.Lines.{rowOf}
+use Rattle.replicas.proofs.TwiceLaws.{part-length, part-on, part-early}
+use Rattle.rounds.proofs.EndLaws.{cells-of-task}
+use Rattle.rounds.proofs.FirstLaws.{first-seen}
 use Rattle.rounds.proofs.replaying.first_finish.Statement.{statement}
 use Rattle.rounds.proofs.replaying.first_finish.Tie as tie
 
-abbrev Inv-loop : tie.InvT-loop
-Inv-loop mem rooms t rows line w a time₀ processor₀ c₀ time processor c = (c ≤ w) × (time ≤ neverCell) × Seen rooms mem t c time processor
-
-abbrev μ-loop : tie.MeasureT-loop
-μ-loop mem rooms t rows line w a time₀ processor₀ c₀ time processor c = w - c
-
-mul-rows : tie.Need-mul-rows Inv-loop μ-loop
-mul-rows c = search needs
-
-mul-line : tie.Need-mul-line Inv-loop μ-loop
+mul-line : tie.Need-mul-line
 mul-line c = search needs
 
-shared-slice-read-w : tie.Need-shared-slice-read-w Inv-loop μ-loop
-shared-slice-read-w c = let z = sizes (c .before .pre .0 .job) in let u = all-placed (c .before .pre .0) (c .before .args .t) (c .before .pre .2) in let v = row-of-task (c .before .pre .0) (c .before .args .t) (c .before .pre .2) .1 in omega arith
+add-line : tie.Need-add-line
+add-line c = search needs
 
-add-w : tie.Need-add-w Inv-loop μ-loop
-add-w c = let z = sizes (c .before .pre .0 .job) in let u = all-placed (c .before .pre .0) (c .before .args .t) (c .before .pre .2) in let v = row-of-task (c .before .pre .0) (c .before .args .t) (c .before .pre .2) .1 in omega arith
+mul-line-2 : tie.Need-mul-line-2
+mul-line-2 c = search needs
 
-add-a : tie.Need-add-a Inv-loop μ-loop
-add-a c = let z = sizes (c .before .pre .0 .job) in let u = all-placed (c .before .pre .0) (c .before .args .t) (c .before .pre .2) in let v = row-of-task (c .before .pre .0) (c .before .args .t) (c .before .pre .2) .1 in omega arith
+shared-slice-read-line : tie.Need-shared-slice-read-line
+shared-slice-read-line c = omega (arith, sizes (c .before .before .pre .0 .job), c .before .before .pre .2)
 
-mul-a : tie.Need-mul-a Inv-loop μ-loop
-mul-a c = let z = sizes (c .before .pre .0 .job) in let u = all-placed (c .before .pre .0) (c .before .args .t) (c .before .pre .2) in let v = row-of-task (c .before .pre .0) (c .before .args .t) (c .before .pre .2) .1 in omega arith
+mul-a : tie.Need-mul-a
+mul-a c = search needs
 
-shared-slice-read-a : tie.Need-shared-slice-read-a Inv-loop μ-loop
-shared-slice-read-a c = let z = sizes (c .before .before .pre .0 .job) in let u = all-placed (c .before .before .pre .0) (c .before .before .args .t) (c .before .before .pre .2) in let v = row-of-task (c .before .before .pre .0) (c .before .before .args .t) (c .before .before .pre .2) .1 in omega arith
+sub-a : tie.Need-sub-a
+sub-a c = let (a, b, d) = cells-of-task (c .before .before .pre .0) (c .before .before .args .t) (c .before .before .pre .2) in omega (arith, a, b, d)
 
-sub-a : tie.Need-sub-a Inv-loop μ-loop
-sub-a c = let z = sizes (c .before .before .pre .0 .job) in let u = all-placed (c .before .before .pre .0) (c .before .before .args .t) (c .before .before .pre .2) in let v = row-of-task (c .before .before .pre .0) (c .before .before .args .t) (c .before .before .pre .2) .1 in omega arith
+mul-a-2 : tie.Need-mul-a-2
+mul-a-2 c = let (a, b, d) = cells-of-task (c .before .before .pre .0) (c .before .before .args .t) (c .before .before .pre .2) in omega (arith, a, b, d)
 
-mul-a-2 : tie.Need-mul-a-2 Inv-loop μ-loop
-mul-a-2 c = let z = sizes (c .before .before .pre .0 .job) in let u = all-placed (c .before .before .pre .0) (c .before .before .args .t) (c .before .before .pre .2) in let v = row-of-task (c .before .before .pre .0) (c .before .before .args .t) (c .before .before .pre .2) .1 in omega arith
+add-a : tie.Need-add-a
+add-a c = let (a, b, d) = cells-of-task (c .before .before .pre .0) (c .before .before .args .t) (c .before .before .pre .2) in omega (arith, a, b, d)
 
-add-a-2 : tie.Need-add-a-2 Inv-loop μ-loop
-add-a-2 c = let z = sizes (c .before .before .pre .0 .job) in let u = all-placed (c .before .before .pre .0) (c .before .before .args .t) (c .before .before .pre .2) in let v = row-of-task (c .before .before .pre .0) (c .before .before .args .t) (c .before .before .pre .2) .1 in omega arith
+add-a-2 : tie.Need-add-a-2
+add-a-2 c = let (a, b, d) = cells-of-task (c .before .before .pre .0) (c .before .before .args .t) (c .before .before .pre .2) in omega (arith, a, b, d)
 
-loop-holds : tie.Need-loop-holds Inv-loop μ-loop
-loop-holds c = (search needs, search needs, seen-none (c .before .before .args .rooms) (c .before .before .args .mem .now) (c .before .before .args .t) 0)
+shared-slice-read-end : tie.Need-shared-slice-read-end
+shared-slice-read-end c = let (a, b, d) = cells-of-task (c .before .before .before .pre .0) (c .before .before .before .args .t) (c .before .before .before .pre .2) in omega (arith, a, b, d)
 
-mul-x : tie.Need-mul-x Inv-loop μ-loop
-mul-x c = let z = sizes (c .before .before .before .before .pre .0 .job) in let u = all-placed (c .before .before .before .before .pre .0) (c .before .before .before .before .args .t) (c .before .before .before .before .pre .2) in let v = row-of-task (c .before .before .before .before .pre .0) (c .before .before .before .before .args .t) (c .before .before .before .before .pre .2) .1 in omega arith
+add-end : tie.Need-add-end
+add-end c = let (a, b, d) = cells-of-task (c .before .before .before .pre .0) (c .before .before .before .args .t) (c .before .before .before .pre .2) in omega (arith, a, b, d)
 
-add-x : tie.Need-add-x Inv-loop μ-loop
-add-x c = let z = sizes (c .before .before .before .before .pre .0 .job) in let u = all-placed (c .before .before .before .before .pre .0) (c .before .before .before .before .args .t) (c .before .before .before .before .pre .2) in let v = row-of-task (c .before .before .before .before .pre .0) (c .before .before .before .before .args .t) (c .before .before .before .before .pre .2) .1 in omega arith
+mul-end : tie.Need-mul-end
+mul-end c = let (a, b, d) = cells-of-task (c .before .before .before .pre .0) (c .before .before .before .args .t) (c .before .before .before .pre .2) in omega (arith, a, b, d)
 
-add-x-2 : tie.Need-add-x-2 Inv-loop μ-loop
-add-x-2 c = let z = sizes (c .before .before .before .before .pre .0 .job) in let u = all-placed (c .before .before .before .before .pre .0) (c .before .before .before .before .args .t) (c .before .before .before .before .pre .2) in let v = row-of-task (c .before .before .before .before .pre .0) (c .before .before .before .before .args .t) (c .before .before .before .before .pre .2) .1 in omega arith
+add-end-2 : tie.Need-add-end-2
+add-end-2 c = let (a, b, d) = cells-of-task (c .before .before .before .pre .0) (c .before .before .before .args .t) (c .before .before .before .pre .2) in omega (arith, a, b, d)
 
-mul-x-2 : tie.Need-mul-x-2 Inv-loop μ-loop
-mul-x-2 c = let z = sizes (c .before .before .before .before .pre .0 .job) in let u = all-placed (c .before .before .before .before .pre .0) (c .before .before .before .before .args .t) (c .before .before .before .before .pre .2) in let v = row-of-task (c .before .before .before .before .pre .0) (c .before .before .before .before .args .t) (c .before .before .before .before .pre .2) .1 in omega arith
+mul-first-finish : tie.Need-mul-first-finish
+mul-first-finish c = let (a, b, d) = cells-of-task (c .before .before .before .pre .0) (c .before .before .before .args .t) (c .before .before .before .pre .2) in omega (arith, a, b, d)
 
-shared-slice-read-x : tie.Need-shared-slice-read-x Inv-loop μ-loop
-shared-slice-read-x c = let z = sizes (c .before .before .before .before .before .pre .0 .job) in let u = all-placed (c .before .before .before .before .before .pre .0) (c .before .before .before .before .before .args .t) (c .before .before .before .before .before .pre .2) in let v = row-of-task (c .before .before .before .before .before .pre .0) (c .before .before .before .before .before .args .t) (c .before .before .before .before .before .pre .2) .1 in omega arith
+sub-first-finish : tie.Need-sub-first-finish
+sub-first-finish c = search needs
 
-mul-processor : tie.Need-mul-processor Inv-loop μ-loop
-mul-processor c = let z = sizes (c .before .before .before .before .before .before .pre .0 .job) in let u = all-placed (c .before .before .before .before .before .before .pre .0) (c .before .before .before .before .before .before .args .t) (c .before .before .before .before .before .before .pre .2) in let v = row-of-task (c .before .before .before .before .before .before .pre .0) (c .before .before .before .before .before .before .args .t) (c .before .before .before .before .before .before .pre .2) .1 in omega arith
+part-first-finish-start : tie.Need-part-first-finish-start
+part-first-finish-start c = let (a, b, d) = cells-of-task (c .before .before .before .pre .0) (c .before .before .before .args .t) (c .before .before .before .pre .2) in omega (arith, a, b, d)
 
-add-processor : tie.Need-add-processor Inv-loop μ-loop
-add-processor c = let z = sizes (c .before .before .before .before .before .before .pre .0 .job) in let u = all-placed (c .before .before .before .before .before .before .pre .0) (c .before .before .before .before .before .before .args .t) (c .before .before .before .before .before .before .pre .2) in let v = row-of-task (c .before .before .before .before .before .before .pre .0) (c .before .before .before .before .before .before .args .t) (c .before .before .before .before .before .before .pre .2) .1 in omega arith
+part-first-finish-end : tie.Need-part-first-finish-end
+part-first-finish-end c = let (a, b, d) = cells-of-task (c .before .before .before .pre .0) (c .before .before .before .args .t) (c .before .before .before .pre .2) in omega (arith, a, b, d)
 
-add-processor-2 : tie.Need-add-processor-2 Inv-loop μ-loop
-add-processor-2 c = let z = sizes (c .before .before .before .before .before .before .pre .0 .job) in let u = all-placed (c .before .before .before .before .before .before .pre .0) (c .before .before .before .before .before .before .args .t) (c .before .before .before .before .before .before .pre .2) in let v = row-of-task (c .before .before .before .before .before .before .pre .0) (c .before .before .before .before .before .before .args .t) (c .before .before .before .before .before .before .pre .2) .1 in omega arith
+first-finish-requires : tie.Need-first-finish-requires
+first-finish-requires c κs = search needs
 
-mul-processor-2 : tie.Need-mul-processor-2 Inv-loop μ-loop
-mul-processor-2 c = let z = sizes (c .before .before .before .before .before .before .pre .0 .job) in let u = all-placed (c .before .before .before .before .before .before .pre .0) (c .before .before .before .before .before .before .args .t) (c .before .before .before .before .before .before .pre .2) in let v = row-of-task (c .before .before .before .before .before .before .pre .0) (c .before .before .before .before .before .before .args .t) (c .before .before .before .before .before .before .pre .2) .1 in omega arith
-
-shared-slice-read-processor : tie.Need-shared-slice-read-processor Inv-loop μ-loop
-shared-slice-read-processor c = let z = sizes (c .before .before .before .before .before .before .before .pre .0 .job) in let u = all-placed (c .before .before .before .before .before .before .before .pre .0) (c .before .before .before .before .before .before .before .args .t) (c .before .before .before .before .before .before .before .pre .2) in let v = row-of-task (c .before .before .before .before .before .before .before .pre .0) (c .before .before .before .before .before .before .before .args .t) (c .before .before .before .before .before .before .before .pre .2) .1 in omega arith
-
-add-c : tie.Need-add-c Inv-loop μ-loop
-add-c c = let z = sizes (c .before .before .before .before .before .before .pre .0 .job) in let u = all-placed (c .before .before .before .before .before .before .pre .0) (c .before .before .before .before .before .before .args .t) (c .before .before .before .before .before .before .pre .2) in let v = row-of-task (c .before .before .before .before .before .before .pre .0) (c .before .before .before .before .before .before .args .t) (c .before .before .before .before .before .before .pre .2) .1 in omega arith
-
-loop-less : tie.Need-loop-less Inv-loop μ-loop
-loop-less c = search needs
-
-loop-again : tie.Need-loop-again Inv-loop μ-loop
-loop-again c =
-    let l = c .before .before .before .loop in
-    let d = c .before .before .before .before .before .before .args .mem .now in
-    let x = getD d (289 * c .before .before .before .before .before .before .args .rooms + (getD d (265 * c .before .before .before .before .before .before .args .rooms + c .before .before .before .before .before .before .args .t) 0 - 1) * 25 + (2 + 3 * l .c)) 0 in
-    let m : x ≤ neverCell = omega (arith, c .before .shared-slice-known3 .given (289 * c .before .before .before .before .before .before .args .rooms + (getD d (265 * c .before .before .before .before .before .before .args .rooms + c .before .before .before .before .before .before .args .t) 0 - 1) * 25 + (2 + 3 * l .c))) in (
-      search needs,
-      ⊎-elim (λ w. rw (w .2) m) (λ w. rw (w .1) (l .inv .1)) (c .if1 .came),
-      ⊎-elim
-          (λ w. rw (w .2, w .3) (seen-sooner (c .before .before .before .before .before .before .pre .0) (c .before .before .before .before .before .before .pre .1) (c .before .before .before .before .before .before .args .t) (c .before .before .before .before .before .before .pre .2) (l .c) (l .time) (l .processor) (l .inv .2) (c .before .before .loop-test .taken) (l .inv .1) (w .0 .taken)))
-          (λ w. rw (w .1, w .2) (seen-stays (c .before .before .before .before .before .before .pre .0) (c .before .before .before .before .before .before .pre .1) (c .before .before .before .before .before .before .args .t) (c .before .before .before .before .before .before .pre .2) (l .c) (l .time) (l .processor) (l .inv .2) (c .before .before .loop-test .taken) (l .inv .1) (w .0 .left) m))
-          (c .if1 .came),
-    )
-
-returns : tie.Need-returns Inv-loop μ-loop
-returns c = let l = c .before .loop in seen-all (c .before .before .before .before .pre .0) (c .before .before .before .before .pre .1) (c .before .before .before .before .args .t) (c .before .before .before .before .pre .2) (l .c) (l .time) (l .processor) (omega arith) (l .inv .2)
+returns : tie.Need-returns
+returns c =
+    let m = c .before .before .before .before .before .args .mem .now in
+    let (_, b, d) = cells-of-task (c .before .before .before .before .before .pre .0) (c .before .before .before .before .before .args .t) (c .before .before .before .before .before .pre .2) in
+    let r = rowOf (c .before .before .before .before .before .args .rooms) (c .before .before .before .before .before .args .t) m in
+    let small : (i : ℕ) → nth m i ≤ neverCell = λ i. omega (arith, c .before .before .before .before .shared-slice-known .given i) in
+    let e = part-length m r (nth m 3 + 1) (omega (arith, b, d)) in
+    let f = first-seen (c .before .before .before .before .before .pre .0) (c .before .before .before .before .before .pre .1) (c .before .before .before .before .before .args .t) (c .before .before .before .before .before .pre .2) small _ (part-on m r (nth m 3 + 1) (omega (arith, b, d))) (part-early m r (nth m 3 + 1) (omega (arith, b, d))) _ e in
+    rw (c .first-finish .ensures .0, c .first-finish .ensures .1) f
 
 pub first-finish-spec : {M : Type 1} → statement M
 first-finish-spec =
     tie.close
     (tie.spec
-    Inv-loop
-    μ-loop
-    mul-rows
     mul-line
-    shared-slice-read-w
-    add-w
-    add-a
+    add-line
+    mul-line-2
+    shared-slice-read-line
     mul-a
-    shared-slice-read-a
     sub-a
     mul-a-2
+    add-a
     add-a-2
-    loop-holds
-    mul-x
-    add-x
-    add-x-2
-    mul-x-2
-    shared-slice-read-x
-    mul-processor
-    add-processor
-    add-processor-2
-    mul-processor-2
-    shared-slice-read-processor
-    add-c
-    loop-less
-    loop-again
+    shared-slice-read-end
+    add-end
+    mul-end
+    add-end-2
+    mul-first-finish
+    sub-first-finish
+    part-first-finish-start
+    part-first-finish-end
+    first-finish-requires
     returns)

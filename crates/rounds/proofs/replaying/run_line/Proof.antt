@@ -4,7 +4,7 @@ use native.Mathlib.Omega.{arith}
 use borrow.Author.Needs.{needs}
 use borrow.Author.Tests.{lt-ltb}
 use Rattle.definitions.specs.Lists.{nth}
-use Rattle.jobs.specs.Layout.{jobSize, rowAt}
+use Rattle.heads.specs.Layout.{jobSize, rowAt}
 use Rattle.jobs.proofs.Held.{Sizes, sizes, row-below}
 use Rattle.rounds.proofs.RunLaws.{LineRuns, LineStep, line-fed-short, line-first, line-step, line-next, line-done}
 use Rattle.rounds.proofs.replaying.run_line.Statement.{statement}
@@ -39,13 +39,13 @@ add-w : tie.Need-add-w Inv-loop μ-loop
 add-w c = let z = held (c .before .before .before) in omega arith
 
 mul-a : tie.Need-mul-a Inv-loop μ-loop
-mul-a c = let z = held (c .before .before .before) in omega arith
+mul-a c = omega (arith, c .before .before .before .pre .2, held (c .before .before .before) .tasks-most .0)
 
 add-a : tie.Need-add-a Inv-loop μ-loop
 add-a c = let z = held (c .before .before .before) in omega arith
 
 mul-t : tie.Need-mul-t Inv-loop μ-loop
-mul-t c = let z = held (c .before .before .before) in omega arith
+mul-t c = omega (arith, c .before .before .before .pre .2, held (c .before .before .before) .tasks-most .0)
 
 slice-read-t : tie.Need-slice-read-t Inv-loop μ-loop
 slice-read-t c = let z = held (c .before .before .before .before) in omega arith
@@ -75,10 +75,10 @@ loop-holds : tie.Need-loop-holds Inv-loop μ-loop
 loop-holds c = (search needs, line-first (c .before .before .before .before .before .before .before .args .k) (c .before .before .before .before .before .before .before .args .stops .now) (c .before .before .before .before .before .before .before .pre .1))
 
 mul-p : tie.Need-mul-p Inv-loop μ-loop
-mul-p c = let z = held (c .before .before .before .before .before .before .before .before .before) in omega arith
+mul-p c = omega (arith, c .loop-test .taken, held (c .before .before .before .before .before .before .before .before .before) .losses-most)
 
 add-p : tie.Need-add-p Inv-loop μ-loop
-add-p c = let z = held (c .before .before .before .before .before .before .before .before .before) in omega arith
+add-p c = omega (arith, c .loop-test .taken, held (c .before .before .before .before .before .before .before .before .before) .losses-most)
 
 add-p-2 : tie.Need-add-p-2 Inv-loop μ-loop
 add-p-2 c = let z = held (c .before .before .before .before .before .before .before .before .before) in omega arith
@@ -125,10 +125,10 @@ unless-stopped-requires : tie.Need-unless-stopped-requires Inv-loop μ-loop
 unless-stopped-requires c κs = search needs
 
 mul-mem : tie.Need-mul-mem Inv-loop μ-loop
-mul-mem c = let z = held (c .before .before .before .before .before .before .before .before .before .before .before .before .before .before .before) in omega arith
+mul-mem c = omega (arith, c .before .before .before .before .before .before .loop-test .taken, held (c .before .before .before .before .before .before .before .before .before .before .before .before .before .before .before) .losses-most)
 
 add-mem : tie.Need-add-mem Inv-loop μ-loop
-add-mem c = let z = held (c .before .before .before .before .before .before .before .before .before .before .before .before .before .before .before) in omega arith
+add-mem c = omega (arith, c .before .before .before .before .before .before .loop-test .taken, held (c .before .before .before .before .before .before .before .before .before .before .before .before .before .before .before) .losses-most)
 
 add-mem-2 : tie.Need-add-mem-2 Inv-loop μ-loop
 add-mem-2 c = let z = held (c .before .before .before .before .before .before .before .before .before .before .before .before .before .before .before) in omega arith
@@ -143,7 +143,7 @@ advance-requires : tie.Need-advance-requires Inv-loop μ-loop
 advance-requires c κs = search needs
 
 add-c : tie.Need-add-c Inv-loop μ-loop
-add-c c = let z = held (c .before .before .before .before .before .before .before .before .before .before .before .before .before .before .before .before) in omega arith
+add-c c = omega (arith, c .before .before .before .before .before .before .before .loop-test .taken, held (c .before .before .before .before .before .before .before .before .before .before .before .before .before .before .before .before) .losses-most)
 
 loop-less : tie.Need-loop-less Inv-loop μ-loop
 loop-less c = search needs

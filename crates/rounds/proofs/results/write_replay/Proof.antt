@@ -1,10 +1,9 @@
--- The R lines, and the L line behind them.
-use native.Mathlib.Omega.{arith}
 use borrow.Author.Needs.{needs}
+use native.Mathlib.Omega.{arith}
 use Rattle.definitions.specs.Limits.{document01}
 use Rattle.definitions.specs.Replay.{endLine}
-use Rattle.plans.specs.Lines.{timeIn}
-use Rattle.rounds.proofs.LineByLine.{part-room, part-whole}
+use Rattle.ticks.specs.Cells.{timeIn}
+use Rattle.rounds.proofs.LineByLine.{part-written}
 use Rattle.rounds.proofs.ResultLaws.{tasks-within, replay-size, end-room, replay-whole}
 use Rattle.rounds.proofs.results.write_replay.Statement.{statement}
 use Rattle.rounds.proofs.results.write_replay.Tie as tie
@@ -29,15 +28,15 @@ part-write-end-end : tie.Need-part-write-end-end
 part-write-end-end c = search needs
 
 write-end-requires : tie.Need-write-end-requires
-write-end-requires c κs =
-    let w = c .before .before .before .before .write-tasks in
-    let r = end-room (c .before .before .before .before .before .before .before .before .args .rooms) (c .before .before .before .before .before .before .before .before .args .mem .now) (c .before .end-of .result) (c .before .end-of .ensures) (c .before .before .before .before .before .before .before .before .args .out .now) (w .last .0) (w .result) (c .before .before .before .before .before .before .before .before .pre .3) (w .ensures .0) (w .ensures .1) in
-    part-room (w .last .0) (w .result) (endLine document01 (timeIn (c .before .end-of .result))) r
+write-end-requires c κs = search needs
 
 add-result : tie.Need-add-result
 add-result c =
     let w = c .before .before .before .before .before .before .before .write-tasks in
-    omega (arith, c .before .before .write-end .ensures .0, w .kept .0, end-room (c .before .before .before .before .before .before .before .before .before .before .before .args .rooms) (c .before .before .before .before .before .before .before .before .before .before .before .args .mem .now) (c .before .before .before .before .end-of .result) (c .before .before .before .before .end-of .ensures) (c .before .before .before .before .before .before .before .before .before .before .before .args .out .now) (w .last .0) (w .result) (c .before .before .before .before .before .before .before .before .before .before .before .pre .3) (w .ensures .0) (w .ensures .1))
+    let e = c .before .before .write-end in
+    let r = end-room (c .before .before .before .before .before .before .before .before .before .before .before .args .rooms) (c .before .before .before .before .before .before .before .before .before .before .before .args .mem .now) (c .before .before .before .before .end-of .result) (c .before .before .before .before .end-of .ensures) (c .before .before .before .before .before .before .before .before .before .before .before .args .out .now) (w .last .0) (w .result) (c .before .before .before .before .before .before .before .before .before .before .before .pre .3) (w .ensures .0) (w .ensures .1) in
+    let p = part-written (w .last .0) (w .result) (endLine document01 (timeIn (c .before .before .before .before .end-of .result))) r (e .result) (e .last .0) (e .ensures .0) (e .ensures .1) .0 in
+    omega (arith, p, r, w .kept .0)
 
 same-length : tie.Need-same-length
 same-length c = search needs
@@ -48,7 +47,7 @@ returns c =
     let w = c .before .before .before .before .before .before .before .write-tasks in
     let e = c .before .before .write-end in
     let r = end-room (a .rooms) (a .mem .now) (c .before .before .before .before .end-of .result) (c .before .before .before .before .end-of .ensures) (a .out .now) (w .last .0) (w .result) (c .before .before .before .before .before .before .before .before .before .before .before .pre .3) (w .ensures .0) (w .ensures .1) in
-    let (p, y) = part-whole (w .last .0) (w .result) (endLine document01 (timeIn (c .before .before .before .before .end-of .result))) r (e .result) (e .last .0) (e .ensures .0) (e .ensures .1) in
+    let (p, y) = part-written (w .last .0) (w .result) (endLine document01 (timeIn (c .before .before .before .before .end-of .result))) r (e .result) (e .last .0) (e .ensures .0) (e .ensures .1) in
     (omega (arith, p, w .ensures .0, replay-size (a .rooms) (a .mem .now) (c .before .before .before .before .end-of .result) (c .before .before .before .before .end-of .ensures)), replay-whole (a .rooms) (a .mem .now) (c .before .before .before .before .end-of .result) (c .before .before .before .before .end-of .ensures) (a .out .now) (w .last .0) (w .result) (c .before .before .before .before .before .before .before .before .before .before .before .pre .3) (w .ensures .0) (w .ensures .1) _ y)
 
 pub write-replay-spec : {M : Type 1} → statement M

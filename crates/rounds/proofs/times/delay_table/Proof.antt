@@ -6,7 +6,7 @@ use native.Mathlib.Omega.{arith}
 use borrow.Author.Needs.{needs}
 use lib.ListN.{length}
 use Rattle.definitions.specs.Lists.{nth}
-use Rattle.jobs.specs.Layout.{jobSize}
+use Rattle.heads.specs.Layout.{jobSize}
 use Rattle.jobs.proofs.Held.{Sizes, sizes, row-below}
 use Rattle.rounds.proofs.TimeLaws.{delay-cell}
 use Rattle.rounds.proofs.ShortLaws.{Filled, filled-none, filled-set, DelayCell, delay-stored, delays-end, none-set, table-made}

@@ -11,7 +11,7 @@ use Rattle.definitions.specs.Job.{delay}
 use Rattle.rounds.specs.Arrivals.{shortIn}
 use Rattle.ticks.specs.Lanes.{shortNever}
 use Rattle.jobs.specs.Held.{jobIn}
-use Rattle.plans.specs.Lines.{neverCell}
+use Rattle.ticks.specs.Cells.{neverCell}
 use Rattle.jobs.proofs.Held.{Sizes, sizes}
 use Rattle.rounds.proofs.TimeLaws.{chosenBy, chosen-none, none-early, arrival-chosen, small-tick, message-most}
 use Rattle.rounds.proofs.ShortLaws.{sooner-lanes, offered-never, offered-next}

@@ -12,7 +12,8 @@ use lib.ListN.{replicate, length-replicate, getD-replicate}
 use Rattle.definitions.specs.Lists.{nth}
 use Rattle.definitions.specs.Times.{Time, later}
 use Rattle.jobs.proofs.Held.{sizes}
-use Rattle.ticks.specs.Lanes.{shortNever, neverCell, widenedTick}
+use Rattle.ticks.specs.Cells.{neverCell}
+use Rattle.ticks.specs.Lanes.{shortNever, widenedTick}
 use Rattle.ticks.proofs.LaneLaws.{lanes-each}
 use Rattle.rounds.specs.Arrivals.{shortIn}
 use Rattle.rounds.specs.Schedule.{dataIn}

@@ -5,7 +5,7 @@ use native.Mathlib.Omega.{arith}
 use borrow.Author.Needs.{needs}
 use lib.ListN.{length, length-set}
 use Rattle.definitions.specs.Lists.{nth}
-use Rattle.jobs.specs.Layout.{jobSize}
+use Rattle.heads.specs.Layout.{jobSize}
 use Rattle.lists.proofs.ListLaws.{each-more}
 use Rattle.jobs.proofs.Held.{Sizes, sizes, row-below}
 use Rattle.rounds.proofs.TimeLaws.{run-cell}

@@ -1,0 +1,26 @@
+// E lines: each edge in one cell.
+ghost use mathlib.Core.Path.{_≡_};
+ghost use mathlib.Core.List.{map};
+ghost use lib.ListN.{length, take, drop};
+ghost use Rattle.text.specs.Told.{told};
+ghost use Rattle.orders.specs.Edges.{edgeIn};
+ghost use Rattle.edges.specs.Edges.{edgesInto};
+use text::Step;
+
+mod edge;
+
+// n edge lines, kept from the front of `mem` on, one cell each; two cells more are used on the way. 8 if there are more than 255 tasks,
+// or too few cells.
+pub fn read_edges(s: &[u8], at: usize, v: u64, n: usize, mem: &mut [u64]) -> Step
+    ensures { λ r. ⌜ told (now (s .entry)) (map edgeIn (take n (now (mem .exit)))) r ≡ edgesInto (length (now (mem .entry))) v n (drop at (now (s .entry))) ⌝ }
+{
+    if edge::fits(v, n, mem.len()) {
+        if v <= 16 {
+            let mut few = [0u8; 512];
+            return edge::fill_edges(s, at, v, n, mem, &mut few);
+        }
+        let mut pairs = [0u8; 8192];
+        return edge::fill_edges(s, at, v, n, mem, &mut pairs);
+    }
+    Step::Refused(8)
+}

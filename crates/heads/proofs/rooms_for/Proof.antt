@@ -1,0 +1,36 @@
+-- The tests are the definition's.
+use mathlib.Core.Path.{sym, _∙_}
+use borrow.Author.Needs.{needs}
+use Rattle.heads.specs.Layout.{roomsFor}
+use Rattle.heads.proofs.rooms_for.Statement.{statement}
+use Rattle.heads.proofs.rooms_for.Tie as tie
+
+fits-requires : tie.Need-fits-requires
+fits-requires c κs = search needs
+
+returns : tie.Need-returns
+unfolding roomsFor
+returns c = rw (sym (c .before .fits2 .ensures) ∙ c .if1 .taken)
+
+fits-requires-2 : tie.Need-fits-requires-2
+fits-requires-2 c κs = search needs
+
+returns-2 : tie.Need-returns-2
+unfolding roomsFor
+returns-2 c = rw (sym (c .before .before .before .fits2 .ensures) ∙ c .before .before .if1 .left, sym (c .before .fits3 .ensures) ∙ c .if2 .taken)
+
+fits-requires-3 : tie.Need-fits-requires-3
+fits-requires-3 c κs = search needs
+
+returns-3 : tie.Need-returns-3
+unfolding roomsFor
+returns-3 c = rw (sym (c .before .before .before .before .before .fits2 .ensures) ∙ c .before .before .before .before .if1 .left, sym (c .before .before .before .fits3 .ensures) ∙ c .before .before .if2 .left, sym (c .before .fits4 .ensures) ∙ c .if3 .taken)
+
+returns-4 : tie.Need-returns-4
+unfolding roomsFor
+returns-4 c = rw (sym (c .before .before .before .before .before .fits2 .ensures) ∙ c .before .before .before .before .if1 .left, sym (c .before .before .before .fits3 .ensures) ∙ c .before .before .if2 .left, sym (c .before .fits4 .ensures) ∙ c .if3 .left)
+
+pub rooms-for-spec : {M : Type 1} → statement M
+rooms-for-spec =
+    tie.close
+    (tie.spec fits-requires returns fits-requires-2 returns-2 fits-requires-3 returns-3 returns-4)

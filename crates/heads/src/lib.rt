@@ -1,0 +1,108 @@
+// A job's head, and the memory that the job needs.
+ghost use mathlib.Core.Path.{_≡_};
+ghost use Rattle.definitions.specs.Limits.{document01};
+ghost use Rattle.definitions.specs.Job.{jobHeadRule};
+ghost use Rattle.heads.specs.Layout.{roomsFor};
+ghost use Rattle.heads.specs.Heads.{headOf, HeadRead, roomy};
+use crate::layout::ROOM;
+use text::Step;
+
+pub mod layout;
+mod room;
+
+// The numbers of a job's head.
+pub struct Head {
+    pub tasks: u64,
+    pub processors: u64,
+    pub edges: u64,
+    pub losses: u64,
+}
+
+// A job's head and the place after it, or the number of the refusal.
+pub enum Opening {
+    Opened(Head, usize),
+    Refused(u64),
+}
+
+// The number of the refusal of a job's head, or 0.
+pub fn check_head(head: Head) -> u64
+    ensures { λ r. ⌜ r ≡ jobHeadRule document01 (headOf head) ⌝ }
+{
+    if head.tasks < 1 {
+        return 3;
+    }
+    if head.tasks > 255 {
+        return 3;
+    }
+    if head.processors < 1 {
+        return 3;
+    }
+    if head.processors > 16 {
+        return 3;
+    }
+    if head.edges > 1024 {
+        return 3;
+    }
+    if head.losses > 7 {
+        return 3;
+    }
+    if head.processors < head.losses + 1 {
+        return 4;
+    }
+    0
+}
+
+// A job's head.
+pub fn read_head(s: &[u8]) -> Opening
+    ensures { λ r. ⌜ HeadRead (now (s .entry)) r ⌝ }
+{
+    if s.len() > 65536 {
+        return Opening::Refused(1);
+    }
+    let mut line = [0u64; 4];
+    match lines::read_line(s, 0, b"JOB,", 4, &mut line) {
+        Step::Next(at) => {
+            let head = Head {
+                tasks: line[0],
+                processors: line[1],
+                edges: line[2],
+                losses: line[3],
+            };
+            let x = check_head(head);
+            if x > 0 {
+                return Opening::Refused(x);
+            }
+            Opening::Opened(head, at)
+        }
+        Step::Refused(n) => Opening::Refused(n),
+    }
+}
+
+// How many rooms a memory for a job with this head needs: 1, 2, 8 or 32.
+pub fn rooms_for(head: Head) -> usize
+    ensures { λ r. ⌜ r ≡ roomsFor (headOf head) ⌝ }
+{
+    if room::fits(head, 1) {
+        return 1;
+    }
+    if room::fits(head, 2) {
+        return 2;
+    }
+    if room::fits(head, 8) {
+        return 8;
+    }
+    32
+}
+
+// A memory of so many cells has so many rooms, and a job with this head fits it.
+pub fn roomy(head: Head, size: usize, rooms: usize) -> bool
+    ensures { λ r. ⌜ r ≡ roomy rooms size (headOf head) ⌝ }
+{
+    if rooms > 32 {
+        return false;
+    }
+    if size != ROOM * rooms {
+        return false;
+    }
+    room::fits(head, rooms)
+}

@@ -1,0 +1,27 @@
+// Whether a job fits a memory, by its head.
+ghost use mathlib.Core.Path.{_≡_};
+ghost use Prim.Native.Nat.{_≤_};
+ghost use Rattle.heads.specs.Layout.{hasRoom};
+ghost use Rattle.heads.specs.Heads.{headOf};
+use crate::Head;
+use crate::layout::JOB;
+
+// A job with this head fits a memory of so many rooms.
+pub fn fits(head: Head, rooms: usize) -> bool
+    requires { ⌜ rooms ≤ 32 ⌝ }
+    ensures { λ r. ⌜ r ≡ hasRoom rooms (headOf head) ⌝ }
+{
+    let v = head.tasks as usize;
+    let m = head.processors as usize;
+    let e = head.edges as usize;
+    if v > 8 * rooms {
+        return false;
+    }
+    if e > 32 * rooms {
+        return false;
+    }
+    if m > 32 * JOB {
+        return false;
+    }
+    4 + (v + m) * (m + 1) + e + 2 <= JOB * rooms
+}

@@ -1,0 +1,3 @@
+pub mod CircleLaws
+pub mod OrderLaws
+pub mod SortLaws

@@ -1,0 +1,19 @@
+-- The opening and the numbers, added up.
+use mathlib.Core.Path.{_∙_}
+use borrow.Author.Needs.{needs}
+use Rattle.definitions.specs.Limits.{document01}
+use Rattle.definitions.proofs.Decimal.{length-line}
+use Rattle.printing.proofs.line_length.Statement.{statement}
+use Rattle.printing.proofs.line_length.Tie as tie
+
+numbers-length-requires : tie.Need-numbers-length-requires
+numbers-length-requires c κs = search needs
+
+wrapping-add-usize-requires : tie.Need-wrapping-add-usize-requires
+wrapping-add-usize-requires c κs = search needs
+
+returns : tie.Need-returns
+returns c = rw (length-line document01 (c .before .before .before .before .args .opening .now) (c .before .before .before .before .args .vals .now)) (c .wrapping-add-usize .ensures ∙ rw (c .before .numbers-length .ensures))
+
+pub line-length-spec : {M : Type 1} → statement M
+line-length-spec = tie.close (tie.spec numbers-length-requires wrapping-add-usize-requires returns)

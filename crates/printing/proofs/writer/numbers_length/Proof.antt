@@ -1,0 +1,64 @@
+-- What is counted and what is left make the whole.
+use mathlib.Core.Path.{_≡_, ap}
+use Prim.Native.Nat.{_≤_, _-_, _+_}
+use native.Mathlib.Omega.{arith}
+use borrow.Author.Needs.{needs}
+use lib.ListN.{length, getD, drop}
+use Rattle.definitions.specs.Limits.{document01}
+use Rattle.definitions.proofs.Decimal.{width-powers}
+use Rattle.printing.proofs.WriteLaws.{textOf, numbers-most, length-next, text-end}
+use Rattle.printing.proofs.writer.numbers_length.Statement.{statement}
+use Rattle.printing.proofs.writer.numbers_length.Tie as tie
+
+abbrev Inv-loop : tie.InvT-loop
+Inv-loop vals n₀ i₀ n i = (i ≤ length vals) × (n + length (textOf (drop i vals)) ≡ length (textOf vals))
+
+abbrev μ-loop : tie.MeasureT-loop
+μ-loop vals n₀ i₀ n i = length vals - i
+
+loop-holds : tie.Need-loop-holds Inv-loop μ-loop
+loop-holds c = search needs
+
+mul-width-of : tie.Need-mul-width-of Inv-loop μ-loop
+mul-width-of c = search needs
+
+shared-slice-read-width-of : tie.Need-shared-slice-read-width-of Inv-loop μ-loop
+shared-slice-read-width-of c = search needs
+
+width-of-requires : tie.Need-width-of-requires Inv-loop μ-loop
+width-of-requires c κs = search needs
+
+add-n : tie.Need-add-n Inv-loop μ-loop
+add-n c = let s = c .before .before .before .before .before .args .vals .now in let i = c .before .before .before .loop .i in let w = c .width-of .ensures in omega (arith, w, width-powers document01 (getD s i 0) (omega arith))
+
+add-n-2 : tie.Need-add-n-2 Inv-loop μ-loop
+add-n-2 c = let s = c .before .before .before .before .before .args .vals .now in let i = c .before .before .before .loop .i in let w = c .width-of .ensures in omega (arith, w, length-next s i (c .before .before .loop-test .taken), numbers-most s)
+
+add-i : tie.Need-add-i Inv-loop μ-loop
+add-i c = search needs
+
+loop-less : tie.Need-loop-less Inv-loop μ-loop
+loop-less c = search needs
+
+loop-again : tie.Need-loop-again Inv-loop μ-loop
+loop-again c = let s = c .before .before .before .before .before .args .vals .now in let i = c .before .before .before .loop .i in let w = c .width-of .ensures in (search needs, omega (arith, w, length-next s i (c .before .before .loop-test .taken)))
+
+returns : tie.Need-returns Inv-loop μ-loop
+returns c = let s = c .before .before .before .args .vals .now in let i = c .before .loop .i in let e = ap length (text-end s i (c .loop-test .left)) in omega arith
+
+pub numbers-length-spec : {M : Type 1} → statement M
+numbers-length-spec =
+    tie.close
+    (tie.spec
+    Inv-loop
+    μ-loop
+    loop-holds
+    mul-width-of
+    shared-slice-read-width-of
+    width-of-requires
+    add-n
+    add-n-2
+    add-i
+    loop-less
+    loop-again
+    returns)

@@ -1,0 +1,97 @@
+-- What is yet to be written over the output gives the whole.
+use mathlib.Core.Path.{_≡_, refl, sym, ap, _∙_}
+use Prim.Native.Nat.{_≤_, _-_, _+_}
+use native.Mathlib.Omega.{arith}
+use borrow.Author.Needs.{needs}
+use lib.ListN.{length, drop, length-set}
+use Rattle.lists.specs.Over.{over}
+use Rattle.lists.proofs.Over.{over-nil}
+use Rattle.printing.proofs.WriteLaws.{textOf, text-end, place-turn, length-turn, write-turn}
+use Rattle.printing.proofs.writer.write_numbers.Statement.{statement}
+use Rattle.printing.proofs.writer.write_numbers.Tie as tie
+
+abbrev Inv-loop : tie.InvT-loop
+Inv-loop out₀ at vals n p₀ i₀ out p i =
+    (i ≤ n) × (n ≡ length vals) × (length out ≡ length out₀) × (p + length (textOf (drop i vals)) ≡ at + length (textOf vals))
+    × (over out p (textOf (drop i vals)) ≡ over out₀ at (textOf vals))
+
+abbrev μ-loop : tie.MeasureT-loop
+μ-loop out₀ at vals n p₀ i₀ out p i = n - i
+
+loop-holds : tie.Need-loop-holds Inv-loop μ-loop
+loop-holds c = (search needs, refl, refl, refl, refl)
+
+mul-write-number : tie.Need-mul-write-number Inv-loop μ-loop
+mul-write-number c = search needs
+
+shared-slice-read-write-number : tie.Need-shared-slice-read-write-number Inv-loop μ-loop
+shared-slice-read-write-number c = search needs
+
+write-number-requires : tie.Need-write-number-requires Inv-loop μ-loop
+write-number-requires c κs = search needs
+
+add-i : tie.Need-add-i Inv-loop μ-loop
+add-i c = search needs
+
+sub-mark-after : tie.Need-sub-mark-after Inv-loop μ-loop
+sub-mark-after c = search needs
+
+mark-after-requires : tie.Need-mark-after-requires Inv-loop μ-loop
+mark-after-requires c κs = search needs
+
+slice-write-out : tie.Need-slice-write-out Inv-loop μ-loop
+slice-write-out c =
+    let s = c .before .before .before .before .before .before .before .before .before .before .args .vals .now in let l = c .before .before .before .before .before .before .before .loop in let w = c .before .before .before .write-number in
+    omega (
+      arith,
+      place-turn s (l .i) (c .before .before .before .before .before .before .loop-test .taken) (l .out) (l .p) (omega arith) (w .last .0) (w .result) (w .ensures .1) (w .ensures .0),
+      length-turn s (l .i) (c .before .before .before .before .before .before .loop-test .taken) (l .out) (l .p) (omega arith) (w .last .0) (w .result) (w .ensures .1) (w .ensures .0),
+    )
+
+add-p : tie.Need-add-p Inv-loop μ-loop
+add-p c =
+    let s = c .before .before .before .before .before .before .before .before .before .before .args .vals .now in let l = c .before .before .before .before .before .before .before .loop in let w = c .before .before .before .write-number in
+    omega (arith, place-turn s (l .i) (c .before .before .before .before .before .before .loop-test .taken) (l .out) (l .p) (omega arith) (w .last .0) (w .result) (w .ensures .1) (w .ensures .0))
+
+loop-less : tie.Need-loop-less Inv-loop μ-loop
+loop-less c = search needs
+
+loop-again : tie.Need-loop-again Inv-loop μ-loop
+loop-again c =
+    let s = c .before .before .before .before .before .before .before .before .before .before .args .vals .now in let l = c .before .before .before .before .before .before .before .loop in let w = c .before .before .before .write-number in
+    let r : l .p + length (textOf (drop (l .i) s)) ≤ length (l .out) = omega arith in (
+      search needs,
+      refl,
+      length-set (w .last .0) (w .result) (c .mark-after .result) ∙ length-turn s (l .i) (c .before .before .before .before .before .before .loop-test .taken) (l .out) (l .p) r (w .last .0) (w .result) (w .ensures .1) (w .ensures .0) ∙ l .inv .2,
+      place-turn s (l .i) (c .before .before .before .before .before .before .loop-test .taken) (l .out) (l .p) r (w .last .0) (w .result) (w .ensures .1) (w .ensures .0) ∙ l .inv .3,
+      write-turn s (l .i) (c .before .before .before .before .before .before .loop-test .taken) (l .out) (l .p) r (w .last .0) (w .result) (w .ensures .1) (w .ensures .0) (c .mark-after .result) (c .mark-after .ensures) ∙ l .inv .4,
+    )
+
+same-length : tie.Need-same-length Inv-loop μ-loop
+same-length c = c .before .loop .inv .2
+
+returns : tie.Need-returns Inv-loop μ-loop
+returns c =
+    let s = c .before .before .before .before .args .vals .now in let l = c .before .loop in
+    let e = text-end s (l .i) (omega arith) in
+    (omega (arith, ap length e), sym (over-nil (l .out) (l .p)) ∙ ap (over (l .out) (l .p)) (sym e) ∙ l .inv .4)
+
+pub write-numbers-spec : {M : Type 1} → statement M
+write-numbers-spec =
+    tie.close
+    (tie.spec
+    Inv-loop
+    μ-loop
+    loop-holds
+    mul-write-number
+    shared-slice-read-write-number
+    write-number-requires
+    add-i
+    sub-mark-after
+    mark-after-requires
+    slice-write-out
+    add-p
+    loop-less
+    loop-again
+    same-length
+    returns)

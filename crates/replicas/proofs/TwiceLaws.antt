@@ -1,0 +1,156 @@
+-- Lines with two replicas on one processor, and first finishes, replica by replica.
+use mathlib.Core.Path.{_≡_, refl, ap, _∙_, sym}
+use mathlib.Core.Logic.{⊎-elim}
+use mathlib.Core.List.{List, [], _∷_}
+use mathlib.Core.Bool.{Bool, true, false, _&&_, _||_, true≢false}
+use Prim.Native.Nat.{ℕ, zero, suc, _+_, _*_, _-_, _/_, _<_, _≤_}
+use native.Mathlib.Omega.{arith}
+use native.Mathlib.Numerals.{add-one}
+use borrow.Author.Tests.{eqb-true, eq-eqb, ne-eqb, lt-ltb, le-ltb}
+use lib.Dec.{eqb, ltb}
+use lib.ListN.{length, take, drop, length-take, length-drop}
+use lib.Seq.{getD-take, getD-drop}
+use Rattle.definitions.specs.Lists.{if_then_else_, nth, empty}
+use Rattle.definitions.proofs.Lists.{either-right}
+use Rattle.lists.proofs.Counting.{last-or-before}
+use Rattle.ticks.specs.Cells.{neverCell}
+use Rattle.replicas.specs.Cells.{twins, twice, cellsOf, firstTwice, leastEarly, leastOn}
+
+-- Neighbours --------------------------------------------------------------------------------------------------------
+
+module _ (cells : List ℕ) where
+  pub twins-none : twins 0 cells ≡ false
+  unfolding twins
+  twins-none = refl
+
+  pub twins-next : (c : ℕ) → twins c cells ≡ false → (nth cells (3 * c) ≡ nth cells (3 * c + 3) → ⊥) → twins (c + 1) cells ≡ false
+  unfolding twins
+  twins-next c h n = rw (add-one c, h, ne-eqb _ _ n)
+
+  twins-more : (c n : ℕ) → c ≤ n → twins c cells ≡ true → twins n cells ≡ true
+  unfolding twins
+  twins-more c zero l h = let e : c ≡ 0 = omega arith in rw e at h
+  twins-more c (suc n) l h =
+      ⊎-elim
+      (λ (e : c ≡ suc n). rw e at h)
+      (λ (g : c < suc n). rw (twins-more c n (omega arith) h))
+      (last-or-before (suc n) c (omega arith))
+
+  -- Two neighbours on one processor, among n replicas.
+  pub twins-here : (c n : ℕ) → c + 1 < n → nth cells (3 * c) ≡ nth cells (3 * c + 3) → true ≡ twins (n - 1) cells
+  unfolding twins
+  twins-here c n l e = sym (twins-more (suc c) (n - 1) (omega arith) (either-right (twins c cells) (eq-eqb _ _ e)))
+
+  -- Where they are.
+  pub twins-place : (n : ℕ) → twins n cells ≡ true → (c : ℕ) × (c < n) × (nth cells (3 * c) ≡ nth cells (3 * c + 3))
+  unfolding twins
+  twins-place zero h = absurd (true≢false (sym h))
+  twins-place (suc n) h = by (twins-place n) (twins n cells) refl (eqb (nth cells (3 * n)) (nth cells (3 * n + 3))) refl h
+    where
+      by : (twins n cells ≡ true → (c : ℕ) × (c < n) × (nth cells (3 * c) ≡ nth cells (3 * c + 3))) → (a : Bool) → twins n cells ≡ a → (b : Bool) → eqb (nth cells (3 * n)) (nth cells (3 * n + 3)) ≡ b → (a || b) ≡ true
+          → (c : ℕ) × (c < suc n) × (nth cells (3 * c) ≡ nth cells (3 * c + 3))
+      by r true f b g e = let (c, l, q) = r f in (c, omega arith, q)
+      by r false f true g e = (n, omega arith, eqb-true _ _ g)
+      by r false f false g e = absurd (true≢false (sym e))
+
+  pub twins-before : (c n : ℕ) → c ≤ n → twins n cells ≡ false → twins c cells ≡ false
+  twins-before c n l h = by (twins c cells) refl
+    where
+      by : (b : Bool) → twins c cells ≡ b → b ≡ false
+      by true e = absurd (true≢false (sym (twins-more c n l e) ∙ h))
+      by false e = refl
+
+  pub twins-apart : (c : ℕ) → twins (suc c) cells ≡ false → nth cells (3 * c) ≡ nth cells (3 * c + 3) → ⊥
+  unfolding twins
+  twins-apart c h e = true≢false (sym (either-right (twins c cells) (eq-eqb _ _ e)) ∙ h)
+
+-- Lines -------------------------------------------------------------------------------------------------------------
+
+module _ (w : ℕ) (lines : List ℕ) where
+  -- The part of the lines that is looked at.
+  pub part-cells : (k : ℕ) {b : Bool} → b ≡ twice (take (k * 25 + 1 + 3 * w - (k * 25 + 1)) (drop (k * 25 + 1) lines)) → b ≡ twice (cellsOf w k lines)
+  part-cells k h = let e : k * 25 + 1 + 3 * w - (k * 25 + 1) ≡ 3 * w = omega arith in rw e at h
+
+  pub first-none : firstTwice w 0 lines ≡ []
+  unfolding firstTwice
+  first-none = refl
+
+  pub first-next : (k : ℕ) → firstTwice w k lines ≡ [] → false ≡ twice (cellsOf w k lines) → firstTwice w (k + 1) lines ≡ []
+  unfolding firstTwice
+  first-next k h n = rw (add-one k, h, ← n)
+
+  first-stays : (t c n : ℕ) → c ≤ n → firstTwice w c lines ≡ t ∷ [] → firstTwice w n lines ≡ t ∷ []
+  unfolding firstTwice
+  first-stays t c zero l h = let e : c ≡ 0 = omega arith in rw e at h
+  first-stays t c (suc n) l h =
+      ⊎-elim
+      (λ (e : c ≡ suc n). rw e at h)
+      (λ (g : c < suc n). rw (first-stays t c n (omega arith) h))
+      (last-or-before (suc n) c (omega arith))
+
+  first-yes : (k : ℕ) → firstTwice w k lines ≡ [] → true ≡ twice (cellsOf w k lines) → firstTwice w (suc k) lines ≡ nth lines (k * 25) ∷ []
+  unfolding firstTwice
+  first-yes k h e = rw (h, ← e)
+
+  pub first-here : (k n : ℕ) → k < n → firstTwice w k lines ≡ [] → true ≡ twice (cellsOf w k lines) → nth lines (k * 25) ∷ [] ≡ firstTwice w n lines
+  first-here k n l h e = sym (first-stays (nth lines (k * 25)) (suc k) n (omega arith) (first-yes k h e))
+
+  -- What the answer says of the lines.
+  pub first-all : (n : ℕ) → firstTwice w n lines ≡ [] → (k : ℕ) → k < n → twice (cellsOf w k lines) ≡ false
+  unfolding firstTwice
+  first-all (suc n) h k l = by (first-all n) (firstTwice w n lines) refl (twice (cellsOf w n lines)) refl h
+    where
+      by : (firstTwice w n lines ≡ [] → (k : ℕ) → k < n → twice (cellsOf w k lines) ≡ false) → (a : List ℕ) → firstTwice w n lines ≡ a → (b : Bool) → twice (cellsOf w n lines) ≡ b → (if empty a && b then nth lines (n * 25) ∷ [] else a) ≡ []
+          → twice (cellsOf w k lines) ≡ false
+      by r (x ∷ a) f b g e = absurd (true≢false (sym (ap empty e)))
+      by r [] f true g e = absurd (true≢false (sym (ap empty e)))
+      by r [] f false g e = ⊎-elim (λ (q : k ≡ n). rw q g) (λ (m : k < n). r f k m) (last-or-before n k l)
+
+  pub first-some : (t n : ℕ) → firstTwice w n lines ≡ t ∷ [] → (k : ℕ) × (k < n) × (twice (cellsOf w k lines) ≡ true) × (nth lines (k * 25) ≡ t)
+  unfolding firstTwice
+  first-some t zero h = absurd (true≢false (ap empty h))
+  first-some t (suc n) h = by (first-some t n) (firstTwice w n lines) refl (twice (cellsOf w n lines)) refl h
+    where
+      by : (firstTwice w n lines ≡ t ∷ [] → (k : ℕ) × (k < n) × (twice (cellsOf w k lines) ≡ true) × (nth lines (k * 25) ≡ t)) → (a : List ℕ) → firstTwice w n lines ≡ a → (b : Bool) → twice (cellsOf w n lines) ≡ b → (if empty a && b then nth lines (n * 25) ∷ [] else a) ≡ t ∷ []
+          → (k : ℕ) × (k < suc n) × (twice (cellsOf w k lines) ≡ true) × (nth lines (k * 25) ≡ t)
+      by r [] f false g e = absurd (true≢false (ap empty e))
+      by r [] f true g e = (n, omega arith, g, ap (λ (l : List ℕ). nth l 0) e)
+      by r (x ∷ a) f b g e = let (k, l, p, q) = r (f ∙ e) in (k, omega arith, p, q)
+
+-- First finishes ----------------------------------------------------------------------------------------------------
+
+pub least-none : (cells : List ℕ) → (leastEarly 0 cells ≡ neverCell) × (leastOn 0 cells ≡ 0)
+unfolding leastEarly leastOn
+least-none cells = (refl, refl)
+
+module _ (cells : List ℕ) (c : ℕ) where
+  pub least-sooner : nth cells (3 * c + 1) < leastEarly c cells
+      → (nth cells (3 * c + 1) ≡ leastEarly (c + 1) cells) × (nth cells (3 * c) ≡ leastOn (c + 1) cells)
+  unfolding leastEarly leastOn
+  least-sooner h = rw (add-one c, lt-ltb _ _ h) (refl, refl)
+
+  pub least-stays : leastEarly c cells ≤ nth cells (3 * c + 1)
+      → (leastEarly c cells ≡ leastEarly (c + 1) cells) × (leastOn c cells ≡ leastOn (c + 1) cells)
+  unfolding leastEarly leastOn
+  least-stays h = rw (add-one c, le-ltb _ _ h) (refl, refl)
+
+-- The cells of a line -----------------------------------------------------------------------------------------------
+
+-- The cells of the first w replicas of the line at a of a memory, as they are looked at.
+module _ (mem : List ℕ) (a w : ℕ) (h : a + (1 + 3 * w) ≤ length mem) where
+  pub part-length : length (take (a + 1 + 3 * w - (a + 1)) (drop (a + 1) mem)) / 3 ≡ w
+  part-length = omega (arith, length-take (a + 1 + 3 * w - (a + 1)) (drop (a + 1) mem), length-drop (a + 1) mem)
+
+  part-nth : (c i : ℕ) → 3 * c + i < 3 * w → nth (take (a + 1 + 3 * w - (a + 1)) (drop (a + 1) mem)) (3 * c + i) ≡ nth mem (a + (1 + i + 3 * c))
+  part-nth c i l =
+      let e : a + 1 + (3 * c + i) ≡ a + (1 + i + 3 * c) = omega arith in
+      getD-take (a + 1 + 3 * w - (a + 1)) (drop (a + 1) mem) (3 * c + i) 0 (omega arith) ∙ getD-drop (a + 1) mem (3 * c + i) 0 ∙ ap (nth mem) e
+
+  -- The processor of replica c, and its early time.
+  pub part-on : (c : ℕ) → c < w → nth (take (a + 1 + 3 * w - (a + 1)) (drop (a + 1) mem)) (3 * c) ≡ nth mem (a + (1 + 3 * c))
+  part-on c l =
+      let e : 3 * c + 0 ≡ 3 * c = omega arith in
+      ap (nth (take (a + 1 + 3 * w - (a + 1)) (drop (a + 1) mem))) (sym e) ∙ part-nth c 0 (omega arith)
+
+  pub part-early : (c : ℕ) → c < w → nth (take (a + 1 + 3 * w - (a + 1)) (drop (a + 1) mem)) (3 * c + 1) ≡ nth mem (a + (2 + 3 * c))
+  part-early c l = part-nth c 1 (omega arith)

@@ -1,0 +1,79 @@
+use borrow.Author.Needs.{needs}
+use mathlib.Core.Path.{_≡_, refl, sym, ap, _∙_}
+use mathlib.Core.Logic.{⊎-elim}
+use Prim.Native.Nat.{ℕ, _≤_, _-_, _/_}
+use native.Mathlib.Omega.{arith}
+use lib.ListN.{length}
+use Rattle.replicas.specs.Cells.{leastEarly, leastOn}
+use Rattle.replicas.proofs.TwiceLaws.{least-none, least-sooner, least-stays}
+use Rattle.replicas.proofs.first_finish.Statement.{statement}
+use Rattle.replicas.proofs.first_finish.Tie as tie
+
+abbrev Inv-loop : tie.InvT-loop
+Inv-loop cells n time₀ processor₀ c₀ time processor c = (c ≤ n) × (time ≡ leastEarly c cells) × (processor ≡ leastOn c cells)
+
+abbrev μ-loop : tie.MeasureT-loop
+μ-loop cells n time₀ processor₀ c₀ time processor c = n - c
+
+loop-holds : tie.Need-loop-holds Inv-loop μ-loop
+loop-holds c = let (e, f) = least-none (c .args .cells .now) in (omega arith, sym e, sym f)
+
+mul-x : tie.Need-mul-x Inv-loop μ-loop
+mul-x c = search needs
+
+add-x : tie.Need-add-x Inv-loop μ-loop
+add-x c = search needs
+
+mul-x-2 : tie.Need-mul-x-2 Inv-loop μ-loop
+mul-x-2 c = search needs
+
+shared-slice-read-x : tie.Need-shared-slice-read-x Inv-loop μ-loop
+shared-slice-read-x c = search needs
+
+mul-processor : tie.Need-mul-processor Inv-loop μ-loop
+mul-processor c = search needs
+
+mul-processor-2 : tie.Need-mul-processor-2 Inv-loop μ-loop
+mul-processor-2 c = search needs
+
+shared-slice-read-processor : tie.Need-shared-slice-read-processor Inv-loop μ-loop
+shared-slice-read-processor c = search needs
+
+add-c : tie.Need-add-c Inv-loop μ-loop
+add-c c = search needs
+
+loop-less : tie.Need-loop-less Inv-loop μ-loop
+loop-less c = search needs
+
+loop-again : tie.Need-loop-again Inv-loop μ-loop
+loop-again c =
+    let d = c .before .before .before .before .args .cells .now in
+    let l = c .before .before .before .loop in (
+      omega (arith, c .before .before .loop-test .taken),
+      ⊎-elim (λ w. w .2 ∙ least-sooner d (l .c) (rw (l .inv .1) at (w .0 .taken)) .0) (λ w. w .1 ∙ l .inv .1 ∙ least-stays d (l .c) (rw (l .inv .1) at (w .0 .left)) .0) (c .if1 .came),
+      ⊎-elim (λ w. w .3 ∙ least-sooner d (l .c) (rw (l .inv .1) at (w .0 .taken)) .1) (λ w. w .2 ∙ l .inv .2 ∙ least-stays d (l .c) (rw (l .inv .1) at (w .0 .left)) .1) (c .if1 .came),
+    )
+
+returns : tie.Need-returns Inv-loop μ-loop
+returns c =
+    let e : c .before .loop .c ≡ length (c .before .before .args .cells .now) / 3 = omega (arith, c .before .loop .inv .0, c .loop-test .left) in
+    (c .before .loop .inv .1 ∙ ap (λ (i : ℕ). leastEarly i (c .before .before .args .cells .now)) e, c .before .loop .inv .2 ∙ ap (λ (i : ℕ). leastOn i (c .before .before .args .cells .now)) e)
+
+pub first-finish-spec : {M : Type 1} → statement M
+first-finish-spec =
+    tie.close
+    (tie.spec
+    Inv-loop
+    μ-loop
+    loop-holds
+    mul-x
+    add-x
+    mul-x-2
+    shared-slice-read-x
+    mul-processor
+    mul-processor-2
+    shared-slice-read-processor
+    add-c
+    loop-less
+    loop-again
+    returns)

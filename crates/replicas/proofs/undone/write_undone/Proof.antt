@@ -1,0 +1,63 @@
+use borrow.Author.Needs.{needs}
+use mathlib.Core.Path.{_≡_, sym, ap, _∙_}
+use native.Mathlib.Omega.{arith}
+use Rattle.definitions.specs.Limits.{document01}
+use Rattle.definitions.proofs.Decimal.{width-powers}
+use Rattle.replicas.proofs.ResultLaws.{undone-short, undone-whole}
+use Rattle.replicas.proofs.undone.write_undone.Statement.{statement}
+use Rattle.replicas.proofs.undone.write_undone.Tie as tie
+
+width-of-requires : tie.Need-width-of-requires
+width-of-requires c κs = search needs
+
+add-if1 : tie.Need-add-if1
+add-if1 c = omega (arith, c .width-of .ensures, width-powers document01 (c .before .before .args .t) (omega arith))
+
+returns : tie.Need-returns
+returns c = undone-short (c .before .before .before .args .t) (c .before .before .before .args .out .now) (omega (arith, c .if1 .taken, c .before .width-of .ensures))
+
+slice-aggregate-write-fixed : tie.Need-slice-aggregate-write-fixed
+slice-aggregate-write-fixed c = search needs
+
+write-fixed-requires : tie.Need-write-fixed-requires
+write-fixed-requires c κs = search needs
+
+write-number-requires : tie.Need-write-number-requires
+write-number-requires c κs = search needs
+
+slice-aggregate-write-fixed-2 : tie.Need-slice-aggregate-write-fixed-2
+slice-aggregate-write-fixed-2 c = search needs
+
+write-fixed-requires-2 : tie.Need-write-fixed-requires-2
+write-fixed-requires-2 c κs = search needs
+
+same-length : tie.Need-same-length
+same-length c = search needs
+
+returns-2 : tie.Need-returns-2
+returns-2 c =
+    let u = c .before .before .before .before .before .before .before .before .before .before .before .write-fixed in
+    let v = c .before .before .before .before .before .before .before .write-number in
+    let w = c .before .before .write-fixed2 in
+    undone-whole (c .before .before .before .before .before .before .before .before .before .before .before .before .before .before .before .before .before .args .t) (c .before .before .before .before .before .before .before .before .before .before .before .before .before .before .before .before .before .args .out .now) (u .last .0) (v .last .0) (w .last .0) (u .result) (v .result) (w .result) (omega (arith, c .before .before .before .before .before .before .before .before .before .before .before .before .before .before .if1 .left, c .before .before .before .before .before .before .before .before .before .before .before .before .before .before .before .width-of .ensures))
+    (u .ensures .1)
+    (u .ensures .0)
+    (v .ensures .1)
+    (v .ensures .0)
+    (w .ensures .1)
+    (w .ensures .0)
+
+pub write-undone-spec : {M : Type 1} → statement M
+write-undone-spec =
+    tie.close
+    (tie.spec
+    width-of-requires
+    add-if1
+    returns
+    slice-aggregate-write-fixed
+    write-fixed-requires
+    write-number-requires
+    slice-aggregate-write-fixed-2
+    write-fixed-requires-2
+    same-length
+    returns-2)

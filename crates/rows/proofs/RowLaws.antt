@@ -1,0 +1,139 @@
+-- Rows of numbers in a memory, and the rules of C and D lines.
+use mathlib.Core.Path.{_≡_, refl, ap, sym, _∙_}
+use mathlib.Core.List.{List, [], _∷_, _++_}
+use mathlib.Core.Bool.{true, false, not}
+use Prim.Native.Nat.{ℕ, zero, suc, _+_, _-_, _*_, _/_, _<_, _≤_}
+use native.Mathlib.Omega.{arith}
+use native.Mathlib.Numerals.{add-one}
+use native.Mathlib.Nat.{zero-add, suc-add, suc-mul, mul-le-mul-right, le-div-iff-mul-le, div-lt-iff-lt-mul}
+use borrow.Author.Tests.{lt-ltb, le-ltb, ltb-true, le-leb, lt-leb, eq-eqb, ne-eqb}
+use borrow.Rule.Slice.PartMut.{putMid, take-put}
+use lib.Dec.{ltb, eqb}
+use lib.ListN.{length, getD, take, drop, length-append, drop-of-length-le}
+use lib.Seq.{drop-cons, take-take, take-nil}
+use Rattle.definitions.specs.Lists.{nth, any}
+use Rattle.definitions.specs.Limits.{document01}
+use Rattle.definitions.specs.Text.{refused, firstOf, line, lines}
+use Rattle.definitions.specs.Job.{outside, runRule, delayRule}
+use Rattle.definitions.proofs.Lists.{either-right}
+use Rattle.lists.proofs.Over.{drop-lent}
+use Rattle.rows.specs.Rows.{rows, ruleOf, strayOf, wide, rowsInto}
+use Rattle.rows.specs.declared.Kind.{Kind}
+use Rattle.rows.specs.declared.Kind.the-variants.{Runs, Delays}
+
+-- Numbers outside a range, from number i of a row on.
+module _ (low high : ℕ) (row : List ℕ) (i : ℕ) where
+  pub stray-low : i < length row → getD row i 0 < low → true ≡ any (outside low high) (drop i row)
+  unfolding any
+  stray-low h e = rw (drop-cons row i 0 h, lt-ltb _ _ e)
+
+  pub stray-high : i < length row → high < getD row i 0 → true ≡ any (outside low high) (drop i row)
+  unfolding any
+  stray-high h e = rw (drop-cons row i 0 h, lt-ltb high _ e, either-right (ltb (getD row i 0) low) refl)
+
+  pub stray-next : i < length row → low ≤ getD row i 0 → getD row i 0 ≤ high
+      → any (outside low high) (drop (i + 1) row) ≡ any (outside low high) (drop i row)
+  unfolding any
+  stray-next h e f = rw (drop-cons row i 0 h, le-ltb _ low e, le-ltb high _ f, add-one)
+
+  pub stray-end : length row ≤ i → false ≡ any (outside low high) (drop i row)
+  unfolding any
+  stray-end h = rw (drop-of-length-le row h)
+
+-- The rules of row i, after the rows in `seen`.
+module _ (seen : List (List ℕ)) (row : List ℕ) (i : ℕ) (l : length seen ≡ i) where
+  pub out-of-turn : (kind : Kind) → not (eqb (nth row 0) i) ≡ true → 2 ≡ ruleOf kind seen row
+  unfolding runRule delayRule firstOf
+  out-of-turn Runs h = rw (l, h)
+  out-of-turn Delays h = rw (l, h)
+
+  module _ (t : not (eqb (nth row 0) i) ≡ false) where
+    pub out-of-range : (kind : Kind) → true ≡ any (strayOf kind) (drop 1 row) → 3 ≡ ruleOf kind seen row
+    unfolding runRule delayRule firstOf
+    out-of-range Runs e = rw (l, t, ← e)
+    out-of-range Delays e = rw (l, t, ← e)
+
+    pub run-good : false ≡ any (strayOf Runs) (drop 1 row) → 0 ≡ ruleOf Runs seen row
+    unfolding runRule firstOf
+    run-good e = rw (l, t, ← e)
+
+    module _ (e : false ≡ any (strayOf Delays) (drop 1 row)) where
+      pub delay-self : (nth row (i + 1) ≡ 0 → ⊥) → 5 ≡ ruleOf Delays seen row
+      unfolding delayRule firstOf
+      delay-self h = let c : 1 + length seen ≡ i + 1 = omega arith in rw (c, l, t, ← e, ne-eqb (nth row (i + 1)) 0 h)
+
+      pub delay-good : nth row (i + 1) ≡ 0 → 0 ≡ ruleOf Delays seen row
+      unfolding delayRule firstOf
+      delay-good h = let c : 1 + length seen ≡ i + 1 = omega arith in rw (c, l, t, ← e, eq-eqb (nth row (i + 1)) 0 h)
+
+-- Rows that are wide enough for their kind.
+module _ (k n : ℕ) (kind : Kind) (h : wide kind k n ≡ true) where
+  pub some-number : 0 < k
+  some-number = by kind h
+    where
+      by : (x : Kind) → wide x k n ≡ true → 0 < k
+      by Runs w = ltb-true 0 k w
+      by Delays w = omega (arith, ltb-true n k w)
+
+  pub delays-wide : kind ≡ Delays → n < k
+  delays-wide e = ltb-true n k (rw e at h)
+
+-- Whether n rows fit so many cells.
+module _ (room : ℕ) (kind : Kind) (opening : List ℕ) (k n : ℕ) (s : List ℕ) where
+  pub rows-narrow : wide kind k n ≡ false → refused 8 ≡ rowsInto room kind opening k n s
+  unfolding rowsInto
+  rows-narrow w = rw w
+
+  module _ (w : wide kind k n ≡ true) where
+    pub rows-fit : n * k ≤ room → rowsInto room kind opening k n s ≡ lines (line document01 opening k) (ruleOf kind) n [] s
+    unfolding rowsInto
+    rows-fit h = rw (w, le-leb (n * k) room h)
+
+    pub rows-unfit : room / k < n → refused 8 ≡ rowsInto room kind opening k n s
+    unfolding rowsInto
+    rows-unfit h = rw (w, lt-leb (n * k) room (div-lt-iff-lt-mul (some-number k n kind w) .0 h))
+
+-- As many rows as the cells give room for.
+pub rows-within : (room k n : ℕ) → 0 < k → n ≤ room / k → n * k ≤ room
+rows-within room k n z h = le-div-iff-mul-le z .0 h
+
+-- A part that ends within the front.
+drop-take : (a k : ℕ) (l : List ℕ) → drop a (take (a + k) l) ≡ take k (drop a l)
+drop-take zero k l = rw zero-add
+drop-take (suc a) k [] = rw (suc-add, take-nil k)
+drop-take (suc a) k (x ∷ l) = rw suc-add (drop-take a k l)
+
+-- Rows depend on their own cells only.
+pub rows-same : (k n : ℕ) (d e : List ℕ) → take (n * k) d ≡ take (n * k) e → rows k n d ≡ rows k n e
+unfolding rows
+rows-same k zero d e h = refl
+rows-same k (suc n) d e h =
+    let c : suc n * k ≡ n * k + k = suc-mul n k in
+    let m : n * k ≤ suc n * k = omega arith in
+    let f : take (n * k) d ≡ take (n * k) e = sym (take-take (n * k) (suc n * k) d m) ∙ ap (take (n * k)) h ∙ take-take (n * k) (suc n * k) e m in
+    let g : take k (drop (n * k) d) ≡ take k (drop (n * k) e) = sym (drop-take (n * k) k d) ∙ ap (drop (n * k)) (rw c at h) ∙ drop-take (n * k) k e in
+    rw (rows-same k n d e f, g)
+
+pub rows-more : (k n : ℕ) (d : List ℕ) → rows k (n + 1) d ≡ rows k n d ++ take k (drop (n * k) d) ∷ []
+unfolding rows
+rows-more k n d = rw add-one
+
+pub length-rows : (k n : ℕ) (d : List ℕ) → length (rows k n d) ≡ n
+unfolding rows
+length-rows k zero d = refl
+length-rows k (suc n) d = length-append (rows k n d) (take k (drop (n * k) d) ∷ []) ∙ rw (length-rows k n d) (omega arith)
+
+-- A row ends within the rows.
+pub row-ends : (i n k : ℕ) → i < n → i * k + k ≤ n * k
+row-ends i n k h = omega (arith, suc-mul i k, mul-le-mul-right {m = suc i} {n = n} k h)
+
+-- The memory from row i on was lent, `&mut d[a..]`, and holds ys now.
+module _ (k i : ℕ) (d ys : List ℕ) (h : i * k ≤ length d) where
+  abbrev new : List ℕ
+  new = putMid (i * k) (length d - i * k) d ys
+
+  pub lent-rows : rows k i new ≡ rows k i d
+  lent-rows = rows-same k i new d (take-put (i * k) (length d - i * k) d ys h)
+
+  pub lent-more : rows k (i + 1) new ≡ rows k i d ++ take k ys ∷ []
+  lent-more = rows-more k i new ∙ rw (lent-rows, drop-lent (i * k) d ys h)

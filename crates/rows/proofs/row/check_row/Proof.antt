@@ -1,0 +1,63 @@
+use mathlib.Core.Path.{refl, sym, _∙_}
+use Prim.Native.Nat.{_-_}
+use native.Mathlib.Omega.{arith}
+use borrow.Author.Needs.{needs}
+use Rattle.rows.proofs.RowLaws.{out-of-turn, out-of-range, run-good, delay-self, delay-good}
+use Rattle.rows.proofs.row.check_row.Statement.{statement}
+use Rattle.rows.proofs.row.check_row.Tie as tie
+use Rattle.rows.proofs.row.check_row.Reads as reads
+use Rattle.rows.proofs.row.check_row.Lts as lts
+use Rattle.rows.proofs.row.off_range.Reads as off-range-reads
+
+shared-slice-read-misplaced : tie.Need-shared-slice-read-misplaced
+shared-slice-read-misplaced c = search needs
+
+off-range-requires : tie.Need-off-range-requires
+off-range-requires c κs = search needs
+
+returns : tie.Need-returns
+returns c seen l = out-of-turn seen (c .before .before .before .before .args .row .now) (c .before .before .before .before .args .i) l (c .before .before .before .before .args .kind) (c .if1 .taken)
+
+returns-2 : tie.Need-returns-2
+returns-2 c seen l = out-of-range seen (c .before .before .before .before .before .args .row .now) (c .before .before .before .before .before .args .i) l (c .before .if1 .left) (c .before .before .before .before .before .args .kind) (sym (c .if2 .taken) ∙ c .before .before .off-range .ensures)
+
+enum-told : tie.Need-enum-told
+enum-told c = search needs
+
+enum-told-2 : tie.Need-enum-told-2
+enum-told-2 c = search needs
+
+add-if3 : tie.Need-add-if3
+add-if3 c = omega (arith, c .before .before .before .before .before .before .before .pre .1 (c .enum-told2 .given .1))
+
+mul-if3 : tie.Need-mul-if3
+mul-if3 c = let h = c .before .before .before .before .before .before .before .pre .1 (c .enum-told2 .given .1) in search needs
+
+shared-slice-read-if3 : tie.Need-shared-slice-read-if3
+shared-slice-read-if3 c = omega (arith, c .before .before .before .before .before .before .before .before .pre .1 (c .before .enum-told2 .given .1))
+
+returns-3 : tie.Need-returns-3
+returns-3 c seen l = rw (c .before .before .enum-told2 .given .1) (delay-self seen (c .before .before .before .before .before .before .before .before .before .args .row .now) (c .before .before .before .before .before .before .before .before .before .args .i) l (c .before .before .before .before .before .if1 .left) (sym (c .before .before .before .before .if2 .left) ∙ c .before .before .before .before .before .before .off-range .ensures ∙ rw (c .before .before .enum-told2 .given .1) refl) (c .if3 .taken))
+
+returns-4 : tie.Need-returns-4
+returns-4 c seen l = rw (c .enum-told .given .1) (run-good seen (c .before .before .before .before .before .before .before .args .row .now) (c .before .before .before .before .before .before .before .args .i) l (c .before .before .before .if1 .left) (sym (c .before .before .if2 .left) ∙ c .before .before .before .before .off-range .ensures ∙ rw (c .enum-told .given .1) refl))
+
+returns-5 : tie.Need-returns-5
+returns-5 c seen l = rw (c .before .before .enum-told2 .given .1) (delay-good seen (c .before .before .before .before .before .before .before .before .before .args .row .now) (c .before .before .before .before .before .before .before .before .before .args .i) l (c .before .before .before .before .before .if1 .left) (sym (c .before .before .before .before .if2 .left) ∙ c .before .before .before .before .before .before .off-range .ensures ∙ rw (c .before .before .enum-told2 .given .1) refl) (c .if3 .left))
+
+pub check-row-spec : {M : Type 1} → statement M
+check-row-spec =
+    tie.close
+    (tie.spec
+    shared-slice-read-misplaced
+    off-range-requires
+    returns
+    returns-2
+    enum-told
+    enum-told-2
+    add-if3
+    mul-if3
+    shared-slice-read-if3
+    returns-3
+    returns-4
+    returns-5)

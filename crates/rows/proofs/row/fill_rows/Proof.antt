@@ -1,0 +1,122 @@
+-- The lines from row i on, after the rows before it, are all the lines.
+use mathlib.Core.Path.{_≡_, refl, sym, ap, _∙_}
+use mathlib.Core.List.{[]}
+use Prim.Native.Nat.{ℕ, _≤_, _-_, _+_, _*_}
+use native.Mathlib.Omega.{arith}
+use borrow.Author.Needs.{needs}
+use lib.ListN.{length, take, drop}
+use native.Mathlib.Nat.{sub-zero}
+use lib.ListN.{length-take, length-drop}
+use borrow.Rule.Slice.PartMut.{same-len-mid}
+use Rattle.definitions.specs.Limits.{document01}
+use Rattle.definitions.specs.Text.{found, line, lines}
+use Rattle.text.specs.Told.{told}
+use Rattle.lines.proofs.LineLaws.{lines-end, lines-no, lines-next}
+use Rattle.rows.specs.Rows.{rows, ruleOf}
+use Rattle.rows.proofs.RowLaws.{length-rows, row-ends, lent-more}
+use Rattle.rows.proofs.row.fill_rows.Statement.{statement}
+use Rattle.rows.proofs.row.fill_rows.Tie as tie
+
+abbrev Inv-loop : tie.InvT-loop
+Inv-loop s at opening kind n k mem₀ i₀ p₀ mem i p =
+    (i ≤ n)
+    × (length mem ≡ length mem₀)
+    × (lines (line document01 opening k) (ruleOf kind) (n - i) (rows k i mem) (drop p s) ≡ lines (line document01 opening k) (ruleOf kind) n [] (drop at s))
+
+abbrev μ-loop : tie.MeasureT-loop
+μ-loop s at opening kind n k mem₀ i₀ p₀ mem i p = n - i
+
+-- The row that is read ends within the memory.
+ends : (c : tie.In-loop Inv-loop μ-loop) → c .before .loop .i * c .before .before .before .before .before .args .k + c .before .before .before .before .before .args .k ≤ length (c .before .loop .mem)
+ends c = let l = c .before .loop in let a = c .before .before .before .before .before .args in omega (arith, row-ends (l .i) (a .n) (a .k) (c .loop-test .taken), l .inv .1, c .before .before .before .before .before .pre .1)
+
+loop-holds : tie.Need-loop-holds Inv-loop μ-loop
+unfolding rows
+loop-holds c = (omega arith, refl, rw sub-zero)
+
+mul-a : tie.Need-mul-a Inv-loop μ-loop
+mul-a c = omega (arith, ends (c))
+
+mul-read-row : tie.Need-mul-read-row Inv-loop μ-loop
+mul-read-row c = omega (arith, ends (c))
+
+sub-read-row : tie.Need-sub-read-row Inv-loop μ-loop
+sub-read-row c = omega (arith, ends (c))
+
+part-read-row-start : tie.Need-part-read-row-start Inv-loop μ-loop
+part-read-row-start c = omega (arith, ends (c))
+
+part-read-row-end : tie.Need-part-read-row-end Inv-loop μ-loop
+part-read-row-end c = search needs
+
+read-row-requires : tie.Need-read-row-requires Inv-loop μ-loop
+read-row-requires c κs =
+    (c .before .before .before .before .before .before .pre .0, simp (length-take, length-drop) (omega (arith, ends (c .before))), λ e. omega (arith, c .before .loop-test .taken, c .before .before .before .before .before .before .pre .2 e))
+
+enum-known-next : tie.Need-enum-known-next Inv-loop μ-loop
+enum-known-next c = search needs
+
+enum-known-x : tie.Need-enum-known-x Inv-loop μ-loop
+enum-known-x c = search needs
+
+same-length : tie.Need-same-length Inv-loop μ-loop
+same-length c = search needs
+
+returns : tie.Need-returns Inv-loop μ-loop
+returns c =
+    let a = c .before .before .before .before .before .before .before .before .before .before .before .before .args in
+    let l = c .before .before .before .before .before .before .before .before .loop in
+    let e = sym (c .before .before .before .before .before .read-row .ensures (rows (a .k) (l .i) (l .mem)) (length-rows (a .k) (l .i) (l .mem))) ∙ ap (told (a .s .now) (take (a .k) (c .before .before .before .before .before .read-row .last .1 .1 .1 .1 .1 .1 .0))) (c .before .x .given .1) in
+    lines-no (line document01 (a .opening .now) (a .k)) (ruleOf (a .kind)) (a .n) (l .i) (rows (a .k) (l .i) (l .mem)) (drop (l .p) (a .s .now)) (c .before .before .before .before .before .before .before .loop-test .taken) _ e ∙ l .inv .2
+
+add-i : tie.Need-add-i Inv-loop μ-loop
+add-i c = search needs
+
+loop-less : tie.Need-loop-less Inv-loop μ-loop
+loop-less c = search needs
+
+loop-again : tie.Need-loop-again Inv-loop μ-loop
+loop-again c =
+    let a = c .before .before .before .before .before .before .before .before .before .before .before .before .args in
+    let l = c .before .before .before .before .before .before .before .before .loop in
+    let ys = c .before .before .before .before .before .read-row .last .1 .1 .1 .1 .1 .1 .0 in
+    let e = sym (c .before .before .before .before .before .read-row .ensures (rows (a .k) (l .i) (l .mem)) (length-rows (a .k) (l .i) (l .mem))) ∙ ap (told (a .s .now) (take (a .k) ys)) (c .before .next .given .1) in (
+      omega (arith, c .before .before .before .before .before .before .before .loop-test .taken),
+      same-len-mid (l .i * a .k) (length (l .mem) - l .i * a .k) (l .mem) ys (c .before .before .before .before .before .read-row .kept .1 .1 .1 .1 .1 .1 .0) ∙ l .inv .1,
+      rw (lent-more (a .k) (l .i) (l .mem) ys (omega (arith, ends (c .before .before .before .before .before .before .before)))) (lines-next (line document01 (a .opening .now) (a .k)) (ruleOf (a .kind)) (a .n) (l .i) (rows (a .k) (l .i) (l .mem)) (drop (l .p) (a .s .now)) (c .before .before .before .before .before .before .before .loop-test .taken) (take (a .k) ys) _ e ∙ l .inv .2),
+    )
+
+same-length-2 : tie.Need-same-length-2 Inv-loop μ-loop
+same-length-2 c = search needs
+
+returns-2 : tie.Need-returns-2 Inv-loop μ-loop
+returns-2 c =
+    let a = c .before .before .before .before .before .args in
+    let l = c .before .loop in
+    let e : a .n ≡ l .i = omega (arith, l .inv .0, c .loop-test .left) in
+    ap (λ (j : ℕ). found (rows (a .k) j (l .mem)) (drop (l .p) (a .s .now))) e
+    ∙ lines-end (line document01 (a .opening .now) (a .k)) (ruleOf (a .kind)) (a .n) (l .i) (rows (a .k) (l .i) (l .mem)) (drop (l .p) (a .s .now)) (c .loop-test .left)
+    ∙ l .inv .2
+
+pub fill-rows-spec : {M : Type 1} → statement M
+fill-rows-spec =
+    tie.close
+    (tie.spec
+    Inv-loop
+    μ-loop
+    loop-holds
+    mul-a
+    mul-read-row
+    sub-read-row
+    part-read-row-start
+    part-read-row-end
+    read-row-requires
+    enum-known-next
+    enum-known-x
+    same-length
+    returns
+    add-i
+    loop-less
+    loop-again
+    same-length-2
+    returns-2)

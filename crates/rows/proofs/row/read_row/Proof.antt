@@ -1,0 +1,83 @@
+-- The row is read, then its rule is tried.
+use mathlib.Core.Path.{sym, ap, _∙_}
+use native.Mathlib.Omega.{arith}
+use borrow.Author.Needs.{needs}
+use lib.ListN.{take, drop}
+use lib.Seq.{length-take-le}
+use Rattle.definitions.specs.Limits.{document01}
+use Rattle.definitions.specs.Text.{line}
+use Rattle.text.specs.Told.{told}
+use Rattle.lines.proofs.LineLaws.{line-fits, ruled-bad, ruled-no, ruled-yes}
+use Rattle.rows.specs.Rows.{ruleOf}
+use Rattle.rows.proofs.row.read_row.Statement.{statement}
+use Rattle.rows.proofs.row.read_row.Tie as tie
+
+read-line-requires : tie.Need-read-line-requires
+read-line-requires c κs = search needs
+
+enum-known-p : tie.Need-enum-known-p
+enum-known-p c = search needs
+
+slice-reshare-prefix-check-row : tie.Need-slice-reshare-prefix-check-row
+slice-reshare-prefix-check-row c = omega (arith, c .before .before .before .before .before .before .before .before .before .before .pre .1, c .before .before .before .before .before .read-line .kept .1 .1 .1 .1 .0)
+
+slice-aggregate-check-row : tie.Need-slice-aggregate-check-row
+slice-aggregate-check-row c = sym (length-take-le (c .before .before .before .before .before .before .before .before .before .before .before .args .k) (c .before .before .before .before .before .before .read-line .last .1 .1 .1 .1 .0) (omega (arith, c .before .before .before .before .before .before .before .before .before .before .before .pre .1, c .before .before .before .before .before .before .read-line .kept .1 .1 .1 .1 .0)))
+
+check-row-requires : tie.Need-check-row-requires
+check-row-requires c κs =
+    let l = length-take-le (c .before .before .before .before .before .before .before .before .before .before .before .args .k) (c .before .before .before .before .before .before .read-line .last .1 .1 .1 .1 .0) (omega (arith, c .before .before .before .before .before .before .before .before .before .before .before .pre .1, c .before .before .before .before .before .before .read-line .kept .1 .1 .1 .1 .0)) in
+    (omega (arith, l, c .before .before .before .before .before .before .before .before .before .before .before .pre .0), λ e. omega (arith, l, c .before .before .before .before .before .before .before .before .before .before .before .pre .2 e))
+
+same-length : tie.Need-same-length
+same-length c = search needs
+
+returns : tie.Need-returns
+returns c =
+    λ seen l.
+    let a = c .before .before .before .before .before .before .before .before .before .before .before .before .before .args in
+    let ys = c .before .before .before .before .before .before .before .before .read-line .last .1 .1 .1 .1 .0 in
+    let e = sym (c .before .before .before .before .before .before .before .before .read-line .ensures .0 ∙ line-fits _ _ _ _ (c .before .before .before .before .before .before .before .before .before .before .before .before .before .pre .1)) ∙ ap (told (a .s .now) (take (a .k) ys)) (c .before .before .before .before .p .given .1) in
+    ruled-no (line document01 (a .opening .now) (a .k)) (ruleOf (a .kind)) seen (drop (a .at) (a .s .now)) (take (a .k) ys) _ e _ (c .before .check-row .ensures seen l) (c .if1 .taken)
+
+enum-known-x : tie.Need-enum-known-x
+enum-known-x c = search needs
+
+same-length-2 : tie.Need-same-length-2
+same-length-2 c = search needs
+
+returns-2 : tie.Need-returns-2
+returns-2 c =
+    λ seen l.
+    let a = c .before .before .before .before .before .before .before .before .before .before .before .before .before .args in
+    let ys = c .before .before .before .before .before .before .before .before .read-line .last .1 .1 .1 .1 .0 in
+    let e = sym (c .before .before .before .before .before .before .before .before .read-line .ensures .0 ∙ line-fits _ _ _ _ (c .before .before .before .before .before .before .before .before .before .before .before .before .before .pre .1)) ∙ ap (told (a .s .now) (take (a .k) ys)) (c .before .before .before .before .p .given .1) in
+    ruled-yes (line document01 (a .opening .now) (a .k)) (ruleOf (a .kind)) seen (drop (a .at) (a .s .now)) (take (a .k) ys) _ e _ (c .before .check-row .ensures seen l) (c .if1 .left)
+
+same-length-3 : tie.Need-same-length-3
+same-length-3 c = search needs
+
+returns-3 : tie.Need-returns-3
+returns-3 c =
+    λ seen l.
+    let a = c .before .before .before .before .before .before .before .before .before .before .args in
+    let ys = c .before .before .before .before .before .read-line .last .1 .1 .1 .1 .0 in
+    let e = sym (c .before .before .before .before .before .read-line .ensures .0 ∙ line-fits _ _ _ _ (c .before .before .before .before .before .before .before .before .before .before .pre .1)) ∙ ap (told (a .s .now) (take (a .k) ys)) (c .before .x .given .1) in
+    ruled-bad (line document01 (a .opening .now) (a .k)) (ruleOf (a .kind)) seen (drop (a .at) (a .s .now)) _ e
+
+pub read-row-spec : {M : Type 1} → statement M
+read-row-spec =
+    tie.close
+    (tie.spec
+    read-line-requires
+    enum-known-p
+    slice-reshare-prefix-check-row
+    slice-aggregate-check-row
+    check-row-requires
+    same-length
+    returns
+    enum-known-x
+    same-length-2
+    returns-2
+    same-length-3
+    returns-3)

@@ -1,0 +1,30 @@
+-- The cells are cleared, then the lines are read.
+use native.Mathlib.Omega.{arith}
+use borrow.Author.Needs.{needs}
+use lib.ListN.{length}
+use Rattle.stops.proofs.StopLaws.{stops-short, stops-long, stops-whole}
+use Rattle.stops.proofs.load_stops.Statement.{statement}
+use Rattle.stops.proofs.load_stops.Tie as tie
+
+returns : tie.Need-returns
+returns c = λ j e. stops-short (length (c .before .before .before .args .stops .now)) (c .before .before .before .args .s .now) _ j (omega (arith, e, c .if1 .taken))
+
+returns-2 : tie.Need-returns-2
+returns-2 c = λ j e. stops-long (length (c .before .before .before .before .args .stops .now)) (c .before .before .before .before .args .s .now) _ j (omega (arith, e, c .before .if1 .left)) (c .if2 .taken)
+
+clear-requires : tie.Need-clear-requires
+clear-requires c κs = search needs
+
+read-stop-lines-requires : tie.Need-read-stop-lines-requires
+read-stop-lines-requires c κs = (omega (arith, c .before .before .before .before .before .before .if1 .left, c .before .before .before .clear .kept .0), c .before .before .before .clear .ensures)
+
+same-length : tie.Need-same-length
+same-length c = search needs
+
+returns-3 : tie.Need-returns-3
+returns-3 c = λ j e. stops-whole (length (c .before .before .before .before .before .before .before .before .before .before .before .before .args .stops .now)) (c .before .before .before .before .before .before .before .before .before .before .before .before .args .s .now) _ j (omega (arith, e, c .before .before .before .before .before .before .before .before .before .if1 .left)) _ (c .before .before .before .before .before .before .before .before .if2 .left) (c .before .before .read-stop-lines .ensures j e)
+
+pub load-stops-spec : {M : Type 1} → statement M
+load-stops-spec =
+    tie.close
+    (tie.spec returns returns-2 clear-requires read-stop-lines-requires same-length returns-3)

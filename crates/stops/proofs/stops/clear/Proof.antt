@@ -1,0 +1,56 @@
+-- After i turns the first i cells are never.
+use mathlib.Core.Path.{_≡_}
+use Prim.Native.Nat.{ℕ, _≤_, _<_, _-_}
+use native.Mathlib.Omega.{arith}
+use borrow.Author.Needs.{needs}
+use lib.ListN.{length, length-set}
+use Rattle.definitions.specs.Lists.{nth}
+use Rattle.ticks.specs.Cells.{neverCell}
+use Rattle.stops.proofs.StopLaws.{never-more}
+use Rattle.stops.proofs.stops.clear.Statement.{statement}
+use Rattle.stops.proofs.stops.clear.Tie as tie
+
+abbrev Inv-loop : tie.InvT-loop
+Inv-loop stops₀ i₀ stops i = (i ≤ length stops₀) × (length stops ≡ length stops₀) × ((q : ℕ) → q < i → nth stops q ≡ neverCell)
+
+abbrev μ-loop : tie.MeasureT-loop
+μ-loop stops₀ i₀ stops i = length stops₀ - i
+
+loop-holds : tie.Need-loop-holds Inv-loop μ-loop
+loop-holds c = search needs
+
+mul-stops : tie.Need-mul-stops Inv-loop μ-loop
+mul-stops c = search needs
+
+slice-write-stops : tie.Need-slice-write-stops Inv-loop μ-loop
+slice-write-stops c = search needs
+
+add-i : tie.Need-add-i Inv-loop μ-loop
+add-i c = search needs
+
+loop-less : tie.Need-loop-less Inv-loop μ-loop
+loop-less c = search needs
+
+loop-again : tie.Need-loop-again Inv-loop μ-loop
+loop-again c = (omega (arith, c .loop-test .taken, c .before .loop .inv .1), simp length-set (c .before .loop .inv .1), never-more (c .before .loop .stops) (c .before .loop .i) (c .loop-test .taken) (c .before .loop .inv .2))
+
+same-length : tie.Need-same-length Inv-loop μ-loop
+same-length c = search needs
+
+returns : tie.Need-returns Inv-loop μ-loop
+returns c = λ q h. c .before .loop .inv .2 q (omega (arith, h, c .loop-test .left))
+
+pub clear-spec : {M : Type 1} → statement M
+clear-spec =
+    tie.close
+    (tie.spec
+    Inv-loop
+    μ-loop
+    loop-holds
+    mul-stops
+    slice-write-stops
+    add-i
+    loop-less
+    loop-again
+    same-length
+    returns)

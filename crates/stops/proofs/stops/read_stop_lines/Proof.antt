@@ -1,0 +1,114 @@
+use mathlib.Core.Path.{_≡_, refl, sym, ap, _∙_}
+use Prim.Native.Nat.{_-_}
+use native.Mathlib.Omega.{arith}
+use borrow.Author.Needs.{needs}
+use lib.ListN.{length, take, length-set}
+use Rattle.text.specs.Told.{told}
+use Rattle.lines.proofs.LineLaws.{line-fits}
+use Rattle.stops.proofs.StopLaws.{StopsUpTo, stops-none, stops-end, stops-bad, stops-no, stops-shorter, stops-next}
+use Rattle.stops.proofs.stops.read_stop_lines.Statement.{statement}
+use Rattle.stops.proofs.stops.read_stop_lines.Tie as tie
+
+abbrev Inv-loop : tie.InvT-loop
+Inv-loop s m stops₀ line₀ least₀ p₀ t12 stops line least p = (length line ≡ 2) × (length stops ≡ length stops₀) × StopsUpTo s m p least stops
+
+abbrev μ-loop : tie.MeasureT-loop
+μ-loop s m stops₀ line₀ least₀ p₀ t12 stops line least p = length s - p
+
+loop-holds : tie.Need-loop-holds Inv-loop μ-loop
+loop-holds c = (search needs, refl, stops-none (c .before .before .args .s .now) (c .before .before .args .m) (c .before .before .args .stops .now) (c .before .before .pre .0) (c .before .before .pre .1))
+
+slice-aggregate-read-line : tie.Need-slice-aggregate-read-line Inv-loop μ-loop
+slice-aggregate-read-line c = search needs
+
+slice-aggregate-read-line-2 : tie.Need-slice-aggregate-read-line-2 Inv-loop μ-loop
+slice-aggregate-read-line-2 c = search needs
+
+read-line-requires : tie.Need-read-line-requires Inv-loop μ-loop
+read-line-requires c κs = search needs
+
+enum-known-x : tie.Need-enum-known-x Inv-loop μ-loop
+enum-known-x c = search needs
+
+same-length : tie.Need-same-length Inv-loop μ-loop
+same-length c = search needs
+
+returns : tie.Need-returns Inv-loop μ-loop
+returns c = stops-bad (c .before .before .before .before .before .before .before .before .loop .inv .2) (c .before .before .before .before .before .before .before .loop-test .taken) _ (sym (c .before .before .before .before .read-line .ensures .0 ∙ line-fits (length (c .before .before .before .before .before .before .before .before .loop .line)) _ 2 _ (omega (arith, c .before .before .before .before .before .before .before .before .loop .inv .0))) ∙ ap (told (c .before .before .before .before .before .before .before .before .before .before .before .args .s .now) (take 2 (c .before .before .before .before .read-line .last .1 .1 .1 .1 .0))) (c .before .x .given .1))
+
+enum-known-next : tie.Need-enum-known-next Inv-loop μ-loop
+enum-known-next c = search needs
+
+array-read-processor : tie.Need-array-read-processor Inv-loop μ-loop
+array-read-processor c = search needs
+
+array-read-tick : tie.Need-array-read-tick Inv-loop μ-loop
+array-read-tick c = search needs
+
+check-stop-requires : tie.Need-check-stop-requires Inv-loop μ-loop
+check-stop-requires c κs = search needs
+
+same-length-2 : tie.Need-same-length-2 Inv-loop μ-loop
+same-length-2 c = search needs
+
+returns-2 : tie.Need-returns-2 Inv-loop μ-loop
+returns-2 c =
+    let ys = c .before .before .before .before .before .before .read-line .last .1 .1 .1 .1 .0 in
+    let b = sym (c .before .before .before .before .before .before .read-line .ensures .0 ∙ line-fits (length (c .before .before .before .before .before .before .before .before .before .before .loop .line)) _ 2 _ (omega (arith, c .before .before .before .before .before .before .before .before .before .before .loop .inv .0))) ∙ ap (told (c .before .before .before .before .before .before .before .before .before .before .before .before .before .args .s .now) (take 2 ys)) (c .before .before .before .next .given .1) in
+    stops-no (c .before .before .before .before .before .before .before .before .before .before .loop .inv .2) (c .before .before .before .before .before .before .before .before .before .loop-test .taken) ys (c .before .before .before .next .given .0 .0) b _ (c .if1 .taken) (c .before .check-stop .ensures .0)
+
+mul-stops : tie.Need-mul-stops Inv-loop μ-loop
+mul-stops c = omega (arith, c .before .check-stop .ensures .1 (omega arith), c .before .before .before .before .before .before .before .before .before .before .before .before .before .pre .0)
+
+slice-write-stops : tie.Need-slice-write-stops Inv-loop μ-loop
+slice-write-stops c = omega (arith, c .before .check-stop .ensures .1 (omega arith), c .before .before .before .before .before .before .before .before .before .before .before .before .before .pre .0, c .before .before .before .before .before .before .before .before .before .before .loop .inv .2 .size)
+
+add-least : tie.Need-add-least Inv-loop μ-loop
+add-least c = omega (arith, c .before .check-stop .ensures .1 (omega arith), c .before .before .before .before .before .before .before .before .before .before .before .before .before .pre .0)
+
+loop-less : tie.Need-loop-less Inv-loop μ-loop
+loop-less c =
+    let ys = c .before .before .before .before .before .before .read-line .last .1 .1 .1 .1 .0 in
+    let b = sym (c .before .before .before .before .before .before .read-line .ensures .0 ∙ line-fits (length (c .before .before .before .before .before .before .before .before .before .before .loop .line)) _ 2 _ (omega (arith, c .before .before .before .before .before .before .before .before .before .before .loop .inv .0))) ∙ ap (told (c .before .before .before .before .before .before .before .before .before .before .before .before .before .args .s .now) (take 2 ys)) (c .before .before .before .next .given .1) in
+    stops-shorter (c .before .before .before .before .before .before .before .before .before .before .loop .inv .2) (c .before .before .before .before .before .before .before .before .before .loop-test .taken) ys (c .before .before .before .next .given .0 .0) b
+
+loop-again : tie.Need-loop-again Inv-loop μ-loop
+loop-again c =
+    let ys = c .before .before .before .before .before .before .read-line .last .1 .1 .1 .1 .0 in
+    let b = sym (c .before .before .before .before .before .before .read-line .ensures .0 ∙ line-fits (length (c .before .before .before .before .before .before .before .before .before .before .loop .line)) _ 2 _ (omega (arith, c .before .before .before .before .before .before .before .before .before .before .loop .inv .0))) ∙ ap (told (c .before .before .before .before .before .before .before .before .before .before .before .before .before .args .s .now) (take 2 ys)) (c .before .before .before .next .given .1) in
+    let z : c .before .check-stop .result ≡ 0 = omega arith in
+    let k = c .before .check-stop .ensures .1 z in
+    (search needs, simp length-set (c .before .before .before .before .before .before .before .before .before .before .loop .inv .1), stops-next (c .before .before .before .before .before .before .before .before .before .before .loop .inv .2) (c .before .before .before .before .before .before .before .before .before .loop-test .taken) ys (c .before .before .before .next .given .0 .0) b (k .0) (k .1) (k .2) (λ j seen e f. sym z ∙ c .before .check-stop .ensures .0 j seen e f))
+
+same-length-3 : tie.Need-same-length-3 Inv-loop μ-loop
+same-length-3 c = search needs
+
+returns-3 : tie.Need-returns-3 Inv-loop μ-loop
+returns-3 c = stops-end (c .before .loop .inv .2) (c .loop-test .left)
+
+pub read-stop-lines-spec : {M : Type 1} → statement M
+read-stop-lines-spec =
+    tie.close
+    (tie.spec
+    Inv-loop
+    μ-loop
+    loop-holds
+    slice-aggregate-read-line
+    slice-aggregate-read-line-2
+    read-line-requires
+    enum-known-x
+    same-length
+    returns
+    enum-known-next
+    array-read-processor
+    array-read-tick
+    check-stop-requires
+    same-length-2
+    returns-2
+    mul-stops
+    slice-write-stops
+    add-least
+    loop-less
+    loop-again
+    same-length-3
+    returns-3)
