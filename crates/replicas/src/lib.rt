@@ -93,12 +93,12 @@ pub fn end_length(end: u64) -> usize
 }
 
 // The L line, written at the front of `out`, if it fits. The answer is its length, or 0.
-pub fn write_end(out: &mut [u8], end: u64) -> usize
-    ensures { λ r. ⌜ r ≡ placeAfter (now (out .entry)) 0 (endLine document01 (timeIn end)) ⌝ }
-    ensures holds { λ r. ⌜ now (out .exit) ≡ written (now (out .entry)) 0 (endLine document01 (timeIn end)) ⌝ }
+pub fn write_end(out: &mut [u8], time: u64) -> usize
+    ensures { λ r. ⌜ r ≡ placeAfter (now (out .entry)) 0 (endLine document01 (timeIn time)) ⌝ }
+    ensures holds { λ r. ⌜ now (out .exit) ≡ written (now (out .entry)) 0 (endLine document01 (timeIn time)) ⌝ }
 {
-    if end == NEVER {
+    if time == NEVER {
         return text::write_fixed(out, 0, b"L,-\n");
     }
-    printing::write_line(out, b"L,", &[end])
+    printing::write_line(out, b"L,", &[time])
 }

@@ -13,7 +13,7 @@ same-length : tie.Need-same-length
 same-length c = search needs
 
 returns : tie.Need-returns
-returns c = rw (end-never (c .before .before .before .before .before .before .before .args .end) (c .before .before .before .before .before .if1 .taken)) (c .before .before .write-fixed .ensures)
+returns c = rw (end-never (c .before .before .before .before .before .before .before .args .time) (c .before .before .before .before .before .if1 .taken)) (c .before .before .write-fixed .ensures)
 
 slice-aggregate-write-line : tie.Need-slice-aggregate-write-line
 slice-aggregate-write-line c = search needs
@@ -28,7 +28,7 @@ same-length-2 : tie.Need-same-length-2
 same-length-2 c = search needs
 
 returns-2 : tie.Need-returns-2
-returns-2 c = rw (end-tick (c .before .before .before .before .before .before .before .before .args .end) (c .before .before .before .before .before .before .if1 .left)) (c .before .before .write-line .ensures)
+returns-2 c = rw (end-tick (c .before .before .before .before .before .before .before .before .args .time) (c .before .before .before .before .before .before .if1 .left)) (c .before .before .write-line .ensures)
 
 pub write-end-spec : {M : Type 1} → statement M
 write-end-spec =
