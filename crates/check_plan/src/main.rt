@@ -13,7 +13,8 @@ use mirguneth::Checked;
 // What is printed for the two texts, at the front of `out`, which has room for `N,` and two numbers. The answer is its length.
 fn answer(job: &[u8], plan: &[u8], out: &mut [u8]) -> usize
     requires { ⌜ length (now out) ≡ 24 ⌝ }
-    ensures { λ r. ⌜ ((ns : List ℕ) × Says (verdict document01 (now (job .entry)) (now (plan .entry))) ns × (r ≡ length (checkPrinted document01 ns)) × (now (out .exit) ≡ over (now (out .entry)) 0 (checkPrinted document01 ns))) ⌝ }
+    ensures { λ r. ⌜ ((ns : List ℕ) × Says (verdict document01 (now (job .entry)) (now (plan .entry)))
+        ns × (r ≡ length (checkPrinted document01 ns)) × (now (out .exit) ≡ over (now (out .entry)) 0 (checkPrinted document01 ns))) ⌝ }
     ensures counted { λ r. ⌜ Counts r (now (out .exit)) ⌝ }
 {
     match mirguneth::check(job, plan) {

@@ -85,12 +85,20 @@ module _ (l : Limits) where
 
 -- What the plan program prints for a job's bytes.
 unfoldable pub planPrinted : List ℕ → List ℕ
-unfolding countFrom keep any all sameNumbers distinct sum greatest firstOf digits exactly number numbers line widthFrom width lowDigits decimal numbersText lineText lines linesToEnd runTime delay incoming outgoing edgeOrder preceded remaining circular jobHead jobHeadRule runRule delayRule edgeLine edgeRule jobLines readJob replicaNumbers planLinesText planText least largest ofTask ready arrival dataReady start stopTime finish walk exits end copies earlies lates bestEnd worstEnd greatestOf waitingFrom scaledRun totalDelay raised settled bottomLevels largestDelay topLevel freeTasks ranked criticalTask trial chosen replicas place planFor planned
+unfolding countFrom keep any all sameNumbers distinct sum greatest firstOf digits exactly number numbers line widthFrom width lowDigits
+    decimal numbersText lineText lines linesToEnd runTime delay incoming outgoing edgeOrder preceded remaining circular jobHead jobHeadRule
+    runRule delayRule edgeLine edgeRule jobLines readJob replicaNumbers planLinesText planText least largest ofTask ready arrival dataReady
+    start stopTime finish walk exits end copies earlies lates bestEnd worstEnd greatestOf waitingFrom scaledRun totalDelay raised settled
+    bottomLevels largestDelay topLevel freeTasks ranked criticalTask trial chosen replicas place planFor planned
 planPrinted job = printed document01 (andThen (readJob document01 job) (λ j. good (planned document01 j)))
 
 -- What the replay program prints for a job's, a plan's and a stop list's bytes.
 unfoldable pub replayPrinted : List ℕ → List ℕ → List ℕ → List ℕ
-unfolding countFrom keep any all sameNumbers distinct sum greatest firstOf digits exactly number numbers line widthFrom width lowDigits decimal numbersText lineText lines linesToEnd runTime delay incoming outgoing edgeOrder preceded remaining circular jobHead jobHeadRule runRule delayRule edgeLine edgeRule jobLines readJob triples descends planHead planHeadRule strays planLine planLineRule planLines readPlan stopLine stopRule readStops least largest ofTask ready arrival dataReady start stopTime finish walk exits end copies replay firstFinish lowest firstBox roundEnd resultLines replayText replayed
+unfolding countFrom keep any all sameNumbers distinct sum greatest firstOf digits exactly number numbers line widthFrom width lowDigits
+    decimal numbersText lineText lines linesToEnd runTime delay incoming outgoing edgeOrder preceded remaining circular jobHead jobHeadRule
+    runRule delayRule edgeLine edgeRule jobLines readJob triples descends planHead planHeadRule strays planLine planLineRule planLines
+    readPlan stopLine stopRule readStops least largest ofTask ready arrival dataReady start stopTime finish walk exits end copies replay
+    firstFinish lowest firstBox roundEnd resultLines replayText replayed
 replayPrinted job plan stops = printed document01 (replayed document01 job plan stops)
 
 -- A verdict as a number and tasks.
@@ -101,5 +109,9 @@ numbered (rejected n) = (n, [])
 
 -- The checker's number for a job's and a plan's bytes, 0 for OK, and with 12 the tasks of which it is true, in plan order.
 unfoldable pub checkNumber : List ℕ → List ℕ → ℕ × List ℕ
-unfolding countFrom keep any all sameNumbers distinct sum greatest firstOf digits exactly number numbers line widthFrom width lowDigits decimal numbersText lineText lines linesToEnd runTime delay incoming outgoing edgeOrder preceded remaining circular jobHead jobHeadRule runRule delayRule edgeLine edgeRule jobLines readJob triples descends planHead planHeadRule strays planLine planLineRule planLines readPlan least largest ofTask ready arrival dataReady start stopTime finish walk exits end copies earlies lates bestEnd worstEnd doubledTasks replicasOf sameTimes ticksAgree endsAgree planRefusal verdict
+unfolding countFrom keep any all sameNumbers distinct sum greatest firstOf digits exactly number numbers line widthFrom width lowDigits
+    decimal numbersText lineText lines linesToEnd runTime delay incoming outgoing edgeOrder preceded remaining circular jobHead jobHeadRule
+    runRule delayRule edgeLine edgeRule jobLines readJob triples descends planHead planHeadRule strays planLine planLineRule planLines
+    readPlan least largest ofTask ready arrival dataReady start stopTime finish walk exits end copies earlies lates bestEnd worstEnd
+    doubledTasks replicasOf sameTimes ticksAgree endsAgree planRefusal verdict
 checkNumber job plan = numbered (verdict document01 job plan)

@@ -67,7 +67,8 @@ fn cell_of(from: u64, to: u64, volume: u64) -> u64
 // The number of the refusal of an edge after those whose pairs are in the table, or 0.
 fn check_edge(v: u64, from: u64, to: u64, volume: u64, pairs: &[u8]) -> u64
     requires { ⌜ (v ≤ 255) × (v * 32 ≤ length (now pairs)) ⌝ }
-    ensures { λ r. ⌜ ((seen : List Edge) → Pairs v seen (now (pairs .entry)) → r ≡ edgeRule document01 v seen (record { from = from; to = to; volume = volume })) × (r ≡ 0 → (from < v) × (to < v) × (volume ≤ 4095) × (pairBit (now (pairs .entry)) from to ≡ 0)) ⌝ }
+    ensures { λ r. ⌜ ((seen : List Edge) → Pairs v seen (now (pairs .entry)) → r ≡ edgeRule document01 v seen (record { from = from; to = to; volume = volume }))
+        × (r ≡ 0 → (from < v) × (to < v) × (volume ≤ 4095) × (pairBit (now (pairs .entry)) from to ≡ 0)) ⌝ }
 {
     if from >= v {
         return 3;

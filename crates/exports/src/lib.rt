@@ -60,7 +60,9 @@ pub extern "C" fn mirguneth_replay(
     out: &mut [u8],
     written: &mut u64,
 ) -> u64
-    ensures { λ r. do ⌜ Exported (replayAnswer document01 (now (job .entry)) (now (plan .entry)) (now (stops .entry)) (← ⟦out.len()⟧ .entry)) (now (out .entry)) (now (out .exit)) (now (written .entry)) (now (written .exit)) r ⌝ }
+    ensures { λ r. do
+      ⌜ Exported (replayAnswer document01 (now (job .entry)) (now (plan .entry)) (now (stops .entry)) (← ⟦out.len()⟧ .entry)) (now (out .entry))
+          (now (out .exit)) (now (written .entry)) (now (written .exit)) r ⌝ }
     ensures { λ r. ⌜ Bears (now (job .entry)) (now (plan .entry)) (now (stops .entry)) ⌝ }
 {
     match mirguneth::replay(job, plan, stops, out) {

@@ -42,6 +42,3 @@ pub const ROWS: usize = 289;
 
 // For each processor its largest delay.
 pub const FAR: usize = 489;
-
-// The time never.
-pub const NEVER: u64 = 18446744073709551615;

@@ -183,7 +183,8 @@ module _ (nextAt : ℕ) (mem : List ℕ) where
   chain-fuel b f (suc n) k h g =
       ⊎-elim
       (λ e. rw e (chain-end (suc (suc n)) ∙ sym (chain-end (suc n))))
-      (λ p. chain-more (suc n) k p ∙ ap (edgeIn (nth mem (edgeAt mem (k - 1))) ∷_) (chain-fuel b f n (nth mem (nextAt + (k - 1))) (omega (arith, f (k - 1) (omega arith))) (omega (arith, f (k - 1) (omega arith)))) ∙ sym (chain-more n k p))
+      (λ p. chain-more (suc n) k p ∙ ap (edgeIn (nth mem (edgeAt mem (k - 1))) ∷_)
+      (chain-fuel b f n (nth mem (nextAt + (k - 1))) (omega (arith, f (k - 1) (omega arith))) (omega (arith, f (k - 1) (omega arith)))) ∙ sym (chain-more n k p))
       (zero-or-more k)
 
 module _ {edgesOf : ℕ → List Edge} {headAt nextAt : ℕ} {mem : List ℕ} (c : Chained edgesOf headAt nextAt mem) where

@@ -199,14 +199,18 @@ module _ {rooms : ℕ} {d mem : List ℕ} (h : JobHeld rooms d) where
       let k′ : KeptOutside (outHeadAt rooms) (levelAt rooms) one two =
       kept-set (outHeadAt rooms + c % 256) (i + 1) (kept-set (outNextAt rooms + i) (nth one (outHeadAt rooms + c % 256)) kept-all (omega arith) (omega arith)) (omega arith) (omega arith) in
       let into : Linking rooms (λ e. e .to) (inHeadAt rooms) (inNextAt rooms) (suc i) (edgeOf d) one =
-      linking-next (λ e. e .to) (inHeadAt rooms) (inNextAt rooms) i (c / 256 % 256) (edgeOf d) (sizes v) (omega arith) (omega arith) (omega arith) (omega arith) (omega arith) (sym f) (ap (λ (e : Edge). e .to) g) (l .ins) in
+      linking-next (λ e. e .to) (inHeadAt rooms) (inNextAt rooms) i (c / 256 % 256) (edgeOf d) (sizes v) (omega arith) (omega arith) (omega arith) (omega arith) (omega arith) (sym f)
+      (ap (λ (e : Edge). e .to) g) (l .ins) in
       let out : Linking rooms (λ e. e .from) (outHeadAt rooms) (outNextAt rooms) i (edgeOf d) one =
-      linking-same (sizes v) (omega arith) (same-before 0 (jobSize rooms) k (omega arith)) (same-behind (outHeadAt rooms) (outHeadAt rooms + 8 * rooms) k (omega arith)) (same-behind (outNextAt rooms) (outNextAt rooms + i) k (omega arith)) (l .outs) in
+      linking-same (sizes v) (omega arith) (same-before 0 (jobSize rooms) k (omega arith)) (same-behind (outHeadAt rooms) (outHeadAt rooms + 8 * rooms) k (omega arith))
+      (same-behind (outNextAt rooms) (outNextAt rooms + i) k (omega arith)) (l .outs) in
       subst (λ (n : ℕ). Laying rooms d two n) (sym (add-one i))
       (record {
         kept = kept-then (l .kept) (kept-then (kept-wider (inHeadAt rooms) (levelAt rooms) k (omega arith) (omega arith)) (kept-wider (inHeadAt rooms) (levelAt rooms) k′ (omega arith) (omega arith)));
-        ins = linking-same (sizes v′) (omega arith) (same-before 0 (jobSize rooms) k′ (omega arith)) (same-before (inHeadAt rooms) (inHeadAt rooms + 8 * rooms) k′ (omega arith)) (same-before (inNextAt rooms) (inNextAt rooms + suc i) k′ (omega arith)) into;
-        outs = linking-next (λ e. e .from) (outHeadAt rooms) (outNextAt rooms) i (c % 256) (edgeOf d) (sizes v′) (omega arith) (omega arith) (omega arith) (omega arith) (omega arith) (sym (f′ ∙ f)) (ap (λ (e : Edge). e .from) g) out;
+        ins = linking-same (sizes v′) (omega arith) (same-before 0 (jobSize rooms) k′ (omega arith)) (same-before (inHeadAt rooms) (inHeadAt rooms + 8 * rooms) k′ (omega arith))
+            (same-before (inNextAt rooms) (inNextAt rooms + suc i) k′ (omega arith)) into;
+        outs = linking-next (λ e. e .from) (outHeadAt rooms) (outNextAt rooms) i (c % 256) (edgeOf d) (sizes v′) (omega arith) (omega arith) (omega arith) (omega arith) (omega arith)
+            (sym (f′ ∙ f)) (ap (λ (e : Edge). e .from) g) out;
       })
 
   chained : (endOf : Edge → ℕ) (headAt nextAt i : ℕ) → i ≡ nth d 2 → KeptOutside (inHeadAt rooms) (levelAt rooms) d mem → Linking rooms endOf headAt nextAt i (edgeOf d) mem

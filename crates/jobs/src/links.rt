@@ -14,7 +14,8 @@ use heads::layout::OUT_NEXT;
 // No task has an edge yet.
 fn clear_heads(mem: &mut [u64], rooms: usize)
     requires { ⌜ length (now mem) ≡ memorySize rooms ⌝ }
-    ensures { λ _. ⌜ KeptOutside (inHeadAt rooms) (levelAt rooms) (now (mem .entry)) (now (mem .exit)) × ((t : ℕ) → t < 8 * rooms → (nth (now (mem .exit)) (inHeadAt rooms + t) ≡ 0) × (nth (now (mem .exit)) (outHeadAt rooms + t) ≡ 0)) ⌝ }
+    ensures { λ _. ⌜ KeptOutside (inHeadAt rooms) (levelAt rooms) (now (mem .entry)) (now (mem .exit))
+        × ((t : ℕ) → t < 8 * rooms → (nth (now (mem .exit)) (inHeadAt rooms + t) ≡ 0) × (nth (now (mem .exit)) (outHeadAt rooms + t) ≡ 0)) ⌝ }
 {
     let in_head = IN_HEAD * rooms;
     let out_head = OUT_HEAD * rooms;

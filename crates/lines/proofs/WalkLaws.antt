@@ -40,7 +40,8 @@ use denote.Triple.Walked.{says, AllGo, Stay, Stays, ends-at, fitsOf, hasOf, onEx
 abbrev pub Of : {M : Type 1} (𝓤 : URA M) (H : Heap 𝓤) (A : Atoms 𝓤) (T : Ended) → Clauses 𝓤 T → Contract 𝓤
 Of 𝓤 H A T c = tripleOf 𝓤 H A (T .signature) (closing 𝓤 H A T c)
 
-module _ {M : Type 1} {𝓤 : URA M} {H : Heap 𝓤} {A : Atoms 𝓤} {K : Type 0} {W : Given 𝓤 H A} {Γ : List (Item 𝓤)} {E : Env 𝓤 H} {C : Calls 𝓤 H} {f : Name} {xs : List Operand} {Λ : Loops 𝓤 H} {q : Post 𝓤 H} {d : Place} where
+module _ {M : Type 1} {𝓤 : URA M} {H : Heap 𝓤} {A : Atoms 𝓤} {K : Type 0} {W : Given 𝓤 H A} {Γ : List (Item 𝓤)} {E : Env 𝓤 H} {C : Calls 𝓤 H} {f : Name} {xs : List Operand} {Λ : Loops 𝓤 H}
+    {q : Post 𝓤 H} {d : Place} where
   pub calls : K → FmC 𝓤 H (W .laws) C → {rest : Body} (T : Ended) (c : Clauses 𝓤 T) → Triple 𝓤 (C f) (Of 𝓤 H A T c) → (y : Of 𝓤 H A T c .Ghost)
       → (φ : Res (T .signature) (y .0 .0) → Lasts T (y .0 .0) (y .0 .3) → Type 0)
       → ((r : Res (T .signature) (y .0 .0)) (ws : Lasts T (y .0 .0) (y .0 .3)) → ent 𝓤 (c (y .0 .0) (y .0 .3) .ensures (y .1) r (atExit T (y .0 .0) (y .0 .3) ws)) (fact 𝓤 (φ r ws)))
@@ -82,13 +83,15 @@ all-go 𝓤 H A W n (s ∷ ss) ks = ((λ κs x f vs fit. W .laws .⇛-intro _), 
 abbrev pub Walk : {M : Type 1} (𝓤 : URA M) (H : Heap 𝓤) (A : Atoms 𝓤) (T : Ended) → Clauses 𝓤 T → Contract 𝓤
 Walk 𝓤 H A T c = walkOf 𝓤 H A T (leaves (T .signature .params) (T .kept)) c
 
-module _ {M : Type 1} (𝓤 : URA M) (H : Heap 𝓤) (A : Atoms 𝓤) (W : Given 𝓤 H A) (T : Ended) (c : Clauses 𝓤 T) (y : Walk 𝓤 H A T c .Ghost) (u : Val) (r : Res (T .signature) (y .0 .0)) (ws : Lasts T (y .0 .0) (y .0 .3)) where
+module _ {M : Type 1} (𝓤 : URA M) (H : Heap 𝓤) (A : Atoms 𝓤) (W : Given 𝓤 H A) (T : Ended) (c : Clauses 𝓤 T) (y : Walk 𝓤 H A T c .Ghost) (u : Val) (r : Res (T .signature) (y .0 .0))
+    (ws : Lasts T (y .0 .0) (y .0 .3)) where
   pub ended : (φ : Type 0) → ent 𝓤 (fact 𝓤 φ) (c (y .0 .0) (y .0 .3) .ensures (y .1) r (atExit T (y .0 .0) (y .0 .3) ws)) → φ
       → ent 𝓤 (⋆ 𝓤 H A (‵ (typeAt (T .signature .result) (y .0 .0) .own r (u ∷ [])) ∷ raw (alive 𝓤 H A (T .signature) (y .0 .0) (y .0 .1)) ∷ ‵ (lasts T (y .0 .0) (y .0 .3) ws) ∷ [])) (Walk 𝓤 H A T c .post y u)
   ended φ clause x =
       let S = T .signature in
       qed W (‵ (typeAt (S .result) (y .0 .0) .own r (u ∷ [])) ∷ raw (alive 𝓤 H A S (y .0 .0) (y .0 .1)) ∷ ‵ (lasts T (y .0 .0) (y .0 .3) ws) ∷ []) ∵
-      suffices ! _ (ends-at 𝓤 H A T (leaves (S .params) (T .kept)) c W y u r ws (fits (y .0 .0) (S .params) (T .kept) (y .0 .3) ws)) $ suffices ! _ (monoR 𝓤 (onExit 𝓤 H A T (leaves (S .params) (T .kept)) (y .0 .0) (y .0 .1) (y .0 .4) u r (y .0 .3) ws) clause) $ says ! x $
+      suffices ! _ (ends-at 𝓤 H A T (leaves (S .params) (T .kept)) c W y u r ws (fits (y .0 .0) (S .params) (T .kept) (y .0 .3) ws)) $ suffices ! _
+      (monoR 𝓤 (onExit 𝓤 H A T (leaves (S .params) (T .kept)) (y .0 .0) (y .0 .1) (y .0 .4) u r (y .0 .3) ws) clause) $ says ! x $
       move ! (1 ∷ []) $ frame ! $ rewrite ! 1 (λ (P : Fml). ‵ P) (had (y .0 .0) (S .params) (T .kept) (y .0 .3) ws (y .0 .4)) refl $ move ! (1 ∷ 0 ∷ []) $ done !
 
 module _ {M : Type 1} (𝓤 : URA M) (H : Heap 𝓤) (𝓜 : Model 𝓤 H) (𝓖 : GhostRules 𝓤 H) (𝓡 : Running 𝓤 H 𝓜) (γ : Routines) where
@@ -97,11 +100,13 @@ module _ {M : Type 1} (𝓤 : URA M) (H : Heap 𝓤) (𝓜 : Model 𝓤 H) (𝓖
   framed = fmOf 𝓤 H (givenOf 𝓤 H 𝓜 𝓖 .laws) (tablesOf 𝓤 H 𝓜 (tables 𝓤 H 𝓜 𝓡 γ))
 
   pub met : (T : Ended) (c : Clauses 𝓤 T) (k : Name) (e : Fn) → Closed 𝓤 H (tables 𝓤 H 𝓜 𝓡 γ .C) (tables 𝓤 H 𝓜 𝓡 γ .Λ) k e
-      → (sp : (κs : Lfts (T .signature .lifetimes)) → Spells (typesAt (T .signature .params) κs)) → ((κs : Lfts (T .signature .lifetimes)) → Tellss (typesAt (T .signature .params) κs) (Ises (typesAt (T .signature .params) κs)) (sp κs))
+      → (sp : (κs : Lfts (T .signature .lifetimes)) → Spells (typesAt (T .signature .params) κs))
+      → ((κs : Lfts (T .signature .lifetimes)) → Tellss (typesAt (T .signature .params) κs) (Ises (typesAt (T .signature .params) κs)) (sp κs))
       → ((κs : Lfts (T .signature .lifetimes)) (qs : Shares (T .signature .lifetimes)) (bounds : AllOutlive (T .signature .lifetimes) (T .signature .outlives) κs) (a : Args (T .signature) κs) (g : c κs a .ghost)
       → Are (typesAt (T .signature .params) κs) (Ises (typesAt (T .signature .params) κs)) a (valss (typesAt (T .signature .params) κs) (sp κs) a)
       → ent 𝓤 (sep 𝓤 (onEntry 𝓤 H (𝓖 .A) (T .signature) κs qs a (valss (typesAt (T .signature .params) κs) (sp κs) a)) (c κs a .requires g))
-      (WpFn 𝓤 H (tables 𝓤 H 𝓜 𝓡 γ .C) (tables 𝓤 H 𝓜 𝓡 γ .Λ) e (flat (typesAt (T .signature .params) κs) (valss (typesAt (T .signature .params) κs) (sp κs) a)) (Walk 𝓤 H (𝓖 .A) T c .post ((κs, qs, bounds, a, valss (typesAt (T .signature .params) κs) (sp κs) a), g))))
+      (WpFn 𝓤 H (tables 𝓤 H 𝓜 𝓡 γ .C) (tables 𝓤 H 𝓜 𝓡 γ .Λ) e (flat (typesAt (T .signature .params) κs) (valss (typesAt (T .signature .params) κs) (sp κs) a))
+      (Walk 𝓤 H (𝓖 .A) T c .post ((κs, qs, bounds, a, valss (typesAt (T .signature .params) κs) (sp κs) a), g))))
       → Triple 𝓤 (tables 𝓤 H 𝓜 𝓡 γ .C k) (Of 𝓤 H (𝓖 .A) T c)
   unfolding tablesOf
   met T c k e closed sp tl walk =

@@ -31,7 +31,8 @@ pub fn moved<'a>(r: Reader<'a>, at: usize) -> Reader<'a>
 // The line at the reader's place: its opening and k numbers, kept at the front of `vals`.
 pub fn line<'a, 'b, 'c>(r: Reader<'a>, opening: &'b [u8], k: usize, vals: &'c mut [u64]) -> Step
     requires { ⌜ k ≤ length (now vals) ⌝ }
-    ensures { λ s. ⌜ (told (now (r .entry .text)) (take k (now (vals .exit))) s ≡ line document01 (now (opening .entry)) k (drop (r .entry .at) (now (r .entry .text)))) × (drop k (now (vals .exit)) ≡ drop k (now (vals .entry))) ⌝ }
+    ensures { λ s. ⌜ (told (now (r .entry .text)) (take k (now (vals .exit))) s ≡ line document01 (now (opening .entry)) k (drop (r .entry .at) (now (r .entry .text))))
+        × (drop k (now (vals .exit)) ≡ drop k (now (vals .entry))) ⌝ }
 {
     lines::line_at(r.text, r.at, opening, k, vals)
 }

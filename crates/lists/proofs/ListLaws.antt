@@ -1,12 +1,12 @@
--- More laws of lists: some member, every member, what is kept.
-use mathlib.Core.Path.{_≡_, refl, sym}
+-- More laws of lists: some member, every member, what is kept, a part.
+use mathlib.Core.Path.{_≡_, refl, sym, _∙_}
 use mathlib.Core.Logic.{inl, inr}
 use mathlib.Core.List.{List, [], _∷_, _++_}
 use mathlib.Core.Bool.{Bool, true, false, _&&_, _||_, or-false, or-assoc}
-use Prim.Native.Nat.{ℕ, _+_, _<_}
+use Prim.Native.Nat.{ℕ, _+_, _<_, _≤_}
 use native.Mathlib.Numerals.{add-one}
-use lib.ListN.{length, getD, drop, set}
-use lib.Seq.{drop-cons, getD-set-same, getD-set-other}
+use lib.ListN.{length, getD, take, drop, set, length-take, length-drop}
+use lib.Seq.{drop-cons, getD-set-same, getD-set-other, getD-take, getD-drop}
 use Rattle.definitions.specs.Lists.{if_then_else_, nth, In, keep, any, all}
 use native.Mathlib.Omega.{arith}
 use borrow.Author.Tests.{eqb-true, eqb-false}
@@ -53,3 +53,11 @@ each-more P xs n x h g e i l = by (eqb i n) refl
     by : (b : Bool) → eqb i n ≡ b → P i (nth (set xs n x) i)
     by true t = let q : i ≡ n = eqb-true i n t in rw (q, getD-set-same xs n x 0 h) e
     by false t = let q = eqb-false i n t in rw (getD-set-other xs n i x 0 q) (g i (omega arith))
+
+-- The n members from a on.
+module _ (xs : List ℕ) (a n : ℕ) where
+  pub part-length : a + n ≤ length xs → length (take n (drop a xs)) ≡ n
+  part-length h = omega (arith, length-take n (drop a xs), length-drop a xs)
+
+  pub part-nth : (i : ℕ) → i < n → nth (take n (drop a xs)) i ≡ nth xs (a + i)
+  part-nth i h = getD-take n (drop a xs) i 0 h ∙ getD-drop a xs i 0

@@ -44,13 +44,6 @@ drop-lent a d ys h =
     let p : postOf a (length d - a) d ≡ [] = drop-of-length-le (drop a d) {i = length d - a} (simp length-drop (omega arith)) in
     drop-at (take a d) (ys ++ postOf a (length d - a) d) a (length-take-le a d h) ∙ rw (p, append-nil)
 
--- the same once more: x is what stands in the slice after s was written, and the callee wrote t after it
-pub lent-more : (d x : List ℕ) (at : ℕ) (s t ys : List ℕ) (m : ℕ) → x ≡ over d at s → m ≡ at + length s → at + length s ≤ length d
-    → ys ≡ over (midOf m (length x - m) x) 0 t → putMid m (length x - m) x ys ≡ over d at (s ++ t)
-lent-more d x at s t ys m e em h w =
-    let lx : length x ≡ length d = ap length e ∙ length-over d at s h in
-    lent x m t ys (omega arith) w ∙ ap (λ (l : List ℕ). over l m t) e ∙ over-over d at s t m em h
-
 -- one store is one element more
 pub over-set : (d : List ℕ) (k v : ℕ) (t : List ℕ) → k < length d → over (set d k v) (k + 1) t ≡ over d k (v ∷ t)
 unfolding over

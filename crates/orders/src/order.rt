@@ -10,7 +10,8 @@ ghost use Rattle.orders.specs.Order.{Within, Arranged, inner, sortable, 
 // Links each task to the edges that leave it, the last of them first, and counts those that enter it. The tables are clear.
 fn link(edges: &[u64], first: &mut [u16; 256], next: &mut [u16; 1024], blocked: &mut [u16; 256])
     requires { ⌜ (length (now edges) ≤ 1024) × (length (now first) ≡ 256) × (length (now next) ≡ 1024) × (length (now blocked) ≡ 256) × ((t : ℕ) → t < 256 → (nth (now first) t ≡ 0) × (nth (now blocked) t ≡ 0)) ⌝ }
-    ensures { λ _. ⌜ Linked (now (edges .entry)) (now (first .exit)) (now (next .exit)) (length (now (edges .entry))) × (length (now (blocked .exit)) ≡ 256) × ((u : ℕ) → u < 256 → nth (now (blocked .exit)) u ≡ entering (now (edges .entry)) [] u (length (now (edges .entry)))) ⌝ }
+    ensures { λ _. ⌜ Linked (now (edges .entry)) (now (first .exit)) (now (next .exit)) (length (now (edges .entry))) × (length (now (blocked .exit)) ≡ 256)
+        × ((u : ℕ) → u < 256 → nth (now (blocked .exit)) u ≡ entering (now (edges .entry)) [] u (length (now (edges .entry)))) ⌝ }
 {
     let mut i = 0;
     while i < edges.len() {
@@ -53,7 +54,8 @@ fn unblock(
     order: &mut [u8; 256],
     n: usize,
 ) -> usize
-    requires { ⌜ (v ≤ 255) × (length (now edges) ≤ 1024) × Within v (map edgeIn (now edges)) × Linked (now edges) (now first) (now next) (length (now edges)) × Sorting v (now edges) i n (now blocked) (now order) × (i < n) ⌝ }
+    requires { ⌜ (v ≤ 255) × (length (now edges) ≤ 1024) × Within v (map edgeIn (now edges)) × Linked (now edges) (now first) (now next) (length (now edges))
+        × Sorting v (now edges) i n (now blocked) (now order) × (i < n) ⌝ }
     ensures { λ r. ⌜ Sorting v (now (edges .entry)) (i + 1) r (now (blocked .exit)) (now (order .exit)) ⌝ }
 {
     let t = order[i] as usize;

@@ -31,19 +31,33 @@ module _ (d e : List ℕ) where
   unfolding placedIn
   placed-same rooms late w zero h s = refl
   placed-same rooms late w (suc k) h s =
-      rw (outcomes-same late (rowAt rooms k) w (same-part (rowAt rooms k) (rowAt rooms k + (1 + 3 * w)) s (omega arith) (omega arith)), placed-same rooms late w k h (same-part (rowAt rooms 0) (rowAt rooms k) s (omega arith) (omega arith)))
+      rw (
+        outcomes-same late (rowAt rooms k) w (same-part (rowAt rooms k) (rowAt rooms k + (1 + 3 * w)) s (omega arith) (omega arith)),
+        placed-same rooms late w k h
+            (same-part (rowAt rooms 0) (rowAt rooms k) s (omega arith) (omega arith)),
+      )
 
   pub replicas-same : (a c : ℕ) → Same a (a + (1 + 3 * c)) d e → rowReplicas a c e ≡ rowReplicas a c d
   unfolding rowReplicas
   replicas-same a zero k = refl
   replicas-same a (suc c) k =
-      rw (k .cell (a + (1 + 3 * c)) (omega arith) (omega arith), k .cell (a + (2 + 3 * c)) (omega arith) (omega arith), k .cell (a + (3 + 3 * c)) (omega arith) (omega arith), replicas-same a c (same-part a (a + (1 + 3 * c)) k (omega arith) (omega arith)))
+      rw (
+        k .cell (a + (1 + 3 * c)) (omega arith) (omega arith),
+        k .cell (a + (2 + 3 * c)) (omega arith) (omega arith),
+        k .cell (a + (3 + 3 * c)) (omega arith) (omega arith),
+        replicas-same
+            a c (same-part a (a + (1 + 3 * c)) k (omega arith) (omega arith)),
+      )
 
   pub lines-same : (rooms : ℕ) (w k : ℕ) → w ≤ 8 → Same (rowAt rooms 0) (rowAt rooms k) d e → linesIn rooms w k e ≡ linesIn rooms w k d
   unfolding linesIn
   lines-same rooms w zero h s = refl
   lines-same rooms w (suc k) h s =
-      rw (s .cell (rowAt rooms k) (omega arith) (omega arith), replicas-same (rowAt rooms k) w (same-part (rowAt rooms k) (rowAt rooms k + (1 + 3 * w)) s (omega arith) (omega arith)), lines-same rooms w k h (same-part (rowAt rooms 0) (rowAt rooms k) s (omega arith) (omega arith)))
+      rw (
+        s .cell (rowAt rooms k) (omega arith) (omega arith),
+        replicas-same (rowAt rooms k) w (same-part (rowAt rooms k) (rowAt rooms k + (1 + 3 * w)) s (omega arith) (omega arith)),
+        lines-same rooms w k h (same-part (rowAt rooms 0) (rowAt rooms k) s (omega arith) (omega arith)),
+      )
 
 -- A plan's lines ------------------------------------------------------------------------------------------------
 
@@ -69,7 +83,8 @@ standing-same {rooms} {k} {d} {e} z j l r s =
     let line : (t : ℕ) → t < nth d 0 → nth e (lineAt rooms + t) ≡ nth d (lineAt rooms + t) = λ t h. l .cell (lineAt rooms + t) (omega arith) (omega arith) in
     record {
       job = held-same (s .job) z a;
-      linked = rw b (chained-same w a (same-part (inHeadAt rooms) (inHeadAt rooms + nth d 0) j (omega arith) (omega arith)) (same-part (inNextAt rooms) (inNextAt rooms + nth d 2) j (omega arith) (omega arith)) (s .linked));
+      linked = rw b (chained-same w a (same-part (inHeadAt rooms) (inHeadAt rooms + nth d 0) j (omega arith) (omega arith))
+          (same-part (inNextAt rooms) (inNextAt rooms + nth d 2) j (omega arith) (omega arith)) (s .linked));
       count = rw v (s .count);
       task-of = λ i h. rw (task i h, v) (s .task-of i h);
       line-of = λ i h. rw (task i h, line (nth d (rowAt rooms i)) (s .task-of i h)) (s .line-of i h);

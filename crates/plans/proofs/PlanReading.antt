@@ -180,7 +180,13 @@ module _ (mem : List ℕ) (a : ℕ) (vs : List ℕ) (h : (i : ℕ) → i < lengt
       let n : 3 * suc c ≡ 3 * c + 3 = omega arith in
       rw (n, take-add (3 * c) 3 us, three us (3 * c) (omega arith))
       (triples-last c (take (3 * c) us) (nth us (3 * c)) (nth us (suc (3 * c))) (nth us (suc (suc (3 * c)))) (length-take-le (3 * c) us (omega arith))
-      ∙ rw (row-triples c (omega arith), cell-of (3 * c) (1 + 3 * c) refl (omega arith), cell-of (suc (3 * c)) (2 + 3 * c) (omega arith) (omega arith), cell-of (suc (suc (3 * c))) (3 + 3 * c) (omega arith) (omega arith)))
+      ∙ rw (
+        row-triples c (omega arith),
+        cell-of (3 * c) (1 + 3 * c) refl (omega arith),
+        cell-of (suc (3 * c)) (2 + 3 * c) (omega arith) (omega arith),
+        cell-of (suc (suc (3 * c)))
+            (3 + 3 * c) (omega arith) (omega arith),
+      ))
 
   pub row-line : length vs ≡ 4 + 3 * nth mem 3 → lineOf vs ≡ lineIn a mem
   row-line g =

@@ -91,4 +91,11 @@ module _ {rooms : ℕ} (mem : List ℕ) (best worst : ℕ) (s : Standing rooms (
       let m : worstAt rooms < length (set mem (bestAt rooms) best) = rw (length-set mem (bestAt rooms) best) (omega arith) in
       let a : nth stored (bestAt rooms) ≡ best = getD-set-other (set mem (bestAt rooms) best) (worstAt rooms) (bestAt rooms) worst 0 (λ e. omega arith) ∙ getD-set-same mem (bestAt rooms) best 0 (omega arith) in
       let b : nth stored (worstAt rooms) ≡ worst = getD-set-same (set mem (bestAt rooms) best) (worstAt rooms) worst 0 m in
-      rw (a, b, stored-kept .before 3 (omega arith), stored-kept .before 0 (omega arith), lines-same mem stored rooms (nth mem 3 + 1) (nth mem 0) (omega arith) (same-behind (rowAt rooms 0) (rowAt rooms (nth mem 0)) stored-kept (omega arith)))
+      rw (
+        a,
+        b,
+        stored-kept .before 3 (omega arith),
+        stored-kept .before 0 (omega arith),
+        lines-same mem stored rooms (nth mem 3 + 1) (nth mem 0) (omega arith)
+            (same-behind (rowAt rooms 0) (rowAt rooms (nth mem 0)) stored-kept (omega arith)),
+      )

@@ -147,7 +147,9 @@ fn fed(mem: &[u64], rooms: usize, t: usize) -> bool
 // The number of the refusal of the line at `a`, after the lines that have a place in the table, or 0.
 fn check_line(mem: &[u64], rooms: usize, a: usize) -> u64
     requires { ⌜ JobHeld rooms (now mem) × LinkedIn rooms (now mem) × (a + 25 ≤ length (now mem)) ⌝ }
-    ensures { λ r. ⌜ ((k : ℕ) → Standing rooms k (now (mem .entry)) → r ≡ planLineRule document01 (jobIn (now (mem .entry))) (linesIn rooms (nth (now (mem .entry)) 3 + 1) k (now (mem .entry))) (lineIn a (now (mem .entry)))) × (r ≡ 0 → (nth (now (mem .entry)) a < nth (now (mem .entry)) 0) × (nth (now (mem .entry)) (lineAt rooms + nth (now (mem .entry)) a) ≡ 0) × RowHeld a (now (mem .entry))) ⌝ }
+    ensures { λ r. ⌜ ((k : ℕ) → Standing rooms k (now (mem .entry)) → r ≡ planLineRule document01 (jobIn (now (mem .entry)))
+        (linesIn rooms (nth (now (mem .entry)) 3 + 1) k (now (mem .entry))) (lineIn a (now (mem .entry))))
+        × (r ≡ 0 → (nth (now (mem .entry)) a < nth (now (mem .entry)) 0) × (nth (now (mem .entry)) (lineAt rooms + nth (now (mem .entry)) a) ≡ 0) × RowHeld a (now (mem .entry))) ⌝ }
 {
     let line = LINE * rooms;
     if strays(mem, a) {
@@ -206,7 +208,10 @@ fn read_plan_line(s: &[u8], at: usize, mem: &mut [u64], rooms: usize, k: usize) 
 // The T lines, kept as rows.
 fn read_plan_lines(s: &[u8], at: usize, mem: &mut [u64], rooms: usize) -> Step
     requires { ⌜ Standing rooms 0 (now mem) ⌝ }
-    ensures { λ r. ⌜ KeptOutside (lineAt rooms) (farAt rooms) (now (mem .entry)) (now (mem .exit)) × (told (now (s .entry)) (linesIn rooms (nth (now (mem .exit)) 3 + 1) (nth (now (mem .exit)) 0) (now (mem .exit))) r ≡ lines (planLine document01 (jobIn (now (mem .entry)))) (planLineRule document01 (jobIn (now (mem .entry)))) (nth (now (mem .entry)) 0) [] (drop at (now (s .entry)))) × ((n : ℕ) → r ≡ Next n → Standing rooms (nth (now (mem .exit)) 0) (now (mem .exit))) ⌝ }
+    ensures { λ r. ⌜ KeptOutside (lineAt rooms) (farAt rooms) (now (mem .entry)) (now (mem .exit))
+        × (told (now (s .entry)) (linesIn rooms (nth (now (mem .exit)) 3 + 1) (nth (now (mem .exit)) 0) (now (mem .exit))) r ≡ lines
+        (planLine document01 (jobIn (now (mem .entry)))) (planLineRule document01 (jobIn (now (mem .entry)))) (nth (now (mem .entry)) 0) [] (drop at (now (s .entry))))
+        × ((n : ℕ) → r ≡ Next n → Standing rooms (nth (now (mem .exit)) 0) (now (mem .exit))) ⌝ }
 {
     let v = mem[0] as usize;
     let mut p = at;

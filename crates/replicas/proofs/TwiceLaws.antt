@@ -8,11 +8,11 @@ use native.Mathlib.Omega.{arith}
 use native.Mathlib.Numerals.{add-one}
 use borrow.Author.Tests.{eqb-true, eq-eqb, ne-eqb, lt-ltb, le-ltb}
 use lib.Dec.{eqb, ltb}
-use lib.ListN.{length, take, drop, length-take, length-drop}
-use lib.Seq.{getD-take, getD-drop}
+use lib.ListN.{length, take, drop}
 use Rattle.definitions.specs.Lists.{if_then_else_, nth, empty}
 use Rattle.definitions.proofs.Lists.{either-right}
 use Rattle.lists.proofs.Counting.{last-or-before}
+use Rattle.lists.proofs.ListLaws.{part-length, part-nth}
 use Rattle.ticks.specs.Cells.{neverCell}
 use Rattle.replicas.specs.Cells.{twins, twice, cellsOf, firstTwice, leastEarly, leastOn}
 
@@ -100,7 +100,8 @@ module _ (w : ℕ) (lines : List ℕ) where
   unfolding firstTwice
   first-all (suc n) h k l = by (first-all n) (firstTwice w n lines) refl (twice (cellsOf w n lines)) refl h
     where
-      by : (firstTwice w n lines ≡ [] → (k : ℕ) → k < n → twice (cellsOf w k lines) ≡ false) → (a : List ℕ) → firstTwice w n lines ≡ a → (b : Bool) → twice (cellsOf w n lines) ≡ b → (if empty a && b then nth lines (n * 25) ∷ [] else a) ≡ []
+      by : (firstTwice w n lines ≡ [] → (k : ℕ) → k < n → twice (cellsOf w k lines) ≡ false) → (a : List ℕ) → firstTwice w n lines ≡ a → (b : Bool) → twice (cellsOf w n lines) ≡ b
+          → (if empty a && b then nth lines (n * 25) ∷ [] else a) ≡ []
           → twice (cellsOf w k lines) ≡ false
       by r (x ∷ a) f b g e = absurd (true≢false (sym (ap empty e)))
       by r [] f true g e = absurd (true≢false (sym (ap empty e)))
@@ -111,7 +112,8 @@ module _ (w : ℕ) (lines : List ℕ) where
   first-some t zero h = absurd (true≢false (ap empty h))
   first-some t (suc n) h = by (first-some t n) (firstTwice w n lines) refl (twice (cellsOf w n lines)) refl h
     where
-      by : (firstTwice w n lines ≡ t ∷ [] → (k : ℕ) × (k < n) × (twice (cellsOf w k lines) ≡ true) × (nth lines (k * 25) ≡ t)) → (a : List ℕ) → firstTwice w n lines ≡ a → (b : Bool) → twice (cellsOf w n lines) ≡ b → (if empty a && b then nth lines (n * 25) ∷ [] else a) ≡ t ∷ []
+      by : (firstTwice w n lines ≡ t ∷ [] → (k : ℕ) × (k < n) × (twice (cellsOf w k lines) ≡ true) × (nth lines (k * 25) ≡ t)) → (a : List ℕ) → firstTwice w n lines ≡ a → (b : Bool)
+          → twice (cellsOf w n lines) ≡ b → (if empty a && b then nth lines (n * 25) ∷ [] else a) ≡ t ∷ []
           → (k : ℕ) × (k < suc n) × (twice (cellsOf w k lines) ≡ true) × (nth lines (k * 25) ≡ t)
       by r [] f false g e = absurd (true≢false (ap empty e))
       by r [] f true g e = (n, omega arith, g, ap (λ (l : List ℕ). nth l 0) e)
@@ -138,19 +140,19 @@ module _ (cells : List ℕ) (c : ℕ) where
 
 -- The cells of the first w replicas of the line at a of a memory, as they are looked at.
 module _ (mem : List ℕ) (a w : ℕ) (h : a + (1 + 3 * w) ≤ length mem) where
-  pub part-length : length (take (a + 1 + 3 * w - (a + 1)) (drop (a + 1) mem)) / 3 ≡ w
-  part-length = omega (arith, length-take (a + 1 + 3 * w - (a + 1)) (drop (a + 1) mem), length-drop (a + 1) mem)
+  pub cells-count : length (take (a + 1 + 3 * w - (a + 1)) (drop (a + 1) mem)) / 3 ≡ w
+  cells-count = omega (arith, part-length mem (a + 1) (a + 1 + 3 * w - (a + 1)) (omega arith))
 
-  part-nth : (c i : ℕ) → 3 * c + i < 3 * w → nth (take (a + 1 + 3 * w - (a + 1)) (drop (a + 1) mem)) (3 * c + i) ≡ nth mem (a + (1 + i + 3 * c))
-  part-nth c i l =
+  cells-nth : (c i : ℕ) → 3 * c + i < 3 * w → nth (take (a + 1 + 3 * w - (a + 1)) (drop (a + 1) mem)) (3 * c + i) ≡ nth mem (a + (1 + i + 3 * c))
+  cells-nth c i l =
       let e : a + 1 + (3 * c + i) ≡ a + (1 + i + 3 * c) = omega arith in
-      getD-take (a + 1 + 3 * w - (a + 1)) (drop (a + 1) mem) (3 * c + i) 0 (omega arith) ∙ getD-drop (a + 1) mem (3 * c + i) 0 ∙ ap (nth mem) e
+      part-nth mem (a + 1) (a + 1 + 3 * w - (a + 1)) (3 * c + i) (omega arith) ∙ ap (nth mem) e
 
   -- The processor of replica c, and its early time.
-  pub part-on : (c : ℕ) → c < w → nth (take (a + 1 + 3 * w - (a + 1)) (drop (a + 1) mem)) (3 * c) ≡ nth mem (a + (1 + 3 * c))
-  part-on c l =
+  pub cells-on : (c : ℕ) → c < w → nth (take (a + 1 + 3 * w - (a + 1)) (drop (a + 1) mem)) (3 * c) ≡ nth mem (a + (1 + 3 * c))
+  cells-on c l =
       let e : 3 * c + 0 ≡ 3 * c = omega arith in
-      ap (nth (take (a + 1 + 3 * w - (a + 1)) (drop (a + 1) mem))) (sym e) ∙ part-nth c 0 (omega arith)
+      ap (nth (take (a + 1 + 3 * w - (a + 1)) (drop (a + 1) mem))) (sym e) ∙ cells-nth c 0 (omega arith)
 
-  pub part-early : (c : ℕ) → c < w → nth (take (a + 1 + 3 * w - (a + 1)) (drop (a + 1) mem)) (3 * c + 1) ≡ nth mem (a + (2 + 3 * c))
-  part-early c l = part-nth c 1 (omega arith)
+  pub cells-early : (c : ℕ) → c < w → nth (take (a + 1 + 3 * w - (a + 1)) (drop (a + 1) mem)) (3 * c + 1) ≡ nth mem (a + (2 + 3 * c))
+  cells-early c l = cells-nth c 1 (omega arith)

@@ -11,12 +11,10 @@ ghost use Rattle.definitions.specs.Replay.{resultLine, endLine};
 ghost use Rattle.text.specs.Told.{written, placeAfter};
 ghost use Rattle.ticks.specs.Cells.{timeIn};
 ghost use Rattle.replicas.specs.Cells.{doubledIn, firstTwice, leastEarly, leastOn};
+use ticks::lanes::NEVER;
 
 mod twice;
 mod undone;
-
-// Never, in a cell.
-const NEVER: u64 = 18446744073709551615;
 
 // Whether some line has two replicas on one processor, and the task of the first that has.
 pub enum Doubling {

@@ -8,8 +8,7 @@ use native.Mathlib.Omega.{arith}
 use native.Mathlib.Numerals.{add-one}
 use borrow.Author.Tests.{le-leb, ltb-false, not-false}
 use lib.Dec.{ltb, leb}
-use lib.ListN.{length, take, drop, length-take, length-drop}
-use lib.Seq.{getD-take, getD-drop}
+use lib.ListN.{length, take, drop}
 use Rattle.definitions.specs.Lists.{if_then_else_, nth, In, keep, distinct}
 use Rattle.definitions.specs.Job.{Job}
 use Rattle.definitions.specs.Plan.{Line, processorsOf, descends}
@@ -23,6 +22,7 @@ use Rattle.plans.specs.Lines.{rowReplicas, linesIn}
 use Rattle.plans.specs.Loading.{lineIn, planIn}
 use Rattle.plans.specs.Loading.{PlanHeld}
 use Rattle.lists.proofs.Counting.{last-or-before}
+use Rattle.lists.proofs.ListLaws.{part-length, part-nth}
 use Rattle.plans.proofs.PlanLaws.{in-tasks-row}
 use Rattle.jobs.proofs.Held.{sizes}
 use Rattle.replicas.specs.Cells.{twins, twice, cellsOf, firstTwice, doubledIn}
@@ -246,10 +246,10 @@ module _ {rooms : ℕ} {mem : List ℕ} (h : PlanHeld rooms mem) where
   lines-length : length lines ≡ nth mem 0 * 25
   lines-length =
       let s = sizes (h .standing .job) in
-      omega (arith, length-take (289 * rooms + nth mem 0 * 25 - 289 * rooms) (drop (289 * rooms) mem), length-drop (289 * rooms) mem, s .size, s .tasks-most .1)
+      omega (arith, part-length mem (289 * rooms) (289 * rooms + nth mem 0 * 25 - 289 * rooms) (omega (arith, s .size, s .tasks-most .1)))
 
   lines-nth : (i : ℕ) → i < nth mem 0 * 25 → nth lines i ≡ nth mem (289 * rooms + i)
-  lines-nth i l = getD-take (289 * rooms + nth mem 0 * 25 - 289 * rooms) (drop (289 * rooms) mem) i 0 (omega arith) ∙ getD-drop (289 * rooms) mem i 0
+  lines-nth i l = part-nth mem (289 * rooms) (289 * rooms + nth mem 0 * 25 - 289 * rooms) i (omega arith)
 
   abbrev cells : ℕ → List ℕ
   cells k = cellsOf (nth mem 3 + 1) k lines
@@ -258,14 +258,13 @@ module _ {rooms : ℕ} {mem : List ℕ} (h : PlanHeld rooms mem) where
     cells-count : length (cells k) / 3 - 1 ≡ nth mem 3
     cells-count =
         let s = sizes (h .standing .job) in
-        omega (arith, length-take (3 * (nth mem 3 + 1)) (drop (k * 25 + 1) lines), length-drop (k * 25 + 1) lines, lines-length, s .losses-most)
+        omega (arith, part-length lines (k * 25 + 1) (3 * (nth mem 3 + 1)) (omega (arith, lines-length, s .losses-most)))
 
     cells-on : (c : ℕ) → c < nth mem 3 + 1 → nth (cells k) (3 * c) ≡ nth mem (rowAt rooms k + (1 + 3 * c))
     cells-on c g =
         let s = sizes (h .standing .job) in
         let e : 289 * rooms + (k * 25 + 1 + 3 * c) ≡ rowAt rooms k + (1 + 3 * c) = omega arith in
-        getD-take (3 * (nth mem 3 + 1)) (drop (k * 25 + 1) lines) (3 * c) 0 (omega arith) ∙ getD-drop (k * 25 + 1) lines (3 * c) 0
-        ∙ lines-nth (k * 25 + 1 + 3 * c) (omega (arith, s .losses-most)) ∙ ap (nth mem) e
+        part-nth lines (k * 25 + 1) (3 * (nth mem 3 + 1)) (3 * c) (omega arith) ∙ lines-nth (k * 25 + 1 + 3 * c) (omega (arith, s .losses-most)) ∙ ap (nth mem) e
 
     twice-here : twice (cells k) ≡ not (distinct (processorsOf (lineIn (rowAt rooms k) mem)))
     twice-here = line-twice (rowAt rooms k) mem (cells k) cells-on (line-ascends h k l) (length (cells k) / 3 - 1) cells-count

@@ -91,7 +91,8 @@ unfolding rowOutcomes
 row-come late a (suc c) b mem g h d (inl e) = rw (← e) (time-back (nth mem (a + ((if late then 3 else 2) + 3 * c))) b (h c (omega arith)) g)
 row-come late a (suc c) b mem g h d (inr i) = row-come late a c b mem g (λ i l. h i (omega arith)) d i
 
-pub placed-come : (rooms : ℕ) (late : Bool) (w k b : ℕ) (mem : List ℕ) → b < neverCell → ((i c : ℕ) → i < k → c < w → nth mem (rowAt rooms i + ((if late then 3 else 2) + 3 * c)) ≤ b) → AllCome b (placedIn rooms late w k mem)
+pub placed-come : (rooms : ℕ) (late : Bool) (w k b : ℕ) (mem : List ℕ) → b < neverCell → ((i c : ℕ) → i < k → c < w → nth mem (rowAt rooms i + ((if late then 3 else 2) + 3 * c)) ≤ b)
+    → AllCome b (placedIn rooms late w k mem)
 unfolding placedIn
 placed-come rooms late w (suc k) b mem g h d i =
     ⊎-elim (row-come late (rowAt rooms k) w b mem g (λ c l. h k c (omega arith) l) d) (placed-come rooms late w k b mem g (λ i c l m. h i c (omega arith) m) d)
@@ -266,7 +267,8 @@ wrote a c p early late d h =
     let y : length two ≡ length one = length-set one (a + (2 + 3 * c)) early in
     record {
       kept = kept-set (a + (3 + 3 * c)) late (kept-set (a + (2 + 3 * c)) early (kept-set (a + (1 + 3 * c)) p kept-all (omega arith) (omega arith)) (omega arith) (omega arith)) (omega arith) (omega arith);
-      processor = getD-set-other two (a + (3 + 3 * c)) (a + (1 + 3 * c)) late 0 (λ q. omega arith) ∙ getD-set-other one (a + (2 + 3 * c)) (a + (1 + 3 * c)) early 0 (λ q. omega arith) ∙ getD-set-same d (a + (1 + 3 * c)) p 0 (omega arith);
+      processor = getD-set-other two (a + (3 + 3 * c)) (a + (1 + 3 * c)) late 0 (λ q. omega arith) ∙ getD-set-other one (a + (2 + 3 * c)) (a + (1 + 3 * c)) early 0 (λ q. omega arith)
+          ∙ getD-set-same d (a + (1 + 3 * c)) p 0 (omega arith);
       early-finish = getD-set-other two (a + (3 + 3 * c)) (a + (2 + 3 * c)) late 0 (λ q. omega arith) ∙ getD-set-same one (a + (2 + 3 * c)) early 0 (omega arith);
       late-finish = getD-set-same two (a + (3 + 3 * c)) late 0 (omega arith);
     }
@@ -349,7 +351,8 @@ module _ {rooms k : ℕ} {mem : List ℕ} (s : Drawn rooms k mem) (r : Ranked ro
       let blocks : Edge → Bool = λ e. eqb (nth mem (lineAt rooms + e .from)) 0 in
       let n : nth mem (blockedAt rooms + t) ≡ length (keep blocks (incoming (jobIn mem) t)) = r .blocked t h ∙ add-zero (length (keep blocks (incoming (jobIn mem) t))) in
       all-same (λ e. has (e .from) (map (λ d. d .task) (earliesIn rooms k mem))) (λ e. not (blocks e)) (incoming (jobIn mem) t)
-      (λ e i. has-placed (s .standing) false (nth mem 3 + 1) (e .from) (omega arith) (rw (tasks-in mem) at (s .standing .job .facts .from-task e (in-incoming (jobIn mem) t e i .0))) ∙ some-test (nth mem (lineAt rooms + e .from)))
+      (λ e i. has-placed (s .standing) false (nth mem 3 + 1) (e .from) (omega arith) (rw (tasks-in mem) at (s .standing .job .facts .from-task e (in-incoming (jobIn mem) t e i .0)))
+      ∙ some-test (nth mem (lineAt rooms + e .from)))
       ∙ sym (none-kept blocks (incoming (jobIn mem) t)) ∙ ap (λ (x : ℕ). eqb x 0) (sym n)
 
   free-tasks : freeTasks (jobIn mem) (earliesIn rooms k mem) (waitingIn rooms mem) ≡ map (waitingAt rooms mem) (keep (isFree rooms mem) (below (nth mem 0)))

@@ -77,7 +77,8 @@ module _ {rooms : ℕ} {mem : List ℕ} (s : Standing rooms (nth mem 0) mem) whe
       let b = s .line-of k (in-below v k n) in
       let f : nth mem (lineAt rooms + task k) ≡ suc i = rw e at a in
       omega arith in
-      let m = full v (map task (below v)) (distinct-map task (below v) one (distinct-count 0 v)) (λ x i. let r = in-map task x (below v) i in let b = s .task-of (r .0) (in-below v (r .0) (r .1)) in rw (r .2) at b) (length-map (below v) task ∙ length-count 0 v) t h in
+      let m = full v (map task (below v)) (distinct-map task (below v) one (distinct-count 0 v)) (λ x i. let r = in-map task x (below v) i in
+      let b = s .task-of (r .0) (in-below v (r .0) (r .1)) in rw (r .2) at b) (length-map (below v) task ∙ length-count 0 v) t h in
       let r = in-map task t (below v) m in
       let l = s .line-of (r .0) (in-below v (r .0) (r .1)) in
       let f : nth mem (lineAt rooms + t) ≡ suc (r .0) = rw (r .2) at l in

@@ -183,7 +183,8 @@ module _ {rooms : ℕ} {mem : List ℕ} (s : Standing rooms (nth mem 0) mem) (r 
   seen-all : (c x p : ℕ) → c ≡ nth mem 3 + 1 → Seen rooms mem t c x p → FirstIn rooms t x p mem
   unfolding firstFinish firstBox
   seen-all c x p e f₀ =
-      let own : ofTask t (outcomesIn rooms mem) ≡ rowOutcomes false (rowOf rooms t mem) (nth mem 3 + 1) mem = placed-rowOf s false (nth mem 3 + 1) (nth mem 0) (omega arith) t h (all-placed s t h) (row-of-task s t h .1) in
+      let own : ofTask t (outcomesIn rooms mem) ≡ rowOutcomes false (rowOf rooms t mem) (nth mem 3 + 1) mem = placed-rowOf s false (nth mem 3 + 1) (nth mem 0) (omega arith) t h
+      (all-placed s t h) (row-of-task s t h .1) in
       let f : FirstOf (ofTask t (outcomesIn rooms mem)) x p = rw (own, ← e) f₀ in
       let ds = ofTask t (outcomesIn rooms mem) in
       let same-time : Outcome → Bool = λ d. same (d .time) (timeIn x) in

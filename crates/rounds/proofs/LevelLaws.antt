@@ -7,9 +7,10 @@ use Prim.Native.Nat.{ℕ, zero, suc, _+_, _*_, _-_, _<_, _≤_, max}
 use native.Mathlib.Omega.{arith}
 use native.Mathlib.Nat.{mul-le-mul}
 use lib.Dec.{ltb}
-use lib.ListN.{length, take, drop, set, length-drop}
-use lib.Seq.{getD-set-same, getD-set-other, getD-take, getD-drop, length-take-le}
+use lib.ListN.{length, take, drop, set}
+use lib.Seq.{getD-set-same, getD-set-other}
 use borrow.Author.Tests.{ltb-true, ltb-false}
+use Rattle.lists.proofs.ListLaws.{part-length, part-nth}
 use Rattle.definitions.specs.Lists.{In, nth, below, greatest}
 use Rattle.definitions.specs.Limits.{document01}
 use Rattle.definitions.specs.Job.{Edge, outgoing}
@@ -197,7 +198,8 @@ module _ {rooms : ℕ} {d : List ℕ} (held : JobHeld rooms d) where
             filled = λ k b g.
                 ⊎-elim
                 (λ (q : nth order k ≡ t). rw q (getD-set-same mem (levelAt rooms + t) x 0 (omega (arith, f .kept .size, filling-task)) ∙ e ∙ filling-level))
-                (λ q. getD-set-other mem (levelAt rooms + t) (levelAt rooms + nth order k) x 0 (λ s. q (omega arith)) ∙ f .filled k (⊎-elim (λ (p : k ≡ i - 1). absurd (q (rw p))) (λ p. omega arith) (equal-or-not k (i - 1))) g)
+                (λ q. getD-set-other mem (levelAt rooms + t) (levelAt rooms + nth order k) x 0 (λ s. q (omega arith))
+                ∙ f .filled k (⊎-elim (λ (p : k ≡ i - 1). absurd (q (rw p))) (λ p. omega arith) (equal-or-not k (i - 1))) g)
                 (equal-or-not (nth order k) t);
           }
 
@@ -226,7 +228,7 @@ module _ {rooms : ℕ} {mem : List ℕ} (held : JobHeld rooms mem) where
       let w = sizes held in
       let a = edgesFrom mem in
       let e : edgesFrom mem + nth mem 2 - a ≡ nth mem 2 = omega arith in
-      rw e (length-take-le (nth mem 2) (drop a mem) (rw (length-drop a mem) (omega arith)))
+      rw e (part-length mem a (nth mem 2) (omega arith))
 
   -- They hold the job's edges.
   edges-part : map edgeIn part ≡ jobIn mem .edges
@@ -235,7 +237,7 @@ module _ {rooms : ℕ} {mem : List ℕ} (held : JobHeld rooms mem) where
       let a = edgesFrom mem in
       let e : edgesFrom mem + n - a ≡ n = omega arith in
       let cells : map (λ i. nth mem (a + i)) (below n) ≡ part =
-      members (λ i. nth mem (a + i)) 0 n part length-part (λ i h. rw e (sym (getD-take n (drop a mem) i 0 h ∙ getD-drop a mem i 0))) in
+      members (λ i. nth mem (a + i)) 0 n part length-part (λ i h. rw e (sym (part-nth mem a n i h))) in
       ap (map edgeIn) (sym cells) ∙ map-map edgeIn (λ i. nth mem (a + i)) (below n) ∙ sym (edges-in mem)
 
   edges-within : Within (nth mem 0) (map edgeIn part)

@@ -103,7 +103,8 @@ module _ {rooms k : ℕ} {d : List ℕ} (s : Drawn rooms k d) (h : k < nth d 0) 
   pub laid-kept : (mem : List ℕ) → Begun rooms k t (boxesFor rooms k t d) d mem → KeptOutside (lineAt rooms) (farAt rooms) d (set (set mem (rowAt rooms k) t) (lineAt rooms + t) (k + 1))
   laid-kept mem b =
       let m : t < 8 * rooms = few in
-      kept-set (lineAt rooms + t) (k + 1) (kept-set (rowAt rooms k) t (kept-wider (lineAt rooms) (farAt rooms) (b .kept) (omega arith) (omega arith)) (omega arith) (omega (arith, w .tasks-most))) (omega arith) (omega arith)
+      kept-set (lineAt rooms + t) (k + 1) (kept-set (rowAt rooms k) t (kept-wider (lineAt rooms) (farAt rooms) (b .kept) (omega arith) (omega arith)) (omega arith)
+      (omega (arith, w .tasks-most))) (omega arith) (omega arith)
 
   -- The finishes that the code computes are the task's.
   pub tried : {clocks : Clocks} {early late : List ℕ} → ClocksHeld clocks (jobIn d) (earliesIn rooms k d) (latesIn rooms k d) → BothFinish rooms t clocks d early late → Tried rooms k t early late d
@@ -210,12 +211,14 @@ module _ {rooms k : ℕ} {d : List ℕ} (s : Drawn rooms k d) (h : k < nth d 0) 
         let m : nth d 0 ≤ 8 * rooms = w .tasks-most .1 in
         record {
           job = held-same (st .job) (x .size) job-cells;
-          linked = rw job-laid (chained-same w job-cells (same-part (inHeadAt rooms) (inHeadAt rooms + nth d 0) heads (omega arith) (omega arith)) (same-part (inNextAt rooms) (inNextAt rooms + nth d 2) heads (omega arith) (omega (arith, w .edges-most))) (st .linked));
+          linked = rw job-laid (chained-same w job-cells (same-part (inHeadAt rooms) (inHeadAt rooms + nth d 0) heads (omega arith) (omega arith))
+              (same-part (inNextAt rooms) (inNextAt rooms + nth d 2) heads (omega arith) (omega (arith, w .edges-most))) (st .linked));
           count = rw tasks-same (omega arith);
           task-of = λ i l. rw tasks-same (⊎-elim (λ (q : i ≡ k). rw (q, x .task) low) (λ q. rw (old-task i q) (st .task-of i q)) (last-or-before k i l));
           line-of = λ i l. ⊎-elim (λ (q : i ≡ k). rw (q, x .task) (x .line)) (λ q. rw (old-task i q, line-other (nth d (rowAt rooms i)) (st .task-of i q) (old i q)) (st .line-of i q)) (last-or-before k i l);
           placed = λ u l. let g : u < nth d 0 = rw tasks-same at l in has-line u g (eqb u t) refl (st .placed u g);
-          row = λ i l. ⊎-elim (λ (q : i ≡ k). rw q new-row) (λ q. row-held-same (rowAt rooms i) w (same-part 0 4 before-lines (omega arith) (omega arith)) (same-part (rowAt rooms i) (rowAt rooms i + 25) old-rows (omega arith) (omega arith)) (st .row i q)) (last-or-before k i l);
+          row = λ i l. ⊎-elim (λ (q : i ≡ k). rw q new-row) (λ q. row-held-same (rowAt rooms i) w (same-part 0 4 before-lines (omega arith) (omega arith))
+              (same-part (rowAt rooms i) (rowAt rooms i + 25) old-rows (omega arith) (omega arith)) (st .row i q)) (last-or-before k i l);
         }
 
     -- The outcomes of the line, and of all lines with it --------------------------------------------------------------
@@ -311,8 +314,11 @@ module _ {rooms k : ℕ} {d : List ℕ} (s : Drawn rooms k d) (h : k < nth d 0) 
               let n : c < nth d 3 + 1 = rw losses-same at m in
               let few : c < 8 = omega (arith, w .losses-most) in
               ⊎-elim (λ (q : i ≡ k). rw q (let x = new-early c n in let y = new-late c n in (omega arith, omega arith)))
-              (λ q. let (x, y) = s .ticks i c q n in
-              (rw (old-rows .cell (rowAt rooms i + (2 + 3 * c)) (omega arith) (omega arith)) (most (nth d (rowAt rooms i + (2 + 3 * c))) x), rw (old-rows .cell (rowAt rooms i + (3 + 3 * c)) (omega arith) (omega arith)) (most (nth d (rowAt rooms i + (3 + 3 * c))) y)))
+              (λ q. let (x, y) = s .ticks i c q n in (
+                rw (old-rows .cell (rowAt rooms i + (2 + 3 * c)) (omega arith) (omega arith)) (most (nth d (rowAt rooms i + (2 + 3 * c))) x),
+                rw
+                    (old-rows .cell (rowAt rooms i + (3 + 3 * c)) (omega arith) (omega arith)) (most (nth d (rowAt rooms i + (3 + 3 * c))) y),
+              ))
               (last-or-before k i l);
           rest = rest-next;
         })
@@ -334,7 +340,11 @@ module _ {rooms k : ℕ} {d : List ℕ} (s : Drawn rooms k d) (h : k < nth d 0) 
         count-split f g from (keep to es)
         (λ a i.
         let l : a .from < nth d 0 = rw (tasks-in d) at (s .standing .job .facts .from-task a (in-keep to a es i .0)) in (
-          λ b. let q = eqb-true (a .from) t b in (eq-eqb (nth d (lineAt rooms + a .from)) 0 (rw q waits), ne-eqb (nth e (lineAt rooms + a .from)) 0 (λ z. let y : nth e (lineAt rooms + t) ≡ 0 = rw q at z in omega (arith, x .line))),
+          λ b. let q = eqb-true (a .from) t b in (
+            eq-eqb (nth d (lineAt rooms + a .from)) 0 (rw q waits),
+            ne-eqb (nth e (lineAt rooms + a .from)) 0
+                (λ z. let y : nth e (lineAt rooms + t) ≡ 0 = rw q at z in omega (arith, x .line)),
+          ),
           λ b. ap (λ (y : ℕ). eqb y 0) (sym (line-other (a .from) l (eqb-false (a .from) t b))),
         ))
         ∙ ap (λ (n : ℕ). length (keep g (keep to es)) + n) (sym back)
@@ -383,7 +393,13 @@ module _ {rooms k : ℕ} {d : List ℕ} (s : Drawn rooms k d) (h : k < nth d 0) 
               let line = line-other u g other in
               let n = eqb-true (nth e (blockedAt rooms + u)) 0 b in
               let free : isFree rooms d u ≡ true = both-true (eq-eqb (nth d (lineAt rooms + u)) 0 (omega arith)) (eq-eqb (nth d (blockedAt rooms + u)) 0 (omega arith)) in
-              rw (before-row .cell (priorityAt rooms + u) (omega arith) (omega arith), job-laid, top-same u (free-fed s r u g free), before-lines .cell (levelAt rooms + u) (omega arith) (omega arith)) (r .priorities u g free);
+              rw (
+                before-row .cell (priorityAt rooms + u) (omega arith) (omega arith),
+                job-laid,
+                top-same u (free-fed s r u g free),
+                before-lines .cell (levelAt rooms + u) (omega arith)
+                    (omega arith),
+              ) (r .priorities u g free);
         }
 
     -- The clocks before the line, which the line leaves as they were.

@@ -50,12 +50,16 @@ module _ (rooms : ℕ) (mem : List ℕ) (t x : ℕ) (h : t < 8 * rooms) (z : len
       let a : length one ≡ memorySize rooms = length-set mem (lineAt rooms + t) 0 ∙ z in
       let b : length two ≡ memorySize rooms = length-set one (blockedAt rooms + t) 0 ∙ a in
       let level : (i : ℕ) → i < t + 1 → nth (set two (priorityAt rooms + t) x) (levelAt rooms + i) ≡ nth mem (levelAt rooms + i) = λ i l.
-      getD-set-other two (priorityAt rooms + t) (levelAt rooms + i) x 0 (λ q. omega arith) ∙ getD-set-other one (blockedAt rooms + t) (levelAt rooms + i) 0 0 (λ q. omega arith) ∙ getD-set-other mem (lineAt rooms + t) (levelAt rooms + i) 0 0 (λ q. omega arith) in
+      getD-set-other two (priorityAt rooms + t) (levelAt rooms + i) x 0 (λ q. omega arith) ∙ getD-set-other one (blockedAt rooms + t) (levelAt rooms + i) 0 0 (λ q. omega arith)
+      ∙ getD-set-other mem (lineAt rooms + t) (levelAt rooms + i) 0 0 (λ q. omega arith) in
       record {
-        line = table-other (λ _. 0) two (lineAt rooms) (t + 1) (priorityAt rooms + t) x (table-other (λ _. 0) one (lineAt rooms) (t + 1) (blockedAt rooms + t) 0 (table-more (λ _. 0) mem (lineAt rooms) t 0 (c .line) (omega arith) refl) (inr (omega arith))) (inr (omega arith));
-        blocked = table-other (λ _. 0) two (blockedAt rooms) (t + 1) (priorityAt rooms + t) x (table-more (λ _. 0) one (blockedAt rooms) t 0 (table-other (λ _. 0) mem (blockedAt rooms) t (lineAt rooms + t) 0 (c .blocked) (inl (omega arith))) (omega arith) refl) (inr (omega arith));
+        line = table-other (λ _. 0) two (lineAt rooms) (t + 1) (priorityAt rooms + t) x
+            (table-other (λ _. 0) one (lineAt rooms) (t + 1) (blockedAt rooms + t) 0 (table-more (λ _. 0) mem (lineAt rooms) t 0 (c .line) (omega arith) refl) (inr (omega arith))) (inr (omega arith));
+        blocked = table-other (λ _. 0) two (blockedAt rooms) (t + 1) (priorityAt rooms + t) x
+            (table-more (λ _. 0) one (blockedAt rooms) t 0 (table-other (λ _. 0) mem (blockedAt rooms) t (lineAt rooms + t) 0 (c .blocked) (inl (omega arith))) (omega arith) refl) (inr (omega arith));
         priority = λ i l.
-            let old = table-other (λ i. nth mem (levelAt rooms + i)) one (priorityAt rooms) t (blockedAt rooms + t) 0 (table-other (λ i. nth mem (levelAt rooms + i)) mem (priorityAt rooms) t (lineAt rooms + t) 0 (c .priority) (inl (omega arith))) (inl (omega arith)) in
+            let old = table-other (λ i. nth mem (levelAt rooms + i)) one (priorityAt rooms) t (blockedAt rooms + t) 0
+            (table-other (λ i. nth mem (levelAt rooms + i)) mem (priorityAt rooms) t (lineAt rooms + t) 0 (c .priority) (inl (omega arith))) (inl (omega arith)) in
             table-more (λ i. nth mem (levelAt rooms + i)) two (priorityAt rooms) t x old (omega arith) e i l ∙ sym (level i l);
       }
 
@@ -125,7 +129,8 @@ module _ {rooms : ℕ} {d mem : List ℕ} {i : ℕ} (h : JobHeld rooms d) (c : C
             → nth (set mem (blockedAt rooms + enters) (nth mem (blockedAt rooms + enters) + 1)) (blockedAt rooms + u) ≡ (if eqb enters u then length (entering d i u) + 1 else length (entering d i u))
         by u g true e =
             let q = eqb-true enters u e in
-            rw (e, ← q) (getD-set-same mem (blockedAt rooms + enters) (nth mem (blockedAt rooms + enters) + 1) 0 (omega (arith, counted-below, sizes h .tasks-most, c .kept .size, h .size)) ∙ ap (λ (n : ℕ). n + 1) (c .counts enters counted-below))
+            rw (e, ← q) (getD-set-same mem (blockedAt rooms + enters) (nth mem (blockedAt rooms + enters) + 1) 0 (omega (arith, counted-below, sizes h .tasks-most, c .kept .size, h .size))
+            ∙ ap (λ (n : ℕ). n + 1) (c .counts enters counted-below))
         by u g false e =
             let n = eqb-false enters u e in
             rw e (getD-set-other mem (blockedAt rooms + enters) (blockedAt rooms + u) (nth mem (blockedAt rooms + enters) + 1) 0 (λ q. n (omega arith)) ∙ c .counts u g)
@@ -249,7 +254,8 @@ module _ {rooms : ℕ} {d a b c e f : List ℕ} (h : JobHeld rooms d) (linked : 
       let held-b = held-kept held-a (levelled .0) (omega arith) in
       let held-c = held-kept held-b (spread .0) (omega arith) in
       outset-drawn outset-held lines-none
-      (rw (job-same w i) (chained-same w i (same-part (inHeadAt rooms) (inHeadAt rooms + nth a 0) j (omega arith) (omega arith)) (same-part (inNextAt rooms) (inNextAt rooms + nth a 2) j (omega arith) (omega arith)) (linked .1)))
+      (rw (job-same w i) (chained-same w i (same-part (inHeadAt rooms) (inHeadAt rooms + nth a 0) j (omega arith) (omega arith))
+      (same-part (inNextAt rooms) (inNextAt rooms + nth a 2) j (omega arith) (omega arith)) (linked .1)))
       (linked-out-same held-a j (linked .2))
       (far-same held-c (same-before 0 (jobSize rooms) after-far (omega arith)) (same-behind (farAt rooms) (memorySize rooms) after-far (omega arith)) (spread .1))
       (levels-same held-b (same-before 0 (jobSize rooms) after-levels (omega arith)) (same-before (levelAt rooms) (lineAt rooms) after-levels (omega arith)) (levelled .1))

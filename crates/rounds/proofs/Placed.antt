@@ -181,9 +181,11 @@ module _ {rooms n : ℕ} {mem : List ℕ} (s : Standing rooms n mem) where
     unfolding dataIn dataReady arrivalIn arrival
     data-placed late p =
         ap largest
-        (map-same (λ e. arrivalIn late (e .volume) p (rowOf rooms (e .from) mem) mem) (arrival (jobIn mem) (choiceOf late) (placedIn rooms late (nth mem 3 + 1) k mem) p) (incoming (jobIn mem) t) (λ e i. rw (feeding-line late e i)))
+        (map-same (λ e. arrivalIn late (e .volume) p (rowOf rooms (e .from) mem) mem) (arrival (jobIn mem) (choiceOf late) (placedIn rooms late (nth mem 3 + 1) k mem) p)
+        (incoming (jobIn mem) t) (λ e i. rw (feeding-line late e i)))
 
-    pub start-placed : (late : Bool) (p : ℕ) → start (jobIn mem) (choiceOf late) (placedIn rooms late (nth mem 3 + 1) k mem) t p ≡ later (ready (jobIn mem) p (placedIn rooms late (nth mem 3 + 1) k mem)) (dataIn rooms late t p mem)
+    pub start-placed : (late : Bool) (p : ℕ) → start (jobIn mem) (choiceOf late) (placedIn rooms late (nth mem 3 + 1) k mem) t p ≡ later
+        (ready (jobIn mem) p (placedIn rooms late (nth mem 3 + 1) k mem)) (dataIn rooms late t p mem)
     unfolding start
     start-placed late p = rw (data-placed late p)
 
@@ -194,7 +196,8 @@ module _ {rooms n : ℕ} {mem : List ℕ} (s : Standing rooms n mem) where
     row-far g volume b (suc c) h = rw (g (nth mem (b + (1 + 3 * c))) (h c (omega arith)), row-far g volume b c (λ i l. h i (omega arith)))
 
     pub top-placed : FarFilled rooms mem
-        → topIn rooms t mem ≡ largest (map (λ e. least (map (λ d. after (e .volume * largestDelay (jobIn mem) (d .processor)) (d .time)) (ofTask (e .from) (placedIn rooms false (nth mem 3 + 1) k mem)))) (incoming (jobIn mem) t))
+        → topIn rooms t mem ≡ largest (map (λ e. least (map (λ d. after (e .volume * largestDelay (jobIn mem) (d .processor)) (d .time))
+        (ofTask (e .from) (placedIn rooms false (nth mem 3 + 1) k mem)))) (incoming (jobIn mem) t))
     unfolding topIn
     top-placed g =
         ap largest

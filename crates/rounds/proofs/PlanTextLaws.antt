@@ -43,7 +43,8 @@ row-numbers mem a (suc w) h =
     let x : 3 + 3 * w ≡ suc (2 + 3 * w) = omega arith in
     let y : 2 + 3 * w ≡ suc (1 + 3 * w) = omega arith in
     let t : take (3 + 3 * w) (drop a mem) ≡ take (1 + 3 * w) (drop a mem) ++ r .processor ∷ [] ++ r .early ∷ [] =
-    ap (λ (i : ℕ). take i (drop a mem)) x ∙ take-next mem a (2 + 3 * w) (omega arith) ∙ ap (λ (i : ℕ). take i (drop a mem) ++ r .early ∷ []) y ∙ ap (λ (l : List ℕ). l ++ r .early ∷ []) (take-next mem a (1 + 3 * w) (omega arith)) in
+    ap (λ (i : ℕ). take i (drop a mem)) x ∙ take-next mem a (2 + 3 * w) (omega arith) ∙ ap (λ (i : ℕ). take i (drop a mem) ++ r .early ∷ []) y
+    ∙ ap (λ (l : List ℕ). l ++ r .early ∷ []) (take-next mem a (1 + 3 * w) (omega arith)) in
     rw (numbers-last (rowReplicas a w mem) r, n, take-next mem a (3 + 3 * w) (omega arith), t, ← row-numbers mem a w (omega arith))
     (simp append-assoc)
 
@@ -51,7 +52,9 @@ lines-last : (ns : List Line) (n : Line)
     → planLinesText document01 (ns ++ n ∷ []) ≡ planLinesText document01 ns ++ lineText document01 (bytes "T,") (n .task ∷ replicaNumbers (n .replicas))
 unfolding planLinesText
 lines-last [] n = append-nil (lineText document01 (bytes "T,") (n .task ∷ replicaNumbers (n .replicas)))
-lines-last (m ∷ ns) n = rw (lines-last ns n) (sym (append-assoc (lineText document01 (bytes "T,") (m .task ∷ replicaNumbers (m .replicas))) (planLinesText document01 ns) (lineText document01 (bytes "T,") (n .task ∷ replicaNumbers (n .replicas)))))
+lines-last (m ∷ ns) n =
+    rw (lines-last ns n) (sym (append-assoc (lineText document01 (bytes "T,") (m .task ∷ replicaNumbers (m .replicas))) (planLinesText document01 ns)
+    (lineText document01 (bytes "T,") (n .task ∷ replicaNumbers (n .replicas)))))
 
 module _ {rooms : ℕ} {mem : List ℕ} (s : Sizes rooms mem) where
   -- The cells of row k are in the memory, 25 at the most.

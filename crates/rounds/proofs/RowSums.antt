@@ -7,9 +7,10 @@ use native.Mathlib.Omega.{arith}
 use native.Mathlib.Nat.{mul-le-mul}
 use borrow.Author.Tests.{eqb-true, eqb-false, ne-eqb}
 use lib.Dec.{eqb}
-use lib.ListN.{length, take, drop, length-drop, length-map}
-use lib.Seq.{length-take-le, getD-take, getD-drop, ext-getD}
+use lib.ListN.{length, take, drop, length-map}
+use lib.Seq.{ext-getD}
 use borrow.Rule.Slice.PartMut.{midOf}
+use Rattle.lists.proofs.ListLaws.{part-length, part-nth}
 use Rattle.definitions.specs.Lists.{if_then_else_, nth, countFrom, below, keep, sum}
 use Rattle.definitions.specs.Job.{runTime, delay}
 use Rattle.definitions.specs.Planner.{scaledRun, totalDelay}
@@ -71,9 +72,9 @@ sum-others f p (x ∷ xs) e = by (eqb x p) refl (sum-others f p xs e)
 -- The m cells from a on.
 part-cells : (mem : List ℕ) (a m : ℕ) → a + m ≤ length mem → take m (drop a mem) ≡ map (λ q. nth mem (a + q)) (below m)
 part-cells mem a m h =
-    let l : length (take m (drop a mem)) ≡ m = length-take-le m (drop a mem) (simp length-drop (omega arith)) in
+    let l : length (take m (drop a mem)) ≡ m = part-length mem a m h in
     ext-getD 0 (take m (drop a mem)) (map (λ q. nth mem (a + q)) (below m)) (l ∙ sym (length-map (below m) (λ q. nth mem (a + q)) ∙ length-count 0 m))
-    (λ i g. getD-take m (drop a mem) i 0 (omega arith) ∙ getD-drop a mem i 0 ∙ sym (getD-below (λ q. nth mem (a + q)) m i 0 (omega arith)))
+    (λ i g. part-nth mem a m i (omega arith) ∙ sym (getD-below (λ q. nth mem (a + q)) m i 0 (omega arith)))
 
 -- The sum of the m cells behind the head of row r.
 abbrev pub rowSum : List ℕ → ℕ → ℕ

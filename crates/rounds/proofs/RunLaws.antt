@@ -101,7 +101,8 @@ module _ {rooms k n : ℕ} {d e : List ℕ} (z : Retimed rooms k n d e) where
       record {
         job = held-kept (s .job) (z .outside) (omega arith);
         linked = rw (job-retimed (s .job))
-            (chained-same w (same-part 0 (jobSize rooms) j (omega arith) (omega arith)) (same-part (inHeadAt rooms) (inHeadAt rooms + nth d 0) j (omega arith) (omega arith)) (same-part (inNextAt rooms) (inNextAt rooms + nth d 2) j (omega arith) (omega arith)) (s .linked));
+            (chained-same w (same-part 0 (jobSize rooms) j (omega arith) (omega arith)) (same-part (inHeadAt rooms) (inHeadAt rooms + nth d 0) j (omega arith) (omega arith))
+            (same-part (inNextAt rooms) (inNextAt rooms + nth d 2) j (omega arith) (omega arith)) (s .linked));
         count = omega arith;
         task-of = λ i h. rw (task-retimed i, v) (s .task-of i (rw v at h));
         line-of = λ i h. let g : i < nth d 0 = rw v at h in rw (task-retimed i, line (nth d (rowAt rooms i)) (s .task-of i g)) (s .line-of i g);
@@ -168,7 +169,11 @@ module _ {rooms : ℕ} (k c : ℕ) {cells mem : List ℕ} (r : Running rooms k c
       (map-same (arrival (jobIn mem) least (ranIn rooms k c mem) box) (arrival (jobIn mem) least (placedIn rooms false (nth mem 3 + 1) k mem) box) (incoming (jobIn mem) runner) λ e i.
       let l = f e i .1 in
       let own = r .standing .line-of k a in
-      rw (ofTask-append (e .from) (rowOutcomes false (rowAt rooms k) c mem) (placedIn rooms false (nth mem 3 + 1) k mem), row-none false mem (e .from) (rowAt rooms k) c (λ q. let g : nth mem (lineAt rooms + e .from) ≡ suc k = rw q at own in omega arith)))
+      rw (
+        ofTask-append (e .from) (rowOutcomes false (rowAt rooms k) c mem) (placedIn rooms false (nth mem 3 + 1) k mem),
+        row-none false mem (e .from) (rowAt rooms k) c
+            (λ q. let g : nth mem (lineAt rooms + e .from) ≡ suc k = rw q at own in omega arith),
+      ))
       ∙ sym (data-placed (r .standing) k runner (omega arith) f false box)
 
   module _ (x : ℕ) (e : timeIn x ≡ after (runTime (jobIn mem) runner box) (later (timeIn (nth cells box)) (dataIn rooms false runner box mem))) where

@@ -12,9 +12,9 @@ ghost use Rattle.plans.specs.Lines.{rowOutcomes, placedIn, Standing};
 ghost use Rattle.rounds.specs.Schedule.{choiceOf};
 use crate::times;
 use heads::layout::LINE;
-use heads::layout::NEVER;
 use heads::layout::OUT_HEAD;
 use heads::layout::ROWS;
+use ticks::lanes::NEVER;
 
 // The choice among no times.
 fn chosen_of_none(late: bool) -> u64
@@ -55,7 +55,8 @@ fn chosen_in(mem: &[u64], late: bool, a: usize) -> u64
 // The end of t, if no edge leaves it, else 0.
 fn exit_time(mem: &[u64], rooms: usize, late: bool, t: usize) -> u64
     requires { ⌜ Standing rooms (nth (now mem) 0) (now mem) × LinkedOut rooms (now mem) × (t < nth (now mem) 0) ⌝ }
-    ensures { λ r. ⌜ timeIn r ≡ (if empty (outgoing (jobIn (now (mem .entry))) t) then choiceOf late (times (ofTask t (placedIn rooms late (nth (now (mem .entry)) 3 + 1) (nth (now (mem .entry)) 0) (now (mem .entry))))) else tick 0) ⌝ }
+    ensures { λ r. ⌜ timeIn r ≡ (if empty (outgoing (jobIn (now (mem .entry))) t) then choiceOf late
+        (times (ofTask t (placedIn rooms late (nth (now (mem .entry)) 3 + 1) (nth (now (mem .entry)) 0) (now (mem .entry))))) else tick 0) ⌝ }
 {
     let out_head = OUT_HEAD * rooms;
     let rows = ROWS * rooms;

@@ -52,7 +52,8 @@ fn total_delay(mem: &[u64]) -> u64
 
 // The largest of message and level over the edges that leave t; 0 if none does.
 fn longest_after(mem: &[u64], rooms: usize, t: usize, total: u64) -> u64
-    requires { ⌜ JobHeld rooms (now mem) × LinkedOut rooms (now mem) × (t < nth (now mem) 0) × (total ≡ totalDelay (jobIn (now mem))) × ((e : Edge) → In e (outgoing (jobIn (now mem)) t) → nth (now mem) (levelAt rooms + e .to) ≤ levelMost) ⌝ }
+    requires { ⌜ JobHeld rooms (now mem) × LinkedOut rooms (now mem) × (t < nth (now mem) 0) × (total ≡ totalDelay (jobIn (now mem)))
+        × ((e : Edge) → In e (outgoing (jobIn (now mem)) t) → nth (now mem) (levelAt rooms + e .to) ≤ levelMost) ⌝ }
     ensures { λ r. ⌜ (r ≡ greatest (map (sent rooms (now (mem .entry))) (outgoing (jobIn (now (mem .entry))) t))) × (r ≤ 1000000000000) ⌝ }
 {
     let level = LEVEL * rooms;

@@ -76,7 +76,9 @@ pub fn replay_in(
     rooms: usize,
     out: &mut [u8],
 ) -> Answer
-    ensures { λ r. do ⌜ Answered (replayBoth (bothFrom rooms (length (now (mem .entry))) (headOf head) (drop at (now (job .entry))) (now (plan .entry))) (now (stops .entry)) (← ⟦out.len()⟧ .entry)) (now (out .entry)) (now (out .exit)) r ⌝ }
+    ensures { λ r. do
+      ⌜ Answered (replayBoth (bothFrom rooms (length (now (mem .entry))) (headOf head) (drop at (now (job .entry))) (now (plan .entry)))
+          (now (stops .entry)) (← ⟦out.len()⟧ .entry)) (now (out .entry)) (now (out .exit)) r ⌝ }
 {
     match plans::load_both(job, at, head, plan, mem, rooms) {
         Step::Next(_) => results::put_replay(stops, mem, rooms, out),

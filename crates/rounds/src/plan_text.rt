@@ -67,7 +67,8 @@ fn write_row(out: &mut [u8], at: usize, mem: &[u64], rooms: usize, k: usize) -> 
 // The T lines, written from `from` on. The answer is the place after them.
 fn write_rows(out: &mut [u8], from: usize, mem: &[u64], rooms: usize) -> usize
     requires { ⌜ JobHeld rooms (now mem) × (from + length (rowLines rooms (nth (now mem) 0) (now mem)) ≤ length (now out)) ⌝ }
-    ensures { λ r. ⌜ (r ≡ from + length (rowLines rooms (nth (now (mem .entry)) 0) (now (mem .entry)))) × (now (out .exit) ≡ over (now (out .entry)) from (rowLines rooms (nth (now (mem .entry)) 0) (now (mem .entry)))) ⌝ }
+    ensures { λ r. ⌜ (r ≡ from + length (rowLines rooms (nth (now (mem .entry)) 0) (now (mem .entry))))
+        × (now (out .exit) ≡ over (now (out .entry)) from (rowLines rooms (nth (now (mem .entry)) 0) (now (mem .entry)))) ⌝ }
 {
     let v = mem[0] as usize;
     let mut at = from;
@@ -82,7 +83,8 @@ fn write_rows(out: &mut [u8], from: usize, mem: &[u64], rooms: usize) -> usize
 // The plan in memory, written at the front of `out`. The answer is the text's length.
 pub fn write_plan(out: &mut [u8], mem: &[u64], rooms: usize) -> usize
     requires { ⌜ JobHeld rooms (now mem) × (length (planText document01 (jobIn (now mem)) (planIn rooms (now mem))) ≤ length (now out)) ⌝ }
-    ensures { λ r. ⌜ (r ≡ length (planText document01 (jobIn (now (mem .entry))) (planIn rooms (now (mem .entry))))) × (now (out .exit) ≡ over (now (out .entry)) 0 (planText document01 (jobIn (now (mem .entry))) (planIn rooms (now (mem .entry))))) ⌝ }
+    ensures { λ r. ⌜ (r ≡ length (planText document01 (jobIn (now (mem .entry))) (planIn rooms (now (mem .entry)))))
+        × (now (out .exit) ≡ over (now (out .entry)) 0 (planText document01 (jobIn (now (mem .entry))) (planIn rooms (now (mem .entry))))) ⌝ }
 {
     let at = printing::write_line(out, b"PLAN,", &plan_head(mem, rooms));
     write_rows(out, at, mem, rooms)

@@ -47,7 +47,8 @@ fn clear_tasks(mem: &mut [u64], rooms: usize)
 // Each edge blocks the task that it enters.
 fn count_blocked(mem: &mut [u64], rooms: usize)
     requires { ⌜ JobHeld rooms (now mem) × ((t : ℕ) → t < nth (now mem) 0 → nth (now mem) (blockedAt rooms + t) ≡ 0) ⌝ }
-    ensures { λ _. ⌜ KeptOutside (blockedAt rooms) (priorityAt rooms) (now (mem .entry)) (now (mem .exit)) × ((t : ℕ) → t < nth (now (mem .exit)) 0 → nth (now (mem .exit)) (blockedAt rooms + t) ≡ length (incoming (jobIn (now (mem .exit))) t)) ⌝ }
+    ensures { λ _. ⌜ KeptOutside (blockedAt rooms) (priorityAt rooms) (now (mem .entry)) (now (mem .exit))
+        × ((t : ℕ) → t < nth (now (mem .exit)) 0 → nth (now (mem .exit)) (blockedAt rooms + t) ≡ length (incoming (jobIn (now (mem .exit))) t)) ⌝ }
 {
     let blocked = BLOCKED * rooms;
     let v = mem[0];
@@ -101,8 +102,12 @@ fn place_task(
     t: usize,
     clocks: Clocks,
 ) -> Clocks
-    requires { ⌜ DelayTable (now delays) (now mem) × Drawn rooms k (now mem) × Ranked rooms [] (now mem) × (k < nth (now mem) 0) × (t ≡ bestOf (nth (now mem) 0) (freeIn rooms (now mem))) × ClocksHeld clocks (jobIn (now mem)) (earliesIn rooms k (now mem)) (latesIn rooms k (now mem)) ⌝ }
-    ensures { λ r. ⌜ KeptOutside (lineAt rooms) (farAt rooms) (now (mem .entry)) (now (mem .exit)) × Drawn rooms (k + 1) (now (mem .exit)) × Ranked rooms (reverse (outgoing (jobIn (now (mem .exit))) t)) (now (mem .exit)) × ClocksHeld r (jobIn (now (mem .exit))) (earliesIn rooms (k + 1) (now (mem .exit))) (latesIn rooms (k + 1) (now (mem .exit))) × Taken rooms t (now (mem .entry)) (now (mem .exit)) ⌝ }
+    requires { ⌜ DelayTable (now delays) (now mem) × Drawn rooms k (now mem) × Ranked rooms [] (now mem) × (k < nth (now mem) 0) × (t ≡ bestOf (nth (now mem) 0) (freeIn rooms (now mem)))
+        × ClocksHeld clocks (jobIn (now mem)) (earliesIn rooms k (now mem)) (latesIn rooms k (now mem)) ⌝ }
+    ensures { λ r. ⌜ KeptOutside (lineAt rooms) (farAt rooms) (now (mem .entry)) (now (mem .exit)) × Drawn rooms (k + 1) (now (mem .exit))
+        × Ranked rooms (reverse (outgoing (jobIn (now (mem .exit))) t)) (now (mem .exit))
+        × ClocksHeld r (jobIn (now (mem .exit))) (earliesIn rooms (k + 1) (now (mem .exit))) (latesIn rooms (k + 1) (now (mem .exit)))
+        × Taken rooms t (now (mem .entry)) (now (mem .exit)) ⌝ }
 {
     let rows = ROWS * rooms;
     let line = LINE * rooms;
@@ -119,7 +124,8 @@ fn place_task(
 // has.
 fn unblock(mem: &mut [u64], rooms: usize, u: usize, free: &mut [u8], n: usize) -> usize
     requires { ⌜ ((d : List ℕ) × (i k : ℕ) × Unblocks rooms i k u d (now mem)) × FreeList rooms (now free) n (now mem) ⌝ }
-    ensures { λ r. ⌜ ((d : List ℕ) (i k : ℕ) → Unblocks rooms i k u d (now (mem .entry)) → Releasing rooms i (nth d (outNextAt rooms + (k - 1))) d (now (mem .exit))) × FreeList rooms (now (free .exit)) r (now (mem .exit)) ⌝ }
+    ensures { λ r. ⌜ ((d : List ℕ) (i k : ℕ) → Unblocks rooms i k u d (now (mem .entry)) → Releasing rooms i (nth d (outNextAt rooms + (k - 1))) d (now (mem .exit)))
+        × FreeList rooms (now (free .exit)) r (now (mem .exit)) ⌝ }
 {
     let blocked = BLOCKED * rooms;
     let b = mem[blocked + u] - 1;

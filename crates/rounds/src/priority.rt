@@ -80,7 +80,8 @@ fn spread(mem: &[u64], rooms: usize, a: usize, volume: u64) -> u64
 
 // The scaled top level of t, whose predecessors all have a line.
 pub fn top_level(mem: &[u64], rooms: usize, t: usize) -> u64
-    requires { ⌜ ((k : ℕ) × Standing rooms k (now mem) × ((i c : ℕ) → i < k → c < nth (now mem) 3 + 1 → nth (now mem) (rowAt rooms i + (2 + 3 * c)) ≤ document01 .tick)) × (t < nth (now mem) 0) × FedIn rooms t (now mem) × FarFilled rooms (now mem) ⌝ }
+    requires { ⌜ ((k : ℕ) × Standing rooms k (now mem) × ((i c : ℕ) → i < k → c < nth (now mem) 3 + 1 → nth (now mem) (rowAt rooms i + (2 + 3 * c)) ≤ document01 .tick))
+        × (t < nth (now mem) 0) × FedIn rooms t (now mem) × FarFilled rooms (now mem) ⌝ }
     ensures { λ r. ⌜ (r ≡ tickOf (topIn rooms t (now (mem .entry))) * scale (jobIn (now (mem .entry)))) × (r ≤ 1100000000000) ⌝ }
 {
     let g = walk::edges_at(mem);

@@ -14,10 +14,10 @@ ghost use Rattle.plans.specs.Loading.{planIn};
 ghost use Rattle.rounds.specs.Replaying.{Running, FedBefore, LineRun, RisingIn, RoundRun, FirstIn};
 use crate::times;
 use heads::layout::LINE;
-use heads::layout::NEVER;
 use heads::layout::ROWS;
 use replicas::First;
 use ticks::clocks::Ready;
+use ticks::lanes::NEVER;
 
 // A finish that does not come by the stop never comes.
 fn unless_stopped(stop: u64, x: u64) -> u64

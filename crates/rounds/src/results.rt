@@ -61,7 +61,8 @@ fn write_tasks(out: &mut [u8], mem: &[u64], rooms: usize) -> usize
 // The answer, written at the front of `out`. What comes back is its length.
 pub fn write_replay(out: &mut [u8], mem: &[u64], rooms: usize) -> usize
     requires { ⌜ Standing rooms (nth (now mem) 0) (now mem) × RisingIn rooms (now mem) × LinkedOut rooms (now mem) × (length (replayText document01 (jobIn (now mem)) (outcomesIn rooms (now mem))) ≤ length (now out)) ⌝ }
-    ensures { λ r. ⌜ (r ≡ length (replayText document01 (jobIn (now (mem .entry))) (outcomesIn rooms (now (mem .entry))))) × (now (out .exit) ≡ over (now (out .entry)) 0 (replayText document01 (jobIn (now (mem .entry))) (outcomesIn rooms (now (mem .entry))))) ⌝ }
+    ensures { λ r. ⌜ (r ≡ length (replayText document01 (jobIn (now (mem .entry))) (outcomesIn rooms (now (mem .entry)))))
+        × (now (out .exit) ≡ over (now (out .entry)) 0 (replayText document01 (jobIn (now (mem .entry))) (outcomesIn rooms (now (mem .entry))))) ⌝ }
 {
     let at = write_tasks(out, mem, rooms);
     let end = ends::end_of(mem, rooms, false);

@@ -14,10 +14,10 @@ ghost use Rattle.jobs.specs.Held.{JobStands};
 ghost use Rattle.rounds.specs.Arrivals.{shortIn, DelayTable, FirstShort, BothShort, FirstFed, BothFed, BothRaised, BothReady, ShortClocks, RunsOf, BothFinish};
 use crate::walk;
 use heads::layout::IN_HEAD;
-use heads::layout::NEVER;
 use ticks::clocks::Clocks;
 use ticks::lanes;
 use ticks::lanes::Both;
+use ticks::lanes::NEVER;
 use ticks::lanes::SHORT_NEVER;
 
 // The later of two times, or the sooner.
@@ -125,7 +125,8 @@ fn both_arrivals(
     early: &mut [u32; 16],
     late: &mut [u32; 16],
 )
-    requires { ⌜ JobStands (now mem) × DelayTable (now delays) (now mem) × RowHeld a (now mem) × (a + 25 ≤ length (now mem)) × (volume ≤ document01 .volume) × BothShort a (now mem) × (length (now early) ≡ 16) × (length (now late) ≡ 16) ⌝ }
+    requires { ⌜ JobStands (now mem) × DelayTable (now delays) (now mem) × RowHeld a (now mem) × (a + 25 ≤ length (now mem)) × (volume ≤ document01 .volume) × BothShort a (now mem)
+        × (length (now early) ≡ 16) × (length (now late) ≡ 16) ⌝ }
     ensures { λ _. ⌜ BothRaised volume a (now (mem .entry)) (now (early .entry)) (now (early .exit)) (now (late .entry)) (now (late .exit)) ⌝ }
 {
     let w = mem[3] as usize + 1;

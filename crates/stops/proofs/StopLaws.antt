@@ -221,7 +221,8 @@ module _ {s : List ℕ} {m p least : ℕ} {cells : List ℕ} (u : StopsUpTo s m 
           → (j : Job) → j .processors ≡ m → StopsLoaded (all j) cells (Refused x)
       stops-no x z f j e =
           let q : linesToEnd (stopLine document01) (stopRule document01 j) (length s) [] s ≡ refused x =
-          sym (u .rest j e) ∙ rw one-left (sym (to-no (stopLine document01) (stopRule document01 j) (u .left - 1) (u .seen) (drop p s) some-left (stopIn ys) (drop n s) (stop-read (drop p s) ys (drop n s) b) x (f j (u .seen) e (u .next-least)) z)) in
+          sym (u .rest j e) ∙ rw one-left (sym (to-no (stopLine document01) (stopRule document01 j) (u .left - 1) (u .seen) (drop p s) some-left (stopIn ys) (drop n s)
+          (stop-read (drop p s) ys (drop n s) b) x (f j (u .seen) e (u .next-least)) z)) in
           rw q
 
       -- The text that is left is shorter.
@@ -241,7 +242,8 @@ module _ {s : List ℕ} {m p least : ℕ} {cells : List ℕ} (u : StopsUpTo s m 
             left = u .left - 1;
             enough = omega (arith, stops-shorter, u .enough);
             rest = λ j e.
-                to-next (stopLine document01) (stopRule document01 j) (u .left - 1) (u .seen) (drop p s) some-left (stopIn ys) (drop n s) (stop-read (drop p s) ys (drop n s) b) 0 (f j (u .seen) e (u .next-least)) (omega arith)
+                to-next (stopLine document01) (stopRule document01 j) (u .left - 1) (u .seen) (drop p s) some-left (stopIn ys) (drop n s) (stop-read (drop p s) ys (drop n s) b) 0
+                (f j (u .seen) e (u .next-least)) (omega arith)
                 ∙ (rw one-left at (u .rest j e));
             size = omega (arith, z, u .size);
             next-least = rw (last-of (u .seen) (stopIn ys)) (omega arith);

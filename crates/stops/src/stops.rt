@@ -12,9 +12,7 @@ ghost use Rattle.definitions.proofs.Facts.{afterLast};
 ghost use Rattle.ticks.specs.Cells.{neverCell};
 ghost use Rattle.stops.specs.Loading.{StopsLoaded};
 use text::Step;
-
-// Never, in a cell.
-const NEVER: u64 = 18446744073709551615;
+use ticks::lanes::NEVER;
 
 // No processor stops.
 pub fn clear(stops: &mut [u64])
@@ -54,7 +52,8 @@ pub fn read_stop_lines(s: &[u8], m: u64, stops: &mut [u64]) -> Step
 
 // The number of the refusal of a stop line, or 0; `least` is the least processor that may come.
 fn check_stop(m: u64, least: u64, processor: u64, tick: u64) -> u64
-    ensures { λ r. ⌜ ((j : Job) (seen : List Stop) → j .processors ≡ m → afterLast (getLast? seen) ≡ least → r ≡ stopRule document01 j seen (record { processor = processor; tick = tick })) × (r ≡ 0 → (processor < m) × (tick ≤ 4294967295) × (least ≤ processor)) ⌝ }
+    ensures { λ r. ⌜ ((j : Job) (seen : List Stop) → j .processors ≡ m → afterLast (getLast? seen) ≡ least → r ≡ stopRule document01 j seen (record { processor = processor; tick = tick }))
+        × (r ≡ 0 → (processor < m) × (tick ≤ 4294967295) × (least ≤ processor)) ⌝ }
 {
     if processor >= m {
         return 3;

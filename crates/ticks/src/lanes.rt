@@ -8,7 +8,7 @@ ghost use Rattle.ticks.specs.Lanes.{lanes, arrives, finishes, widenedTic
 use crate::clocks::Clocks;
 
 // Never, in a cell of 64 bits and in one of 32.
-const NEVER: u64 = 18446744073709551615;
+pub const NEVER: u64 = 18446744073709551615;
 
 pub const SHORT_NEVER: u32 = 4294967295;
 

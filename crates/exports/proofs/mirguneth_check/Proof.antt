@@ -25,13 +25,21 @@ enum-known-x : tie.Need-enum-known-x
 enum-known-x c = search needs
 
 returns : tie.Need-returns
-returns c = (verdict-accepted (verdict document01 (c .before .before .before .before .before .args .job .now) (c .before .before .before .before .before .args .plan .now)) (c .before .before .before .before .before .args .task .now) 0 (rw (c .enum-told .given .1) at (c .before .before .check .ensures .0)), c .before .before .check .ensures .1)
+returns c =
+    let args = c .before .before .before .before .before .args in
+    (verdict-accepted (verdict document01 (args .job .now) (args .plan .now)) (args .task .now) 0 (rw (c .enum-told .given .1) at (c .before .before .check .ensures .0)), c .before .before .check .ensures .1)
 
 returns-2 : tie.Need-returns-2
-returns-2 c = (verdict-doubled (verdict document01 (c .before .before .before .before .before .before .args .job .now) (c .before .before .before .before .before .before .args .plan .now)) (c .before .before .before .before .before .before .args .task .now) (c .before .t .given .0 .0) (rw (c .before .t .given .1) at (c .before .before .before .check .ensures .0)), c .before .before .before .check .ensures .1)
+returns-2 c =
+    let args = c .before .before .before .before .before .before .args in
+    let check = c .before .before .before .check in
+    (verdict-doubled (verdict document01 (args .job .now) (args .plan .now)) (args .task .now) (c .before .t .given .0 .0) (rw (c .before .t .given .1) at (check .ensures .0)), check .ensures .1)
 
 returns-3 : tie.Need-returns-3
-returns-3 c = (verdict-refused (verdict document01 (c .before .before .before .before .before .before .args .job .now) (c .before .before .before .before .before .before .args .plan .now)) (c .before .before .before .before .before .before .args .task .now) (c .before .x .given .0 .0) (rw (c .before .x .given .1) at (c .before .before .before .check .ensures .0)), c .before .before .before .check .ensures .1)
+returns-3 c =
+    let args = c .before .before .before .before .before .before .args in
+    let check = c .before .before .before .check in
+    (verdict-refused (verdict document01 (args .job .now) (args .plan .now)) (args .task .now) (c .before .x .given .0 .0) (rw (c .before .x .given .1) at (check .ensures .0)), check .ensures .1)
 
 pub mirguneth-check-spec : {M : Type 1} → statement M
 mirguneth-check-spec =

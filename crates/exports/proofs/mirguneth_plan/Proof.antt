@@ -23,13 +23,19 @@ same-length : tie.Need-same-length
 same-length c = search needs
 
 returns : tie.Need-returns
-returns c = answer-written (planAnswer document01 (c .before .before .before .before .before .before .before .before .before .args .job .now) (length (c .before .before .before .before .before .before .before .before .before .args .out .now))) (c .before .before .before .before .before .before .before .before .before .args .out .now) (c .before .before .before .before .before .plan .last .1 .0) (c .before .before .before .before .before .before .before .before .before .args .written .now) (c .before .n .given .0 .0) (rw (c .before .n .given .1) at (c .before .before .before .before .before .plan .ensures))
+returns c =
+    let args = c .before .before .before .before .before .before .before .before .before .args in
+    let plan = c .before .before .before .before .before .plan in
+    answer-written (planAnswer document01 (args .job .now) (length (args .out .now))) (args .out .now) (plan .last .1 .0) (args .written .now) (c .before .n .given .0 .0) (rw (c .before .n .given .1) at (plan .ensures))
 
 same-length-2 : tie.Need-same-length-2
 same-length-2 c = search needs
 
 returns-2 : tie.Need-returns-2
-returns-2 c = answer-refused (planAnswer document01 (c .before .before .before .before .before .before .before .before .before .args .job .now) (length (c .before .before .before .before .before .before .before .before .before .args .out .now))) (c .before .before .before .before .before .before .before .before .before .args .out .now) (c .before .before .before .before .before .plan .last .1 .0) (c .before .before .before .before .before .before .before .before .before .args .written .now) (c .before .x .given .0 .0) (rw (c .before .x .given .1) at (c .before .before .before .before .before .plan .ensures))
+returns-2 c =
+    let args = c .before .before .before .before .before .before .before .before .before .args in
+    let plan = c .before .before .before .before .before .plan in
+    answer-refused (planAnswer document01 (args .job .now) (length (args .out .now))) (args .out .now) (plan .last .1 .0) (args .written .now) (c .before .x .given .0 .0) (rw (c .before .x .given .1) at (plan .ensures))
 
 pub mirguneth-plan-spec : {M : Type 1} → statement M
 mirguneth-plan-spec =

@@ -19,14 +19,19 @@ same-length c = search needs
 
 returns : tie.Need-returns
 returns c =
-    answer-written (jobAnswer (c .before .before .before .before .before .before .before .before .before .args .text .now) (length (c .before .before .before .before .before .before .before .before .before .args .cells .now))) (c .before .before .before .before .before .before .before .before .before .args .cells .now) (c .before .before .before .before .before .read-job .last .1 .0) (c .before .before .before .before .before .before .before .before .before .args .written .now) (c .before .count .given .0 .0) (rw (c .before .count .given .1) at (c .before .before .before .before .before .read-job .ensures))
+    let args = c .before .before .before .before .before .before .before .before .before .args in
+    let read-job = c .before .before .before .before .before .read-job in
+    answer-written (jobAnswer (args .text .now) (length (args .cells .now))) (args .cells .now) (read-job .last .1 .0) (args .written .now) (c .before .count .given .0 .0)
+    (rw (c .before .count .given .1) at (read-job .ensures))
 
 same-length-2 : tie.Need-same-length-2
 same-length-2 c = search needs
 
 returns-2 : tie.Need-returns-2
 returns-2 c =
-    answer-refused (jobAnswer (c .before .before .before .before .before .before .before .before .before .args .text .now) (length (c .before .before .before .before .before .before .before .before .before .args .cells .now))) (c .before .before .before .before .before .before .before .before .before .args .cells .now) (c .before .before .before .before .before .read-job .last .1 .0) (c .before .before .before .before .before .before .before .before .before .args .written .now) (c .before .z .given .0 .0) (rw (c .before .z .given .1) at (c .before .before .before .before .before .read-job .ensures))
+    let args = c .before .before .before .before .before .before .before .before .before .args in
+    let read-job = c .before .before .before .before .before .read-job in
+    answer-refused (jobAnswer (args .text .now) (length (args .cells .now))) (args .cells .now) (read-job .last .1 .0) (args .written .now) (c .before .z .given .0 .0) (rw (c .before .z .given .1) at (read-job .ensures))
 
 pub mirguneth-read-job-spec : {M : Type 1} → statement M
 mirguneth-read-job-spec =

@@ -23,13 +23,25 @@ same-length : tie.Need-same-length
 same-length c = search needs
 
 returns : tie.Need-returns
-returns c = (answer-written (replayAnswer document01 (c .before .before .before .before .before .before .before .before .before .before .before .args .job .now) (c .before .before .before .before .before .before .before .before .before .before .before .args .plan .now) (c .before .before .before .before .before .before .before .before .before .before .before .args .stops .now) (length (c .before .before .before .before .before .before .before .before .before .before .before .args .out .now))) (c .before .before .before .before .before .before .before .before .before .before .before .args .out .now) (c .before .before .before .before .before .replay .last .1 .1 .1 .0) (c .before .before .before .before .before .before .before .before .before .before .before .args .written .now) (c .before .k .given .0 .0) (rw (c .before .k .given .1) at (c .before .before .before .before .before .replay .ensures .0)), c .before .before .before .before .before .replay .ensures .1)
+returns c =
+    let args = c .before .before .before .before .before .before .before .before .before .before .before .args in
+    let replay = c .before .before .before .before .before .replay in (
+      answer-written (replayAnswer document01 (args .job .now) (args .plan .now) (args .stops .now) (length (args .out .now))) (args .out .now) (replay .last .1 .1 .1 .0)
+          (args .written .now) (c .before .k .given .0 .0) (rw (c .before .k .given .1) at (replay .ensures .0)),
+      replay .ensures .1,
+    )
 
 same-length-2 : tie.Need-same-length-2
 same-length-2 c = search needs
 
 returns-2 : tie.Need-returns-2
-returns-2 c = (answer-refused (replayAnswer document01 (c .before .before .before .before .before .before .before .before .before .before .before .args .job .now) (c .before .before .before .before .before .before .before .before .before .before .before .args .plan .now) (c .before .before .before .before .before .before .before .before .before .before .before .args .stops .now) (length (c .before .before .before .before .before .before .before .before .before .before .before .args .out .now))) (c .before .before .before .before .before .before .before .before .before .before .before .args .out .now) (c .before .before .before .before .before .replay .last .1 .1 .1 .0) (c .before .before .before .before .before .before .before .before .before .before .before .args .written .now) (c .before .y .given .0 .0) (rw (c .before .y .given .1) at (c .before .before .before .before .before .replay .ensures .0)), c .before .before .before .before .before .replay .ensures .1)
+returns-2 c =
+    let args = c .before .before .before .before .before .before .before .before .before .before .before .args in
+    let replay = c .before .before .before .before .before .replay in (
+      answer-refused (replayAnswer document01 (args .job .now) (args .plan .now) (args .stops .now) (length (args .out .now))) (args .out .now) (replay .last .1 .1 .1 .0)
+          (args .written .now) (c .before .y .given .0 .0) (rw (c .before .y .given .1) at (replay .ensures .0)),
+      replay .ensures .1,
+    )
 
 pub mirguneth-replay-spec : {M : Type 1} → statement M
 mirguneth-replay-spec =

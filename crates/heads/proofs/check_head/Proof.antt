@@ -26,10 +26,24 @@ add-if7 : tie.Need-add-if7
 add-if7 c = search needs
 
 returns-7 : tie.Need-returns-7
-returns-7 c = head-few _ _ _ _ (c .before .before .before .before .before .before .before .before .before .before .before .before .before .if1 .left) (c .before .before .before .before .before .before .before .before .before .before .before .if2 .left) (c .before .before .before .before .before .before .before .before .before .if3 .left) (c .before .before .before .before .before .before .before .if4 .left) (c .before .before .before .before .before .if5 .left) (c .before .before .before .if6 .left) (c .if7 .taken)
+returns-7 c =
+    let if1 = c .before .before .before .before .before .before .before .before .before .before .before .before .before .if1 in
+    let if2 = c .before .before .before .before .before .before .before .before .before .before .before .if2 in
+    let if3 = c .before .before .before .before .before .before .before .before .before .if3 in
+    let if4 = c .before .before .before .before .before .before .before .if4 in
+    let if5 = c .before .before .before .before .before .if5 in
+    let if6 = c .before .before .before .if6 in
+    head-few _ _ _ _ (if1 .left) (if2 .left) (if3 .left) (if4 .left) (if5 .left) (if6 .left) (c .if7 .taken)
 
 returns-8 : tie.Need-returns-8
-returns-8 c = head-good _ _ _ _ (c .before .before .before .before .before .before .before .before .before .before .before .before .before .if1 .left) (c .before .before .before .before .before .before .before .before .before .before .before .if2 .left) (c .before .before .before .before .before .before .before .before .before .if3 .left) (c .before .before .before .before .before .before .before .if4 .left) (c .before .before .before .before .before .if5 .left) (c .before .before .before .if6 .left) (c .if7 .left)
+returns-8 c =
+    let if1 = c .before .before .before .before .before .before .before .before .before .before .before .before .before .if1 in
+    let if2 = c .before .before .before .before .before .before .before .before .before .before .before .if2 in
+    let if3 = c .before .before .before .before .before .before .before .before .before .if3 in
+    let if4 = c .before .before .before .before .before .before .before .if4 in
+    let if5 = c .before .before .before .before .before .if5 in
+    let if6 = c .before .before .before .if6 in
+    head-good _ _ _ _ (if1 .left) (if2 .left) (if3 .left) (if4 .left) (if5 .left) (if6 .left) (c .if7 .left)
 
 pub check-head-spec : {M : Type 1} → statement M
 check-head-spec =

@@ -40,22 +40,36 @@ check-head-requires : tie.Need-check-head-requires
 check-head-requires c κs = search needs
 
 returns-2 : tie.Need-returns-2
-returns-2 c = let s = c .before .before .before .before .before .before .before .before .before .before .before .args .s .now in
-    let d = c .before .before .before .before .before .before .read-line .last .1 .1 .1 .1 .0 in
-    job-refused s (c .before .before .before .before .before .before .before .before .before .if1 .left) d _ (sym (c .before .before .before .before .before .before .read-line .ensures .0 ∙ line-fits 4 _ 4 _ (omega arith)) ∙ ap (told s (take 4 d)) (c .before .before .before .at .given .1)) _ (c .before .check-head .ensures) (c .if2 .taken)
+returns-2 c =
+    let args = c .before .before .before .before .before .before .before .before .before .before .before .args in
+    let if1 = c .before .before .before .before .before .before .before .before .before .if1 in
+    let read-line = c .before .before .before .before .before .before .read-line in
+    let at = c .before .before .before .at in
+    let s = args .s .now in
+    let d = read-line .last .1 .1 .1 .1 .0 in
+    job-refused s (if1 .left) d _ (sym (read-line .ensures .0 ∙ line-fits 4 _ 4 _ (omega arith)) ∙ ap (told s (take 4 d)) (at .given .1)) _ (c .before .check-head .ensures) (c .if2 .taken)
 
 enum-known-n : tie.Need-enum-known-n
 enum-known-n c = search needs
 
 returns-3 : tie.Need-returns-3
-returns-3 c = let s = c .before .before .before .before .before .before .before .before .before .before .before .args .s .now in
-    let d = c .before .before .before .before .before .before .read-line .last .1 .1 .1 .1 .0 in
-    job-next s (c .before .before .before .before .before .before .before .before .before .if1 .left) d _ (sym (c .before .before .before .before .before .before .read-line .ensures .0 ∙ line-fits 4 _ 4 _ (omega arith)) ∙ ap (told s (take 4 d)) (c .before .before .before .at .given .1)) _ (c .before .check-head .ensures) (c .if2 .left)
+returns-3 c =
+    let args = c .before .before .before .before .before .before .before .before .before .before .before .args in
+    let if1 = c .before .before .before .before .before .before .before .before .before .if1 in
+    let read-line = c .before .before .before .before .before .before .read-line in
+    let at = c .before .before .before .at in
+    let s = args .s .now in
+    let d = read-line .last .1 .1 .1 .1 .0 in
+    job-next s (if1 .left) d _ (sym (read-line .ensures .0 ∙ line-fits 4 _ 4 _ (omega arith)) ∙ ap (told s (take 4 d)) (at .given .1)) _ (c .before .check-head .ensures) (c .if2 .left)
 
 returns-4 : tie.Need-returns-4
-returns-4 c = let s = c .before .before .before .before .before .before .before .before .before .args .s .now in
-    let d = c .before .before .before .before .read-line .last .1 .1 .1 .1 .0 in
-    job-no s (c .before .before .before .before .before .before .before .if1 .left) _ (sym (c .before .before .before .before .read-line .ensures .0 ∙ line-fits 4 _ 4 _ (omega arith)) ∙ ap (told s (take 4 d)) (c .before .n .given .1))
+returns-4 c =
+    let args = c .before .before .before .before .before .before .before .before .before .args in
+    let if1 = c .before .before .before .before .before .before .before .if1 in
+    let read-line = c .before .before .before .before .read-line in
+    let s = args .s .now in
+    let d = read-line .last .1 .1 .1 .1 .0 in
+    job-no s (if1 .left) _ (sym (read-line .ensures .0 ∙ line-fits 4 _ 4 _ (omega arith)) ∙ ap (told s (take 4 d)) (c .before .n .given .1))
 
 pub read-head-spec : {M : Type 1} → statement M
 read-head-spec =

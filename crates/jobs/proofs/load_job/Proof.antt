@@ -13,23 +13,40 @@ check-head-requires : tie.Need-check-head-requires
 check-head-requires c κs = search needs
 
 returns : tie.Need-returns
-returns c = rw (from-refused (c .before .before .before .before .args .rooms) (length (c .before .before .before .before .args .mem .now)) (headOf (c .before .before .before .before .args .head)) (drop (c .before .before .before .before .args .at) (c .before .before .before .before .args .s .now)) _ (c .before .check-head .ensures) (c .if1 .taken)) refl
+returns c =
+    let args = c .before .before .before .before .args in
+    rw (from-refused (args .rooms) (length (args .mem .now)) (headOf (args .head)) (drop (args .at) (args .s .now)) _ (c .before .check-head .ensures) (c .if1 .taken)) refl
 
 roomy-requires : tie.Need-roomy-requires
 roomy-requires c κs = search needs
 
 load-linked-requires : tie.Need-load-linked-requires
-load-linked-requires c κs = let (_, l, f) = roomy-parts (c .before .before .before .before .before .before .before .args .rooms) (length (c .before .before .before .before .before .before .before .args .mem .now)) (headOf (c .before .before .before .before .before .before .before .args .head)) (sym (c .before .before .roomy .ensures) ∙ c .before .if2 .taken) in
-    (omega (arith, c .before .before .before .before .check-head .ensures, c .before .before .before .if1 .left), l, f)
+load-linked-requires c κs =
+    let args = c .before .before .before .before .before .before .before .args in
+    let check-head = c .before .before .before .before .check-head in
+    let if1 = c .before .before .before .if1 in
+    let (_, l, f) = roomy-parts (args .rooms) (length (args .mem .now)) (headOf (args .head)) (sym (c .before .before .roomy .ensures) ∙ c .before .if2 .taken) in
+    (omega (arith, check-head .ensures, if1 .left), l, f)
 
 same-length : tie.Need-same-length
 same-length c = search needs
 
 returns-2 : tie.Need-returns-2
-returns-2 c = rw (from-room (c .before .before .before .before .before .before .before .before .before .before .args .rooms) (length (c .before .before .before .before .before .before .before .before .before .before .args .mem .now)) (headOf (c .before .before .before .before .before .before .before .before .before .before .args .head)) (drop (c .before .before .before .before .before .before .before .before .before .before .args .at) (c .before .before .before .before .before .before .before .before .before .before .args .s .now)) (omega (arith, c .before .before .before .before .before .before .before .check-head .ensures, c .before .before .before .before .before .before .if1 .left)) (sym (c .before .before .before .before .before .roomy .ensures) ∙ c .before .before .before .before .if2 .taken)) (c .before .before .load-linked .ensures)
+returns-2 c =
+    let args = c .before .before .before .before .before .before .before .before .before .before .args in
+    let check-head = c .before .before .before .before .before .before .before .check-head in
+    let if1 = c .before .before .before .before .before .before .if1 in
+    let roomy = c .before .before .before .before .before .roomy in
+    let if2 = c .before .before .before .before .if2 in
+    rw (from-room (args .rooms) (length (args .mem .now)) (headOf (args .head)) (drop (args .at) (args .s .now)) (omega (arith, check-head .ensures, if1 .left))
+    (sym (roomy .ensures) ∙ if2 .taken)) (c .before .before .load-linked .ensures)
 
 returns-3 : tie.Need-returns-3
-returns-3 c = rw (from-short (c .before .before .before .before .before .before .args .rooms) (length (c .before .before .before .before .before .before .args .mem .now)) (headOf (c .before .before .before .before .before .before .args .head)) (drop (c .before .before .before .before .before .before .args .at) (c .before .before .before .before .before .before .args .s .now)) (omega (arith, c .before .before .before .check-head .ensures, c .before .before .if1 .left)) (sym (c .before .roomy .ensures) ∙ c .if2 .left)) refl
+returns-3 c =
+    let args = c .before .before .before .before .before .before .args in
+    let check-head = c .before .before .before .check-head in
+    rw (from-short (args .rooms) (length (args .mem .now)) (headOf (args .head)) (drop (args .at) (args .s .now)) (omega (arith, check-head .ensures, c .before .before .if1 .left))
+    (sym (c .before .roomy .ensures) ∙ c .if2 .left)) refl
 
 pub load-job-spec : {M : Type 1} → statement M
 load-job-spec =

@@ -16,13 +16,20 @@ enum-known-n : tie.Need-enum-known-n
 enum-known-n c = search needs
 
 returns : tie.Need-returns
-returns c = answer-short (c .before .before .before .before .before .before .before .before .before .args .text .now) (c .before .before .before .before .before .before .before .before .before .args .cells .now) (c .before .before .before .before .before .load-text .last .1 .0) _ (rw (c .before .before .n .given .1) at (c .before .before .before .before .before .load-text .ensures)) (c .if1 .taken)
+returns c =
+    let args = c .before .before .before .before .before .before .before .before .before .args in
+    let load-text = c .before .before .before .before .before .load-text in
+    answer-short (args .text .now) (args .cells .now) (load-text .last .1 .0) _ (rw (c .before .before .n .given .1) at (load-text .ensures)) (c .if1 .taken)
 
 slice-aggregate-copy-cells : tie.Need-slice-aggregate-copy-cells
 slice-aggregate-copy-cells c = search needs
 
 copy-cells-requires : tie.Need-copy-cells-requires
-copy-cells-requires c κs = (c .before .before .if1 .left, loaded-fits (readJob document01 (c .before .before .before .before .before .before .before .before .before .before .before .args .text .now)) (c .before .before .before .before .before .before .before .load-text .last .1 .0) _ (rw (c .before .before .before .before .n .given .1) at (c .before .before .before .before .before .before .before .load-text .ensures)))
+copy-cells-requires c κs =
+    let args = c .before .before .before .before .before .before .before .before .before .before .before .args in
+    let load-text = c .before .before .before .before .before .before .before .load-text in
+    let n = c .before .before .before .before .n in
+    (c .before .before .if1 .left, loaded-fits (readJob document01 (args .text .now)) (load-text .last .1 .0) _ (rw (n .given .1) at (load-text .ensures)))
 
 enum-known-x : tie.Need-enum-known-x
 enum-known-x c = search needs
@@ -31,10 +38,18 @@ same-length : tie.Need-same-length
 same-length c = search needs
 
 returns-2 : tie.Need-returns-2
-returns-2 c = rw (c .before .before .copy-cells .ensures) (answer-done (c .before .before .before .before .before .before .before .before .before .before .before .before .before .before .args .text .now) (c .before .before .before .before .before .before .before .before .before .before .before .before .before .before .args .cells .now) (c .before .before .before .before .before .before .before .before .before .before .load-text .last .1 .0) _ (rw (c .before .before .before .before .before .before .before .n .given .1) at (c .before .before .before .before .before .before .before .before .before .before .load-text .ensures)) (c .before .before .before .before .before .if1 .left))
+returns-2 c =
+    let args = c .before .before .before .before .before .before .before .before .before .before .before .before .before .before .args in
+    let load-text = c .before .before .before .before .before .before .before .before .before .before .load-text in
+    let n = c .before .before .before .before .before .before .before .n in
+    let if1 = c .before .before .before .before .before .if1 in
+    rw (c .before .before .copy-cells .ensures) (answer-done (args .text .now) (args .cells .now) (load-text .last .1 .0) _ (rw (n .given .1) at (load-text .ensures)) (if1 .left))
 
 returns-3 : tie.Need-returns-3
-returns-3 c = answer-no (c .before .before .before .before .before .before .before .before .args .text .now) (c .before .before .before .before .before .before .before .before .args .cells .now) (c .before .before .before .before .load-text .last .1 .0) _ (rw (c .before .x .given .1) at (c .before .before .before .before .load-text .ensures))
+returns-3 c =
+    let args = c .before .before .before .before .before .before .before .before .args in
+    let load-text = c .before .before .before .before .load-text in
+    answer-no (args .text .now) (args .cells .now) (load-text .last .1 .0) _ (rw (c .before .x .given .1) at (load-text .ensures))
 
 pub read-job-spec : {M : Type 1} → statement M
 read-job-spec =

@@ -28,8 +28,14 @@ same-length c = search needs
 
 returns : tie.Need-returns
 returns c =
-    let o = rw (c .before .before .before .before .before .before .before .before .before .head .given .1) at (c .before .before .before .before .before .before .before .before .before .before .before .read-head .ensures) in
-    plan-page (c .before .before .before .before .before .before .before .before .before .before .before .before .before .before .args .job .now) (c .before .before .before .before .before .before .before .before .before .head .given .0 .0) (c .before .before .before .before .before .before .before .before .before .head .given .0 .1 .0) 1 _ o (sym (c .before .before .before .before .before .before .if1 .taken) ∙ c .before .before .before .before .before .before .before .rooms-for .ensures) (length-replicate {A = ℕ} 505 0) _ _ _ (c .before .before .before .plan-in .result) (c .before .before .before .plan-in .ensures)
+    let args = c .before .before .before .before .before .before .before .before .before .before .before .before .before .before .args in
+    let read-head = c .before .before .before .before .before .before .before .before .before .before .before .read-head in
+    let head = c .before .before .before .before .before .before .before .before .before .head in
+    let rooms-for = c .before .before .before .before .before .before .before .rooms-for in
+    let if1 = c .before .before .before .before .before .before .if1 in
+    let plan-in = c .before .before .before .plan-in in
+    let o = rw (head .given .1) at (read-head .ensures) in
+    plan-page (args .job .now) (head .given .0 .0) (head .given .0 .1 .0) 1 _ o (sym (if1 .taken) ∙ rooms-for .ensures) (length-replicate {A = ℕ} 505 0) _ _ _ (plan-in .result) (plan-in .ensures)
 
 slice-aggregate-plan-in-2 : tie.Need-slice-aggregate-plan-in-2
 slice-aggregate-plan-in-2 c = search needs
@@ -42,8 +48,14 @@ same-length-2 c = search needs
 
 returns-2 : tie.Need-returns-2
 returns-2 c =
-    let o = rw (c .before .before .before .before .before .before .before .before .before .before .head .given .1) at (c .before .before .before .before .before .before .before .before .before .before .before .before .read-head .ensures) in
-    plan-page (c .before .before .before .before .before .before .before .before .before .before .before .before .before .before .before .args .job .now) (c .before .before .before .before .before .before .before .before .before .before .head .given .0 .0) (c .before .before .before .before .before .before .before .before .before .before .head .given .0 .1 .0) 2 _ o (sym (c .before .before .before .before .before .before .if2 .taken) ∙ c .before .before .before .before .before .before .before .before .rooms-for .ensures) (length-replicate {A = ℕ} 1010 0) _ _ _ (c .before .before .before .plan-in2 .result) (c .before .before .before .plan-in2 .ensures)
+    let args = c .before .before .before .before .before .before .before .before .before .before .before .before .before .before .before .args in
+    let read-head = c .before .before .before .before .before .before .before .before .before .before .before .before .read-head in
+    let head = c .before .before .before .before .before .before .before .before .before .before .head in
+    let rooms-for = c .before .before .before .before .before .before .before .before .rooms-for in
+    let if2 = c .before .before .before .before .before .before .if2 in
+    let plan-in2 = c .before .before .before .plan-in2 in
+    let o = rw (head .given .1) at (read-head .ensures) in
+    plan-page (args .job .now) (head .given .0 .0) (head .given .0 .1 .0) 2 _ o (sym (if2 .taken) ∙ rooms-for .ensures) (length-replicate {A = ℕ} 1010 0) _ _ _ (plan-in2 .result) (plan-in2 .ensures)
 
 slice-aggregate-plan-in-3 : tie.Need-slice-aggregate-plan-in-3
 slice-aggregate-plan-in-3 c = search needs
@@ -56,8 +68,14 @@ same-length-3 c = search needs
 
 returns-3 : tie.Need-returns-3
 returns-3 c =
-    let o = rw (c .before .before .before .before .before .before .before .before .before .before .before .head .given .1) at (c .before .before .before .before .before .before .before .before .before .before .before .before .before .read-head .ensures) in
-    plan-page (c .before .before .before .before .before .before .before .before .before .before .before .before .before .before .before .before .args .job .now) (c .before .before .before .before .before .before .before .before .before .before .before .head .given .0 .0) (c .before .before .before .before .before .before .before .before .before .before .before .head .given .0 .1 .0) 8 _ o (sym (c .before .before .before .before .before .before .if3 .taken) ∙ c .before .before .before .before .before .before .before .before .before .rooms-for .ensures) (length-replicate {A = ℕ} 4040 0) _ _ _ (c .before .before .before .plan-in3 .result) (c .before .before .before .plan-in3 .ensures)
+    let args = c .before .before .before .before .before .before .before .before .before .before .before .before .before .before .before .before .args in
+    let read-head = c .before .before .before .before .before .before .before .before .before .before .before .before .before .read-head in
+    let head = c .before .before .before .before .before .before .before .before .before .before .before .head in
+    let rooms-for = c .before .before .before .before .before .before .before .before .before .rooms-for in
+    let if3 = c .before .before .before .before .before .before .if3 in
+    let plan-in3 = c .before .before .before .plan-in3 in
+    let o = rw (head .given .1) at (read-head .ensures) in
+    plan-page (args .job .now) (head .given .0 .0) (head .given .0 .1 .0) 8 _ o (sym (if3 .taken) ∙ rooms-for .ensures) (length-replicate {A = ℕ} 4040 0) _ _ _ (plan-in3 .result) (plan-in3 .ensures)
 
 slice-aggregate-plan-in-4 : tie.Need-slice-aggregate-plan-in-4
 slice-aggregate-plan-in-4 c = search needs
@@ -73,11 +91,24 @@ same-length-4 c = search needs
 
 returns-4 : tie.Need-returns-4
 returns-4 c =
-    let o = rw (c .before .before .before .before .before .before .before .before .before .before .before .head .given .1) at (c .before .before .before .before .before .before .before .before .before .before .before .before .before .read-head .ensures) in
-    plan-page (c .before .before .before .before .before .before .before .before .before .before .before .before .before .before .before .before .args .job .now) (c .before .before .before .before .before .before .before .before .before .before .before .head .given .0 .0) (c .before .before .before .before .before .before .before .before .before .before .before .head .given .0 .1 .0) 32 _ o (sym (rooms-last _ (λ q. c .before .before .before .before .before .before .before .before .if1 .left (c .before .before .before .before .before .before .before .before .before .rooms-for .ensures ∙ q)) (λ q. c .before .before .before .before .before .before .before .if2 .left (c .before .before .before .before .before .before .before .before .before .rooms-for .ensures ∙ q)) (λ q. c .before .before .before .before .before .before .if3 .left (c .before .before .before .before .before .before .before .before .before .rooms-for .ensures ∙ q)))) (length-replicate {A = ℕ} 16160 0) _ _ _ (c .before .before .before .plan-in4 .result) (c .before .before .before .plan-in4 .ensures)
+    let args = c .before .before .before .before .before .before .before .before .before .before .before .before .before .before .before .before .args in
+    let read-head = c .before .before .before .before .before .before .before .before .before .before .before .before .before .read-head in
+    let head = c .before .before .before .before .before .before .before .before .before .before .before .head in
+    let rooms-for = c .before .before .before .before .before .before .before .before .before .rooms-for in
+    let if1 = c .before .before .before .before .before .before .before .before .if1 in
+    let if2 = c .before .before .before .before .before .before .before .if2 in
+    let if3 = c .before .before .before .before .before .before .if3 in
+    let plan-in4 = c .before .before .before .plan-in4 in
+    let o = rw (head .given .1) at (read-head .ensures) in
+    plan-page (args .job .now) (head .given .0 .0) (head .given .0 .1 .0) 32 _ o
+    (sym (rooms-last _ (λ q. if1 .left (rooms-for .ensures ∙ q)) (λ q. if2 .left (rooms-for .ensures ∙ q)) (λ q. if3 .left (rooms-for .ensures ∙ q)))) (length-replicate {A = ℕ} 16160 0) _ _
+    _ (plan-in4 .result) (plan-in4 .ensures)
 
 returns-5 : tie.Need-returns-5
-returns-5 c = plan-refused (c .before .before .before .before .before .before .args .job .now) _ (rw (c .before .x .given .1) at (c .before .before .before .read-head .ensures)) (c .before .before .before .before .before .before .args .out .now)
+returns-5 c =
+    let args = c .before .before .before .before .before .before .args in
+    let read-head = c .before .before .before .read-head in
+    plan-refused (args .job .now) _ (rw (c .before .x .given .1) at (read-head .ensures)) (args .out .now)
 
 pub plan-spec : {M : Type 1} → statement M
 plan-spec =

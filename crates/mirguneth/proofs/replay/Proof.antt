@@ -29,8 +29,17 @@ same-length c = search needs
 
 returns : tie.Need-returns
 returns c =
-    let o = rw (c .before .before .before .before .before .before .before .before .before .head .given .1) at (c .before .before .before .before .before .before .before .before .before .before .before .read-head .ensures) in
-    (replay-page (c .before .before .before .before .before .before .before .before .before .before .before .before .before .before .before .before .args .job .now) (c .before .before .before .before .before .before .before .before .before .head .given .0 .0) (c .before .before .before .before .before .before .before .before .before .head .given .0 .1 .0) 1 _ o (sym (c .before .before .before .before .before .before .if1 .taken) ∙ c .before .before .before .before .before .before .before .rooms-for .ensures) (length-replicate {A = ℕ} 505 0) (c .before .before .before .before .before .before .before .before .before .before .before .before .before .before .before .before .args .plan .now) (c .before .before .before .before .before .before .before .before .before .before .before .before .before .before .before .before .args .stops .now) _ _ _ (c .before .before .before .replay-in .result) (c .before .before .before .replay-in .ensures), bears (c .before .before .before .before .before .before .before .before .before .before .before .before .before .before .before .before .args .job .now) (c .before .before .before .before .before .before .before .before .before .before .before .before .before .before .before .before .args .plan .now) (c .before .before .before .before .before .before .before .before .before .before .before .before .before .before .before .before .args .stops .now))
+    let args = c .before .before .before .before .before .before .before .before .before .before .before .before .before .before .before .before .args in
+    let read-head = c .before .before .before .before .before .before .before .before .before .before .before .read-head in
+    let head = c .before .before .before .before .before .before .before .before .before .head in
+    let rooms-for = c .before .before .before .before .before .before .before .rooms-for in
+    let if1 = c .before .before .before .before .before .before .if1 in
+    let replay-in = c .before .before .before .replay-in in
+    let o = rw (head .given .1) at (read-head .ensures) in (
+      replay-page (args .job .now) (head .given .0 .0) (head .given .0 .1 .0) 1 _ o (sym (if1 .taken) ∙ rooms-for .ensures) (length-replicate {A = ℕ} 505 0) (args .plan .now)
+          (args .stops .now) _ _ _ (replay-in .result) (replay-in .ensures),
+      bears (args .job .now) (args .plan .now) (args .stops .now),
+    )
 
 slice-aggregate-replay-in-2 : tie.Need-slice-aggregate-replay-in-2
 slice-aggregate-replay-in-2 c = search needs
@@ -43,8 +52,17 @@ same-length-2 c = search needs
 
 returns-2 : tie.Need-returns-2
 returns-2 c =
-    let o = rw (c .before .before .before .before .before .before .before .before .before .before .head .given .1) at (c .before .before .before .before .before .before .before .before .before .before .before .before .read-head .ensures) in
-    (replay-page (c .before .before .before .before .before .before .before .before .before .before .before .before .before .before .before .before .before .args .job .now) (c .before .before .before .before .before .before .before .before .before .before .head .given .0 .0) (c .before .before .before .before .before .before .before .before .before .before .head .given .0 .1 .0) 2 _ o (sym (c .before .before .before .before .before .before .if2 .taken) ∙ c .before .before .before .before .before .before .before .before .rooms-for .ensures) (length-replicate {A = ℕ} 1010 0) (c .before .before .before .before .before .before .before .before .before .before .before .before .before .before .before .before .before .args .plan .now) (c .before .before .before .before .before .before .before .before .before .before .before .before .before .before .before .before .before .args .stops .now) _ _ _ (c .before .before .before .replay-in2 .result) (c .before .before .before .replay-in2 .ensures), bears (c .before .before .before .before .before .before .before .before .before .before .before .before .before .before .before .before .before .args .job .now) (c .before .before .before .before .before .before .before .before .before .before .before .before .before .before .before .before .before .args .plan .now) (c .before .before .before .before .before .before .before .before .before .before .before .before .before .before .before .before .before .args .stops .now))
+    let args = c .before .before .before .before .before .before .before .before .before .before .before .before .before .before .before .before .before .args in
+    let read-head = c .before .before .before .before .before .before .before .before .before .before .before .before .read-head in
+    let head = c .before .before .before .before .before .before .before .before .before .before .head in
+    let rooms-for = c .before .before .before .before .before .before .before .before .rooms-for in
+    let if2 = c .before .before .before .before .before .before .if2 in
+    let replay-in2 = c .before .before .before .replay-in2 in
+    let o = rw (head .given .1) at (read-head .ensures) in (
+      replay-page (args .job .now) (head .given .0 .0) (head .given .0 .1 .0) 2 _ o (sym (if2 .taken) ∙ rooms-for .ensures) (length-replicate {A = ℕ} 1010 0) (args .plan .now)
+          (args .stops .now) _ _ _ (replay-in2 .result) (replay-in2 .ensures),
+      bears (args .job .now) (args .plan .now) (args .stops .now),
+    )
 
 slice-aggregate-replay-in-3 : tie.Need-slice-aggregate-replay-in-3
 slice-aggregate-replay-in-3 c = search needs
@@ -57,8 +75,17 @@ same-length-3 c = search needs
 
 returns-3 : tie.Need-returns-3
 returns-3 c =
-    let o = rw (c .before .before .before .before .before .before .before .before .before .before .before .head .given .1) at (c .before .before .before .before .before .before .before .before .before .before .before .before .before .read-head .ensures) in
-    (replay-page (c .before .before .before .before .before .before .before .before .before .before .before .before .before .before .before .before .before .before .args .job .now) (c .before .before .before .before .before .before .before .before .before .before .before .head .given .0 .0) (c .before .before .before .before .before .before .before .before .before .before .before .head .given .0 .1 .0) 8 _ o (sym (c .before .before .before .before .before .before .if3 .taken) ∙ c .before .before .before .before .before .before .before .before .before .rooms-for .ensures) (length-replicate {A = ℕ} 4040 0) (c .before .before .before .before .before .before .before .before .before .before .before .before .before .before .before .before .before .before .args .plan .now) (c .before .before .before .before .before .before .before .before .before .before .before .before .before .before .before .before .before .before .args .stops .now) _ _ _ (c .before .before .before .replay-in3 .result) (c .before .before .before .replay-in3 .ensures), bears (c .before .before .before .before .before .before .before .before .before .before .before .before .before .before .before .before .before .before .args .job .now) (c .before .before .before .before .before .before .before .before .before .before .before .before .before .before .before .before .before .before .args .plan .now) (c .before .before .before .before .before .before .before .before .before .before .before .before .before .before .before .before .before .before .args .stops .now))
+    let args = c .before .before .before .before .before .before .before .before .before .before .before .before .before .before .before .before .before .before .args in
+    let read-head = c .before .before .before .before .before .before .before .before .before .before .before .before .before .read-head in
+    let head = c .before .before .before .before .before .before .before .before .before .before .before .head in
+    let rooms-for = c .before .before .before .before .before .before .before .before .before .rooms-for in
+    let if3 = c .before .before .before .before .before .before .if3 in
+    let replay-in3 = c .before .before .before .replay-in3 in
+    let o = rw (head .given .1) at (read-head .ensures) in (
+      replay-page (args .job .now) (head .given .0 .0) (head .given .0 .1 .0) 8 _ o (sym (if3 .taken) ∙ rooms-for .ensures) (length-replicate {A = ℕ} 4040 0) (args .plan .now)
+          (args .stops .now) _ _ _ (replay-in3 .result) (replay-in3 .ensures),
+      bears (args .job .now) (args .plan .now) (args .stops .now),
+    )
 
 slice-aggregate-replay-in-4 : tie.Need-slice-aggregate-replay-in-4
 slice-aggregate-replay-in-4 c = search needs
@@ -74,11 +101,26 @@ same-length-4 c = search needs
 
 returns-4 : tie.Need-returns-4
 returns-4 c =
-    let o = rw (c .before .before .before .before .before .before .before .before .before .before .before .head .given .1) at (c .before .before .before .before .before .before .before .before .before .before .before .before .before .read-head .ensures) in
-    (replay-page (c .before .before .before .before .before .before .before .before .before .before .before .before .before .before .before .before .before .before .args .job .now) (c .before .before .before .before .before .before .before .before .before .before .before .head .given .0 .0) (c .before .before .before .before .before .before .before .before .before .before .before .head .given .0 .1 .0) 32 _ o (sym (rooms-last _ (λ q. c .before .before .before .before .before .before .before .before .if1 .left (c .before .before .before .before .before .before .before .before .before .rooms-for .ensures ∙ q)) (λ q. c .before .before .before .before .before .before .before .if2 .left (c .before .before .before .before .before .before .before .before .before .rooms-for .ensures ∙ q)) (λ q. c .before .before .before .before .before .before .if3 .left (c .before .before .before .before .before .before .before .before .before .rooms-for .ensures ∙ q)))) (length-replicate {A = ℕ} 16160 0) (c .before .before .before .before .before .before .before .before .before .before .before .before .before .before .before .before .before .before .args .plan .now) (c .before .before .before .before .before .before .before .before .before .before .before .before .before .before .before .before .before .before .args .stops .now) _ _ _ (c .before .before .before .replay-in4 .result) (c .before .before .before .replay-in4 .ensures), bears (c .before .before .before .before .before .before .before .before .before .before .before .before .before .before .before .before .before .before .args .job .now) (c .before .before .before .before .before .before .before .before .before .before .before .before .before .before .before .before .before .before .args .plan .now) (c .before .before .before .before .before .before .before .before .before .before .before .before .before .before .before .before .before .before .args .stops .now))
+    let args = c .before .before .before .before .before .before .before .before .before .before .before .before .before .before .before .before .before .before .args in
+    let read-head = c .before .before .before .before .before .before .before .before .before .before .before .before .before .read-head in
+    let head = c .before .before .before .before .before .before .before .before .before .before .before .head in
+    let rooms-for = c .before .before .before .before .before .before .before .before .before .rooms-for in
+    let if1 = c .before .before .before .before .before .before .before .before .if1 in
+    let if2 = c .before .before .before .before .before .before .before .if2 in
+    let if3 = c .before .before .before .before .before .before .if3 in
+    let replay-in4 = c .before .before .before .replay-in4 in
+    let o = rw (head .given .1) at (read-head .ensures) in (
+      replay-page (args .job .now) (head .given .0 .0) (head .given .0 .1 .0) 32 _ o
+          (sym (rooms-last _ (λ q. if1 .left (rooms-for .ensures ∙ q)) (λ q. if2 .left (rooms-for .ensures ∙ q)) (λ q. if3 .left (rooms-for .ensures ∙ q)))) (length-replicate {A = ℕ} 16160 0)
+          (args .plan .now) (args .stops .now) _ _ _ (replay-in4 .result) (replay-in4 .ensures),
+      bears (args .job .now) (args .plan .now) (args .stops .now),
+    )
 
 returns-5 : tie.Need-returns-5
-returns-5 c = (replay-refused (c .before .before .before .before .before .before .before .before .args .job .now) _ (rw (c .before .x .given .1) at (c .before .before .before .read-head .ensures)) (c .before .before .before .before .before .before .before .before .args .plan .now) (c .before .before .before .before .before .before .before .before .args .stops .now) (c .before .before .before .before .before .before .before .before .args .out .now), bears (c .before .before .before .before .before .before .before .before .args .job .now) (c .before .before .before .before .before .before .before .before .args .plan .now) (c .before .before .before .before .before .before .before .before .args .stops .now))
+returns-5 c =
+    let args = c .before .before .before .before .before .before .before .before .args in
+    let read-head = c .before .before .before .read-head in
+    (replay-refused (args .job .now) _ (rw (c .before .x .given .1) at (read-head .ensures)) (args .plan .now) (args .stops .now) (args .out .now), bears (args .job .now) (args .plan .now) (args .stops .now))
 
 pub replay-spec : {M : Type 1} → statement M
 replay-spec =

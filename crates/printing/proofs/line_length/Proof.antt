@@ -13,7 +13,9 @@ wrapping-add-usize-requires : tie.Need-wrapping-add-usize-requires
 wrapping-add-usize-requires c κs = search needs
 
 returns : tie.Need-returns
-returns c = rw (length-line document01 (c .before .before .before .before .args .opening .now) (c .before .before .before .before .args .vals .now)) (c .wrapping-add-usize .ensures ∙ rw (c .before .numbers-length .ensures))
+returns c =
+    let args = c .before .before .before .before .args in
+    rw (length-line document01 (args .opening .now) (args .vals .now)) (c .wrapping-add-usize .ensures ∙ rw (c .before .numbers-length .ensures))
 
 pub line-length-spec : {M : Type 1} → statement M
 line-length-spec = tie.close (tie.spec numbers-length-requires wrapping-add-usize-requires returns)

@@ -28,8 +28,10 @@ same-length-2 c = search needs
 
 returns-2 : tie.Need-returns-2
 returns-2 c =
-    let f = c .before .before .before .before .before .before .before .before .before .args .first in
-    rw (result-tick (c .before .before .before .before .before .before .before .before .before .args .t) (f .time) (f .processor) (c .before .before .before .before .before .before .if1 .left)) (c .before .before .write-line .ensures)
+    let args = c .before .before .before .before .before .before .before .before .before .args in
+    let if1 = c .before .before .before .before .before .before .if1 in
+    let f = args .first in
+    rw (result-tick (args .t) (f .time) (f .processor) (if1 .left)) (c .before .before .write-line .ensures)
 
 pub write-result-spec : {M : Type 1} → statement M
 write-result-spec =

@@ -17,9 +17,11 @@ enum-told c = search needs
 
 judge-requires : tie.Need-judge-requires
 judge-requires c κs =
-    let a = c .before .before .before .before .before .before .before .before .before .before .args in
+    let args = c .before .before .before .before .before .before .before .before .before .before .args in
+    let load-both = c .before .before .before .before .before .load-both in
+    let a = args in
     let x = jobFrom (a .rooms) (length (a .mem .now)) (headOf (a .head)) (drop (a .at) (a .job .now)) in
-    both-held (a .rooms) x (a .plan .now) (c .before .before .before .before .before .load-both .last .1 .1 .1 .1 .0) _ (rw (c .before .enum-told .given .1) at (c .before .before .before .before .before .load-both .ensures))
+    both-held (a .rooms) x (a .plan .now) (load-both .last .1 .1 .1 .1 .0) _ (rw (c .before .enum-told .given .1) at (load-both .ensures))
 
 enum-known-x : tie.Need-enum-known-x
 enum-known-x c = search needs
@@ -29,9 +31,11 @@ same-length c = search needs
 
 returns : tie.Need-returns
 returns c =
-    let a = c .before .before .before .before .before .before .before .before .before .before .before .args in
+    let args = c .before .before .before .before .before .before .before .before .before .before .before .args in
+    let load-both = c .before .before .before .before .before .before .load-both in
+    let a = args in
     let x = withPlan (jobFrom (a .rooms) (length (a .mem .now)) (headOf (a .head)) (drop (a .at) (a .job .now))) (a .plan .now) in
-    plan-judged (a .rooms) x (c .before .before .before .before .before .before .load-both .last .1 .1 .1 .1 .0) _ (rw (c .before .before .enum-told .given .1) at (c .before .before .before .before .before .before .load-both .ensures)) (c .judge .result) (c .judge .ensures)
+    plan-judged (a .rooms) x (load-both .last .1 .1 .1 .1 .0) _ (rw (c .before .before .enum-told .given .1) at (load-both .ensures)) (c .judge .result) (c .judge .ensures)
 
 same-length-2 : tie.Need-same-length-2
 same-length-2 c = search needs

@@ -16,9 +16,11 @@ enum-told c = search needs
 
 put-plan-requires : tie.Need-put-plan-requires
 put-plan-requires c κs =
-    let a = c .before .before .before .before .before .before .before .before .before .before .before .args in
+    let args = c .before .before .before .before .before .before .before .before .before .before .before .args in
+    let load-job = c .before .before .before .before .before .before .load-job in
+    let a = args in
     let x = jobFrom (a .rooms) (length (a .mem .now)) (headOf (a .head)) (drop (a .at) (a .job .now)) in
-    let l = loaded-job (a .rooms) x (c .before .before .before .before .before .before .load-job .last .1 .1 .1 .0) _ (rw (c .before .before .enum-told .given .1) at (c .before .before .before .before .before .before .load-job .ensures)) in
+    let l = loaded-job (a .rooms) x (load-job .last .1 .1 .1 .0) _ (rw (c .before .before .enum-told .given .1) at (load-job .ensures)) in
     (l .1, l .2, l .3)
 
 enum-known-x : tie.Need-enum-known-x
@@ -32,9 +34,13 @@ same-length-2 c = search needs
 
 returns : tie.Need-returns
 returns c =
-    let a = c .before .before .before .before .before .before .before .before .before .before .before .before .before .before .before .before .args in
+    let args = c .before .before .before .before .before .before .before .before .before .before .before .before .before .before .before .before .args in
+    let load-job = c .before .before .before .before .before .before .before .before .before .before .before .load-job in
+    let enum-told = c .before .before .before .before .before .before .before .enum-told in
+    let put-plan = c .before .before .before .before .put-plan in
+    let a = args in
     let x = jobFrom (a .rooms) (length (a .mem .now)) (headOf (a .head)) (drop (a .at) (a .job .now)) in
-    plan-put (a .rooms) x (c .before .before .before .before .before .before .before .before .before .before .before .load-job .last .1 .1 .1 .0) (a .out .now) _ (rw (c .before .before .before .before .before .before .before .enum-told .given .1) at (c .before .before .before .before .before .before .before .before .before .before .before .load-job .ensures)) (c .before .before .before .before .put-plan .last .1 .1 .0) (c .before .before .before .before .put-plan .result) (c .before .before .before .before .put-plan .ensures)
+    plan-put (a .rooms) x (load-job .last .1 .1 .1 .0) (a .out .now) _ (rw (enum-told .given .1) at (load-job .ensures)) (put-plan .last .1 .1 .0) (put-plan .result) (put-plan .ensures)
 
 same-length-3 : tie.Need-same-length-3
 same-length-3 c = search needs

@@ -10,7 +10,9 @@ is-wide-requires : tie.Need-is-wide-requires
 is-wide-requires c κs = search needs
 
 div-if2 : tie.Need-div-if2
-div-if2 c = some-number (c .before .before .before .before .before .args .k) (c .before .before .before .before .before .args .n) (c .before .before .before .before .before .args .kind) (sym (c .before .is-wide .ensures) ∙ c .if1 .taken)
+div-if2 c =
+    let args = c .before .before .before .before .before .args in
+    some-number (args .k) (args .n) (args .kind) (sym (c .before .is-wide .ensures) ∙ c .if1 .taken)
 
 fill-rows-requires : tie.Need-fill-rows-requires
 fill-rows-requires c κs =
@@ -24,10 +26,14 @@ same-length c = search needs
 
 returns : tie.Need-returns
 returns c =
-    let a = c .before .before .before .before .before .before .before .before .before .before .args in
-    let w = sym (c .before .before .before .before .before .before .is-wide .ensures) ∙ c .before .before .before .before .before .if1 .taken in
+    let args = c .before .before .before .before .before .before .before .before .before .before .args in
+    let is-wide = c .before .before .before .before .before .before .is-wide in
+    let if1 = c .before .before .before .before .before .if1 in
+    let if2 = c .before .before .before .before .if2 in
+    let a = args in
+    let w = sym (is-wide .ensures) ∙ if1 .taken in
     let z = some-number (a .k) (a .n) (a .kind) w in
-    c .before .before .fill-rows .ensures ∙ sym (rows-fit (length (a .mem .now)) (a .kind) (a .opening .now) (a .k) (a .n) (drop (a .at) (a .s .now)) w (rows-within (length (a .mem .now)) (a .k) (a .n) z (c .before .before .before .before .if2 .taken)))
+    c .before .before .fill-rows .ensures ∙ sym (rows-fit (length (a .mem .now)) (a .kind) (a .opening .now) (a .k) (a .n) (drop (a .at) (a .s .now)) w (rows-within (length (a .mem .now)) (a .k) (a .n) z (if2 .taken)))
 
 returns-2 : tie.Need-returns-2
 returns-2 c =

@@ -22,7 +22,11 @@ same-length : tie.Need-same-length
 same-length c = search needs
 
 returns-3 : tie.Need-returns-3
-returns-3 c = λ j e. stops-whole (length (c .before .before .before .before .before .before .before .before .before .before .before .before .args .stops .now)) (c .before .before .before .before .before .before .before .before .before .before .before .before .args .s .now) _ j (omega (arith, e, c .before .before .before .before .before .before .before .before .before .if1 .left)) _ (c .before .before .before .before .before .before .before .before .if2 .left) (c .before .before .read-stop-lines .ensures j e)
+returns-3 c =
+    let args = c .before .before .before .before .before .before .before .before .before .before .before .before .args in
+    let if1 = c .before .before .before .before .before .before .before .before .before .if1 in
+    let if2 = c .before .before .before .before .before .before .before .before .if2 in
+    λ j e. stops-whole (length (args .stops .now)) (args .s .now) _ j (omega (arith, e, if1 .left)) _ (if2 .left) (c .before .before .read-stop-lines .ensures j e)
 
 pub load-stops-spec : {M : Type 1} → statement M
 load-stops-spec =

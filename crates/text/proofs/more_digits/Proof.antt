@@ -28,7 +28,10 @@ returns-2 : tie.Need-returns-2 Inv-loop μ-loop
 returns-2 c = (digits-stop _ _ _ _ (c .before .before .before .loop-test .taken) (digit-high _ (c .if2 .taken)) ∙ c .before .before .before .before .loop .inv .3, c .before .before .before .before .loop .inv .0)
 
 returns-3 : tie.Need-returns-3 Inv-loop μ-loop
-returns-3 c = (digits-full _ _ _ _ (c .before .before .before .before .loop-test .taken) (digit-yes _ (c .before .before .if1 .left) (c .before .if2 .left)) (c .if3 .taken) ∙ c .before .before .before .before .before .loop .inv .3, tt)
+returns-3 c =
+    let loop = c .before .before .before .before .before .loop in
+    let loop-test = c .before .before .before .before .loop-test in
+    (digits-full _ _ _ _ (loop-test .taken) (digit-yes _ (c .before .before .if1 .left) (c .before .if2 .left)) (c .if3 .taken) ∙ loop .inv .3, tt)
 
 sub-k : tie.Need-sub-k Inv-loop μ-loop
 sub-k c = search needs
@@ -49,12 +52,15 @@ loop-less : tie.Need-loop-less Inv-loop μ-loop
 loop-less c = search needs
 
 loop-again : tie.Need-loop-again Inv-loop μ-loop
-loop-again c = (
-  search needs,
-  search needs,
-  value-more _ _ _ (search needs) (search needs) (c .before .before .before .before .before .before .loop .inv .2) (omega arith),
-  rw (c .wide .ensures) (digits-next _ _ _ _ (c .before .before .before .before .before .loop-test .taken) (digit-yes _ (c .before .before .before .if1 .left) (c .before .before .if2 .left)) (c .before .if3 .left) ∙ c .before .before .before .before .before .before .loop .inv .3),
-)
+loop-again c =
+    let loop = c .before .before .before .before .before .before .loop in
+    let loop-test = c .before .before .before .before .before .loop-test in
+    let if1 = c .before .before .before .if1 in (
+      search needs,
+      search needs,
+      value-more _ _ _ (search needs) (search needs) (loop .inv .2) (omega arith),
+      rw (c .wide .ensures) (digits-next _ _ _ _ (loop-test .taken) (digit-yes _ (if1 .left) (c .before .before .if2 .left)) (c .before .if3 .left) ∙ loop .inv .3),
+    )
 
 returns-4 : tie.Need-returns-4 Inv-loop μ-loop
 returns-4 c = (digits-end _ _ _ _ (c .loop-test .left) ∙ c .before .loop .inv .3, c .before .loop .inv .0)

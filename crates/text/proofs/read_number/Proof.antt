@@ -24,7 +24,10 @@ more-digits-requires : tie.Need-more-digits-requires
 more-digits-requires c κs = search needs
 
 returns-4 : tie.Need-returns-4
-returns-4 c = (c .more-digits .ensures .0 ∙ number-zero _ _ _ (c .before .before .before .before .before .if1 .left) (digit-yes _ (c .before .before .before .if2 .left) (c .before .before .if3 .left)) (c .before .if4 .taken), c .more-digits .ensures .1)
+returns-4 c =
+    let if1 = c .before .before .before .before .before .if1 in
+    let if2 = c .before .before .before .if2 in
+    (c .more-digits .ensures .0 ∙ number-zero _ _ _ (if1 .left) (digit-yes _ (if2 .left) (c .before .before .if3 .left)) (c .before .if4 .taken), c .more-digits .ensures .1)
 
 add-more-digits-2 : tie.Need-add-more-digits-2
 add-more-digits-2 c = search needs
@@ -36,11 +39,14 @@ more-digits-requires-2 : tie.Need-more-digits-requires-2
 more-digits-requires-2 c κs = search needs
 
 returns-5 : tie.Need-returns-5
-returns-5 c = (
-  c .more-digits2 .ensures .0
-      ∙ rw (c .before .wide .ensures) (number-more _ _ _ (c .before .before .before .before .before .before .if1 .left) (digit-yes _ (c .before .before .before .before .if2 .left) (c .before .before .before .if3 .left)) (c .before .before .if4 .left)),
-  c .more-digits2 .ensures .1,
-)
+returns-5 c =
+    let if1 = c .before .before .before .before .before .before .if1 in
+    let if2 = c .before .before .before .before .if2 in
+    let if3 = c .before .before .before .if3 in (
+      c .more-digits2 .ensures .0
+          ∙ rw (c .before .wide .ensures) (number-more _ _ _ (if1 .left) (digit-yes _ (if2 .left) (if3 .left)) (c .before .before .if4 .left)),
+      c .more-digits2 .ensures .1,
+    )
 
 pub read-number-spec : {M : Type 1} → statement M
 read-number-spec =

@@ -35,7 +35,8 @@ same-length c = search needs
 returns : tie.Need-returns
 returns c =
     let s = c .before .before .before in
-    rw (c .before .pair-at .ensures, one-bit (s .args .to % 8) (omega arith)) (λ v es volume p. pairs-more v es _ (record { from = s .args .from; to = s .args .to; volume = volume }) p (s .pre .2) (s .pre .1) (s .pre .3))
+    rw (c .before .pair-at .ensures, one-bit (s .args .to % 8) (omega arith))
+    (λ v es volume p. pairs-more v es _ (record { from = s .args .from; to = s .args .to; volume = volume }) p (s .pre .2) (s .pre .1) (s .pre .3))
 
 pub add-pair-spec : {M : Type 1} → statement M
 add-pair-spec =

@@ -47,7 +47,9 @@ part-read-edge-end c = search needs
 
 read-edge-requires : tie.Need-read-edge-requires Inv-loop μ-loop
 read-edge-requires c κs =
-    (c .before .before .before .before .before .before .before .pre .0, simp (length-take, length-drop) (omega (arith, c .before .before .loop-test .taken, c .before .before .before .loop .inv .1, c .before .before .before .before .before .before .before .pre .1)), c .before .before .before .loop .inv .2 .size)
+    let pre = c .before .before .before .before .before .before .before .pre in
+    let loop = c .before .before .before .loop in
+    (pre .0, simp (length-take, length-drop) (omega (arith, c .before .before .loop-test .taken, loop .inv .1, pre .1)), loop .inv .2 .size)
 
 enum-known-next : tie.Need-enum-known-next Inv-loop μ-loop
 enum-known-next c = search needs
@@ -63,10 +65,14 @@ same-length-2 c = search needs
 
 returns : tie.Need-returns Inv-loop μ-loop
 returns c =
-    let a = c .before .before .before .before .before .before .before .before .before .before .before .before .before .before .before .args in
-    let l = c .before .before .before .before .before .before .before .before .before .before .before .loop in
-    let e = sym (c .before .before .before .before .before .before .before .read-edge .ensures (map edgeIn (take (l .i) (l .mem))) (l .inv .2) .answer) ∙ ap (told (a .s .now) (edgeIn (nth (c .before .before .before .before .before .before .before .read-edge .last .1 .1 .1 .0) 0))) (c .before .x .given .1) in
-    lines-no (edgeLine document01) (edgeRule document01 (a .v)) (a .n) (l .i) (map edgeIn (take (l .i) (l .mem))) (drop (l .p) (a .s .now)) (c .before .before .before .before .before .before .before .before .before .before .loop-test .taken) _ e ∙ l .inv .3
+    let args = c .before .before .before .before .before .before .before .before .before .before .before .before .before .before .before .args in
+    let loop = c .before .before .before .before .before .before .before .before .before .before .before .loop in
+    let loop-test = c .before .before .before .before .before .before .before .before .before .before .loop-test in
+    let read-edge = c .before .before .before .before .before .before .before .read-edge in
+    let a = args in
+    let l = loop in
+    let e = sym (read-edge .ensures (map edgeIn (take (l .i) (l .mem))) (l .inv .2) .answer) ∙ ap (told (a .s .now) (edgeIn (nth (read-edge .last .1 .1 .1 .0) 0))) (c .before .x .given .1) in
+    lines-no (edgeLine document01) (edgeRule document01 (a .v)) (a .n) (l .i) (map edgeIn (take (l .i) (l .mem))) (drop (l .p) (a .s .now)) (loop-test .taken) _ e ∙ l .inv .3
 
 add-i : tie.Need-add-i Inv-loop μ-loop
 add-i c = search needs
@@ -76,18 +82,23 @@ loop-less c = search needs
 
 loop-again : tie.Need-loop-again Inv-loop μ-loop
 loop-again c =
-    let a = c .before .before .before .before .before .before .before .before .before .before .before .before .before .before .before .args in
-    let l = c .before .before .before .before .before .before .before .before .before .before .before .loop in
+    let args = c .before .before .before .before .before .before .before .before .before .before .before .before .before .before .before .args in
+    let pre = c .before .before .before .before .before .before .before .before .before .before .before .before .before .before .before .pre in
+    let loop = c .before .before .before .before .before .before .before .before .before .before .before .loop in
+    let loop-test = c .before .before .before .before .before .before .before .before .before .before .loop-test in
+    let read-edge = c .before .before .before .before .before .before .before .read-edge in
+    let a = args in
+    let l = loop in
     let seen = map edgeIn (take (l .i) (l .mem)) in
-    let ys = c .before .before .before .before .before .before .before .read-edge .last .1 .1 .1 .0 in
-    let r = c .before .before .before .before .before .before .before .read-edge .ensures seen (l .inv .2) in
+    let ys = read-edge .last .1 .1 .1 .0 in
+    let r = read-edge .ensures seen (l .inv .2) in
     let e = sym (r .answer) ∙ ap (told (a .s .now) (edgeIn (nth ys 0))) (c .before .next .given .1) in
-    let q = edges-more (l .mem) ys (l .i) (omega (arith, c .before .before .before .before .before .before .before .before .before .before .loop-test .taken, l .inv .1, c .before .before .before .before .before .before .before .before .before .before .before .before .before .before .before .pre .1)) (c .before .before .before .before .before .before .before .read-edge .kept .1 .1 .1 .0) in (
-      omega (arith, c .before .before .before .before .before .before .before .before .before .before .loop-test .taken),
-      same-len-mid (l .i) (length (l .mem) - l .i) (l .mem) ys (c .before .before .before .before .before .before .before .read-edge .kept .1 .1 .1 .0) ∙ l .inv .1,
+    let q = edges-more (l .mem) ys (l .i) (omega (arith, loop-test .taken, l .inv .1, pre .1)) (read-edge .kept .1 .1 .1 .0) in (
+      omega (arith, loop-test .taken),
+      same-len-mid (l .i) (length (l .mem) - l .i) (l .mem) ys (read-edge .kept .1 .1 .1 .0) ∙ l .inv .1,
       rw q (r .pairs _ (c .before .next .given .1)),
-      rw q (lines-next (edgeLine document01) (edgeRule document01 (a .v)) (a .n) (l .i) seen (drop (l .p) (a .s .now)) (c .before .before .before .before .before .before .before .before .before .before .loop-test .taken) (edgeIn (nth ys 0)) _ e ∙ l .inv .3),
-      c .before .before .before .before .before .before .before .read-edge .kept .1 .1 .1 .1 .0 ∙ l .inv .4,
+      rw q (lines-next (edgeLine document01) (edgeRule document01 (a .v)) (a .n) (l .i) seen (drop (l .p) (a .s .now)) (loop-test .taken) (edgeIn (nth ys 0)) _ e ∙ l .inv .3),
+      read-edge .kept .1 .1 .1 .1 .0 ∙ l .inv .4,
     )
 
 same-length-3 : tie.Need-same-length-3 Inv-loop μ-loop

@@ -31,7 +31,9 @@ slice-read-volume : tie.Need-slice-read-volume
 slice-read-volume c = search needs
 
 check-edge-requires : tie.Need-check-edge-requires
-check-edge-requires c κs = (c .before .before .before .before .before .before .before .before .before .before .before .before .before .before .before .pre .0, c .before .before .before .before .before .before .before .before .before .before .before .before .before .before .before .pre .2)
+check-edge-requires c κs =
+    let pre = c .before .before .before .before .before .before .before .before .before .before .before .before .before .before .before .pre in
+    (pre .0, pre .2)
 
 same-length : tie.Need-same-length
 same-length c = search needs
@@ -41,10 +43,14 @@ same-length-2 c = search needs
 
 returns : tie.Need-returns
 returns c =
+    let args = c .before .before .before .before .before .before .before .before .before .before .before .before .before .before .before .before .before .args in
+    let pre = c .before .before .before .before .before .before .before .before .before .before .before .before .before .before .before .before .before .pre in
+    let read-line = c .before .before .before .before .before .before .before .before .before .before .before .read-line in
+    let p = c .before .before .before .before .before .before .before .p in
     λ seen q.
-    let a = c .before .before .before .before .before .before .before .before .before .before .before .before .before .before .before .before .before .args in
-    let ys = c .before .before .before .before .before .before .before .before .before .before .before .read-line .last .1 .1 .1 .1 .0 in
-    let e = sym (c .before .before .before .before .before .before .before .before .before .before .before .read-line .ensures .0 ∙ line-fits _ _ _ _ (c .before .before .before .before .before .before .before .before .before .before .before .before .before .before .before .before .before .pre .1)) ∙ ap (told (a .s .now) (take 3 ys)) (c .before .before .before .before .before .before .before .p .given .1) in
+    let a = args in
+    let ys = read-line .last .1 .1 .1 .1 .0 in
+    let e = sym (read-line .ensures .0 ∙ line-fits _ _ _ _ (pre .1)) ∙ ap (told (a .s .now) (take 3 ys)) (p .given .1) in
     record {
       answer = ruled-no (edgeLine document01) (edgeRule document01 (a .v)) seen (drop (a .at) (a .s .now)) (edgeOf ys) _ (edge-read ys _ _ e) _ (c .before .check-edge .ensures .0 seen q) (c .if1 .taken);
       pairs = λ n r. let z : _≡_ {A = ℕ} 0 1 = cc in absurd (omega (arith, z));
@@ -52,14 +58,17 @@ returns c =
 
 cell-of-requires : tie.Need-cell-of-requires
 cell-of-requires c κs =
-    let h = c .before .check-edge .ensures .1 (omega (arith, c .if1 .left)) in (omega (arith, h .0, c .before .before .before .before .before .before .before .before .before .before .before .before .before .before .before .before .before .pre .0), omega (arith, h .1, c .before .before .before .before .before .before .before .before .before .before .before .before .before .before .before .before .before .pre .0), h .2)
+    let pre = c .before .before .before .before .before .before .before .before .before .before .before .before .before .before .before .before .before .pre in
+    let h = c .before .check-edge .ensures .1 (omega (arith, c .if1 .left)) in (omega (arith, h .0, pre .0), omega (arith, h .1, pre .0), h .2)
 
 slice-write-cells : tie.Need-slice-write-cells
 slice-write-cells c = search needs
 
 add-pair-requires : tie.Need-add-pair-requires
 add-pair-requires c κs =
-    let h = c .before .before .before .check-edge .ensures .1 (omega (arith, c .before .before .if1 .left)) in (omega (arith, h .0, c .before .before .before .before .before .before .before .before .before .before .before .before .before .before .before .before .before .before .before .pre .0), omega (arith, h .1, c .before .before .before .before .before .before .before .before .before .before .before .before .before .before .before .before .before .before .before .pre .0), omega (arith, h .0, c .before .before .before .before .before .before .before .before .before .before .before .before .before .before .before .before .before .before .before .pre .2), h .3)
+    let pre = c .before .before .before .before .before .before .before .before .before .before .before .before .before .before .before .before .before .before .before .pre in
+    let check-edge = c .before .before .before .check-edge in
+    let h = check-edge .ensures .1 (omega (arith, c .before .before .if1 .left)) in (omega (arith, h .0, pre .0), omega (arith, h .1, pre .0), omega (arith, h .0, pre .2), h .3)
 
 enum-known-x : tie.Need-enum-known-x
 enum-known-x c = search needs
@@ -72,14 +81,21 @@ same-length-4 c = search needs
 
 returns-2 : tie.Need-returns-2
 returns-2 c =
+    let args = c .before .before .before .before .before .before .before .before .before .before .before .before .before .before .before .before .before .before .before .before .before .before .args in
+    let pre = c .before .before .before .before .before .before .before .before .before .before .before .before .before .before .before .before .before .before .before .before .before .before .pre in
+    let read-line = c .before .before .before .before .before .before .before .before .before .before .before .before .before .before .before .before .read-line in
+    let p = c .before .before .before .before .before .before .before .before .before .before .before .before .p in
+    let check-edge = c .before .before .before .before .before .before .check-edge in
+    let if1 = c .before .before .before .before .before .if1 in
+    let cell-of = c .before .before .before .before .cell-of in
     λ seen q.
-    let a = c .before .before .before .before .before .before .before .before .before .before .before .before .before .before .before .before .before .before .before .before .before .before .args in
-    let ys = c .before .before .before .before .before .before .before .before .before .before .before .before .before .before .before .before .read-line .last .1 .1 .1 .1 .0 in
-    let e = sym (c .before .before .before .before .before .before .before .before .before .before .before .before .before .before .before .before .read-line .ensures .0 ∙ line-fits _ _ _ _ (c .before .before .before .before .before .before .before .before .before .before .before .before .before .before .before .before .before .before .before .before .before .before .pre .1)) ∙ ap (told (a .s .now) (take 3 ys)) (c .before .before .before .before .before .before .before .before .before .before .before .before .p .given .1) in
-    let h = c .before .before .before .before .before .before .check-edge .ensures .1 (omega (arith, c .before .before .before .before .before .if1 .left)) in
-    let k = edge-kept ys _ (c .before .before .before .before .cell-of .ensures) (omega (arith, c .before .before .before .before .before .before .before .before .before .before .before .before .before .before .before .before .before .before .before .before .before .before .pre .1, c .before .before .before .before .before .before .before .before .before .before .before .before .before .before .before .before .read-line .kept .1 .1 .1 .1 .0)) (omega (arith, h .0, c .before .before .before .before .before .before .before .before .before .before .before .before .before .before .before .before .before .before .before .before .before .before .pre .0)) (omega (arith, h .1, c .before .before .before .before .before .before .before .before .before .before .before .before .before .before .before .before .before .before .before .before .before .before .pre .0)) in
+    let a = args in
+    let ys = read-line .last .1 .1 .1 .1 .0 in
+    let e = sym (read-line .ensures .0 ∙ line-fits _ _ _ _ (pre .1)) ∙ ap (told (a .s .now) (take 3 ys)) (p .given .1) in
+    let h = check-edge .ensures .1 (omega (arith, if1 .left)) in
+    let k = edge-kept ys _ (cell-of .ensures) (omega (arith, pre .1, read-line .kept .1 .1 .1 .1 .0)) (omega (arith, h .0, pre .0)) (omega (arith, h .1, pre .0)) in
     record {
-      answer = rw k (ruled-yes (edgeLine document01) (edgeRule document01 (a .v)) seen (drop (a .at) (a .s .now)) (edgeOf ys) _ (edge-read ys _ _ e) _ (c .before .before .before .before .before .before .check-edge .ensures .0 seen q) (c .before .before .before .before .before .if1 .left));
+      answer = rw k (ruled-yes (edgeLine document01) (edgeRule document01 (a .v)) seen (drop (a .at) (a .s .now)) (edgeOf ys) _ (edge-read ys _ _ e) _ (check-edge .ensures .0 seen q) (if1 .left));
       pairs = λ n r. rw k (c .before .before .add-pair .ensures _ seen _ q);
     }
 
@@ -88,10 +104,13 @@ same-length-5 c = search needs
 
 returns-3 : tie.Need-returns-3
 returns-3 c =
+    let args = c .before .before .before .before .before .before .before .before .before .before .before .args in
+    let pre = c .before .before .before .before .before .before .before .before .before .before .before .pre in
+    let read-line = c .before .before .before .before .before .read-line in
     λ seen q.
-    let a = c .before .before .before .before .before .before .before .before .before .before .before .args in
-    let ys = c .before .before .before .before .before .read-line .last .1 .1 .1 .1 .0 in
-    let e = sym (c .before .before .before .before .before .read-line .ensures .0 ∙ line-fits _ _ _ _ (c .before .before .before .before .before .before .before .before .before .before .before .pre .1)) ∙ ap (told (a .s .now) (take 3 ys)) (c .before .x .given .1) in
+    let a = args in
+    let ys = read-line .last .1 .1 .1 .1 .0 in
+    let e = sym (read-line .ensures .0 ∙ line-fits _ _ _ _ (pre .1)) ∙ ap (told (a .s .now) (take 3 ys)) (c .before .x .given .1) in
     record {
       answer = ruled-bad (edgeLine document01) (edgeRule document01 (a .v)) seen (drop (a .at) (a .s .now)) _ (edge-bad _ _ e);
       pairs = λ n r. let z : _≡_ {A = ℕ} 0 1 = cc in absurd (omega (arith, z));

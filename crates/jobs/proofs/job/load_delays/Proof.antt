@@ -54,11 +54,14 @@ enum-known-p c = search needs
 
 load-edges-requires : tie.Need-load-edges-requires
 load-edges-requires c κs =
-    let d = c .before .before .before .before .before .before .before .before .before .before .before .before .before .args .mem .now in
+    let args = c .before .before .before .before .before .before .before .before .before .before .before .before .before .args in
+    let pre = c .before .before .before .before .before .before .before .before .before .before .before .before .before .pre in
+    let read-rows = c .before .before .before .before .before .before .read-rows in
+    let d = args .mem .now in
     let a = delaysAt (jobHeadOf d) in
-    let ys = c .before .before .before .before .before .before .read-rows .last .1 .1 .1 .1 .1 .1 .0 in
-    let r = runs-most d (c .before .before .before .before .before .before .before .before .before .before .before .before .before .pre) in
-    lent-headed d (putMid a (length d - a) d ys) ys a refl (c .before .before .before .before .before .before .read-rows .kept .1 .1 .1 .1 .1 .1 .0) (omega arith) (omega arith) (c .before .before .before .before .before .before .before .before .before .before .before .before .before .pre)
+    let ys = read-rows .last .1 .1 .1 .1 .1 .1 .0 in
+    let r = runs-most d (pre) in
+    lent-headed d (putMid a (length d - a) d ys) ys a refl (read-rows .kept .1 .1 .1 .1 .1 .1 .0) (omega arith) (omega arith) (pre)
 
 enum-known-n : tie.Need-enum-known-n
 enum-known-n c = search needs
@@ -68,16 +71,20 @@ same-length c = search needs
 
 returns : tie.Need-returns
 returns c runs q =
-    let s = c .before .before .before .before .before .before .before .before .before .before .before .before .before .before .before .before .args .s .now in
-    let d = c .before .before .before .before .before .before .before .before .before .before .before .before .before .before .before .before .args .mem .now in
-    let at = c .before .before .before .before .before .before .before .before .before .before .before .before .before .before .before .before .args .at in
-    let w = c .before .before .before .before .before .before .before .before .before .before .before .before .before .before .before .before .pre in
+    let args = c .before .before .before .before .before .before .before .before .before .before .before .before .before .before .before .before .args in
+    let pre = c .before .before .before .before .before .before .before .before .before .before .before .before .before .before .before .before .pre in
+    let read-rows = c .before .before .before .before .before .before .before .before .before .read-rows in
+    let p = c .before .before .before .before .before .p in
+    let s = args .s .now in
+    let d = args .mem .now in
+    let at = args .at in
+    let w = pre in
     let a = delaysAt (jobHeadOf d) in
-    let ys = c .before .before .before .before .before .before .before .before .before .read-rows .last .1 .1 .1 .1 .1 .1 .0 in
+    let ys = read-rows .last .1 .1 .1 .1 .1 .1 .0 in
     let x = putMid a (length d - a) d ys in
     let ds = rows (1 + nth d 1) (nth d 1) ys in
     let r = runs-most d w in
-    let f = sym (c .before .before .before .before .before .before .before .before .before .read-rows .ensures ∙ delays-read d w (bytes "D,") (drop at s)) ∙ ap (told s ds) (c .before .before .before .before .before .p .given .1) in
+    let f = sym (read-rows .ensures ∙ delays-read d w (bytes "D,") (drop at s)) ∙ ap (told s ds) (p .given .1) in
     delays-then (jobHeadOf d) runs (drop at s) _ ds _ f (jobHeadOf x) (lent-head d x ys a refl (omega arith) (omega arith)) _
     (c .before .before .load-edges .ensures runs (map (drop 1) ds) (delays-in d x ys w runs q refl _ _ f))
 

@@ -53,10 +53,16 @@ enum-known-p : tie.Need-enum-known-p
 enum-known-p c = search needs
 
 add-end : tie.Need-add-end
-add-end c = omega (arith, rows-most (c .before .before .before .before .before .before .before .before .before .before .before .before .args .mem .now) (c .before .before .before .before .before .before .before .before .before .before .before .before .pre), c .before .before .before .before .before .before .before .before .before .before .before .before .pre .edges-most)
+add-end c =
+    let args = c .before .before .before .before .before .before .before .before .before .before .before .before .args in
+    let pre = c .before .before .before .before .before .before .before .before .before .before .before .before .pre in
+    omega (arith, rows-most (args .mem .now) (pre), pre .edges-most)
 
 mul-close : tie.Need-mul-close
-mul-close c = omega (arith, rows-most (c .before .before .before .before .before .before .before .before .before .before .before .before .args .mem .now) (c .before .before .before .before .before .before .before .before .before .before .before .before .pre))
+mul-close c =
+    let args = c .before .before .before .before .before .before .before .before .before .before .before .before .args in
+    let pre = c .before .before .before .before .before .before .before .before .before .before .before .before .pre in
+    omega (arith, rows-most (args .mem .now) (pre))
 
 sub-close : tie.Need-sub-close
 sub-close c = search needs
@@ -65,18 +71,27 @@ part-close-start : tie.Need-part-close-start
 part-close-start c = search needs
 
 part-close-end : tie.Need-part-close-end
-part-close-end c = edges-fit (c .before .before .before .before .before .before .before .before .before .before .before .before .before .args .mem .now) _ (c .before .before .before .before .before .before .read-edges .last .1 .1 .1 .1 .0) (c .before .before .before .before .before .before .before .before .before .before .before .before .before .pre) refl (c .before .before .before .before .before .before .read-edges .kept .1 .1 .1 .1 .0)
+part-close-end c =
+    let args = c .before .before .before .before .before .before .before .before .before .before .before .before .before .args in
+    let pre = c .before .before .before .before .before .before .before .before .before .before .before .before .before .pre in
+    let read-edges = c .before .before .before .before .before .before .read-edges in
+    edges-fit (args .mem .now) _ (read-edges .last .1 .1 .1 .1 .0) (pre) refl (read-edges .kept .1 .1 .1 .1 .0)
 
 close-requires : tie.Need-close-requires
-close-requires c κs = let s = c .before .before .before .before .before .before .before .before .before .before .before .before .before .before .args .s .now in
-    let d = c .before .before .before .before .before .before .before .before .before .before .before .before .before .before .args .mem .now in
-    let ys = c .before .before .before .before .before .before .before .read-edges .last .1 .1 .1 .1 .0 in
+close-requires c κs =
+    let args = c .before .before .before .before .before .before .before .before .before .before .before .before .before .before .args in
+    let pre = c .before .before .before .before .before .before .before .before .before .before .before .before .before .before .pre in
+    let read-edges = c .before .before .before .before .before .before .before .read-edges in
+    let p = c .before .before .before .p in
+    let s = args .s .now in
+    let d = args .mem .now in
+    let ys = read-edges .last .1 .1 .1 .1 .0 in
     let es = map edgeIn (take (nth d 2) ys) in
-    let w = c .before .before .before .before .before .before .before .before .before .before .before .before .before .before .pre in
-    let q = edges-part d _ ys w refl (c .before .before .before .before .before .before .before .read-edges .kept .1 .1 .1 .1 .0) in (
+    let w = pre in
+    let q = edges-part d _ ys w refl (read-edges .kept .1 .1 .1 .1 .0) in (
       w .tasks-most,
       rw q (omega (arith, length-take (nth d 2) ys, w .edges-most)),
-      rw q (edges-within (nth d 0) (nth d 2) _ es _ (sym (c .before .before .before .before .before .before .before .read-edges .ensures ∙ edges-read d (c .before .before .before .before .before .before .before .before .before .before .before .before .before .before .pre) (drop (c .before .before .before .before .before .before .before .before .before .before .before .before .before .before .args .at) s)) ∙ ap (told s es) (c .before .before .before .p .given .1))),
+      rw q (edges-within (nth d 0) (nth d 2) _ es _ (sym (read-edges .ensures ∙ edges-read d (pre) (drop (args .at) s)) ∙ ap (told s es) (p .given .1))),
     )
 
 enum-known-n : tie.Need-enum-known-n
@@ -87,24 +102,31 @@ same-length c = search needs
 
 returns : tie.Need-returns
 returns c runs delays q =
-    let s = c .before .before .before .before .before .before .before .before .before .before .before .before .before .before .before .args .s .now in
-    let d = c .before .before .before .before .before .before .before .before .before .before .before .before .before .before .before .args .mem .now in
-    let ys = c .before .before .before .before .before .before .before .before .read-edges .last .1 .1 .1 .1 .0 in
-    let l = c .before .before .before .before .before .before .before .before .read-edges .kept .1 .1 .1 .1 .0 in
+    let args = c .before .before .before .before .before .before .before .before .before .before .before .before .before .before .before .args in
+    let pre = c .before .before .before .before .before .before .before .before .before .before .before .before .before .before .before .pre in
+    let read-edges = c .before .before .before .before .before .before .before .before .read-edges in
+    let p = c .before .before .before .before .p in
+    let s = args .s .now in
+    let d = args .mem .now in
+    let ys = read-edges .last .1 .1 .1 .1 .0 in
+    let l = read-edges .kept .1 .1 .1 .1 .0 in
     let es = map edgeIn (take (nth d 2) ys) in
-    rw (c .close .ensures, edges-part d _ ys (c .before .before .before .before .before .before .before .before .before .before .before .before .before .before .before .pre) refl l)
-    (edges-closed (jobHeadOf d) runs delays (drop (c .before .before .before .before .before .before .before .before .before .before .before .before .before .before .before .args .at) s) _ es s (c .before .before .before .before .p .given .0 .0) (sym (c .before .before .before .before .before .before .before .before .read-edges .ensures ∙ edges-read d (c .before .before .before .before .before .before .before .before .before .before .before .before .before .before .before .pre) (drop (c .before .before .before .before .before .before .before .before .before .before .before .before .before .before .before .args .at) s)) ∙ ap (told s es) (c .before .before .before .before .p .given .1))
-    _ (edges-fit d _ ys (c .before .before .before .before .before .before .before .before .before .before .before .before .before .before .before .pre) refl l) (edges-in d _ ys (c .before .before .before .before .before .before .before .before .before .before .before .before .before .before .before .pre) refl l runs delays q))
+    rw (c .close .ensures, edges-part d _ ys (pre) refl l)
+    (edges-closed (jobHeadOf d) runs delays (drop (args .at) s) _ es s (p .given .0 .0) (sym (read-edges .ensures ∙ edges-read d (pre) (drop (args .at) s)) ∙ ap (told s es) (p .given .1))
+    _ (edges-fit d _ ys (pre) refl l) (edges-in d _ ys (pre) refl l runs delays q))
 
 same-length-2 : tie.Need-same-length-2
 same-length-2 c = search needs
 
 returns-2 : tie.Need-returns-2
 returns-2 c runs delays q =
-    let s = c .before .before .before .before .before .before .before .before .before .before .before .before .args .s .now in
-    let d = c .before .before .before .before .before .before .before .before .before .before .before .before .args .mem .now in
-    let es = map edgeIn (take (nth d 2) (c .before .before .before .before .before .read-edges .last .1 .1 .1 .1 .0)) in
-    edges-no (jobHeadOf d) runs delays (drop (c .before .before .before .before .before .before .before .before .before .before .before .before .args .at) s) _ _ (sym (c .before .before .before .before .before .read-edges .ensures ∙ edges-read d (c .before .before .before .before .before .before .before .before .before .before .before .before .pre) (drop (c .before .before .before .before .before .before .before .before .before .before .before .before .args .at) s)) ∙ ap (told s es) (c .before .n .given .1))
+    let args = c .before .before .before .before .before .before .before .before .before .before .before .before .args in
+    let pre = c .before .before .before .before .before .before .before .before .before .before .before .before .pre in
+    let read-edges = c .before .before .before .before .before .read-edges in
+    let s = args .s .now in
+    let d = args .mem .now in
+    let es = map edgeIn (take (nth d 2) (read-edges .last .1 .1 .1 .1 .0)) in
+    edges-no (jobHeadOf d) runs delays (drop (args .at) s) _ _ (sym (read-edges .ensures ∙ edges-read d (pre) (drop (args .at) s)) ∙ ap (told s es) (c .before .n .given .1))
 
 pub load-edges-spec : {M : Type 1} → statement M
 load-edges-spec =

@@ -16,7 +16,12 @@ enum-known-n : tie.Need-enum-known-n
 enum-known-n c = search needs
 
 link-edges-requires : tie.Need-link-edges-requires
-link-edges-requires c κs = rest-held (c .before .before .before .before .before .before .before .before .before .before .args .rooms) (headOf (c .before .before .before .before .before .before .before .before .before .before .args .head)) (drop (c .before .before .before .before .before .before .before .before .before .before .args .at) (c .before .before .before .before .before .before .before .before .before .before .args .s .now)) (c .before .before .before .before .before .before .load-rest .last .1 .1 .1 .0) _ (c .before .before .before .before .before .before .before .before .before .before .pre .0) (c .before .before .before .before .before .before .load-rest .kept .1 .1 .1 .0 ∙ c .before .before .before .before .before .before .before .before .before .before .pre .1) (c .before .before .before .before .before .before .before .before .before .before .pre .2) (rw (c .before .before .n .given .1) at (c .before .before .before .before .before .before .load-rest .ensures))
+link-edges-requires c κs =
+    let args = c .before .before .before .before .before .before .before .before .before .before .args in
+    let pre = c .before .before .before .before .before .before .before .before .before .before .pre in
+    let load-rest = c .before .before .before .before .before .before .load-rest in
+    rest-held (args .rooms) (headOf (args .head)) (drop (args .at) (args .s .now)) (load-rest .last .1 .1 .1 .0) _ (pre .0) (load-rest .kept .1 .1 .1 .0 ∙ pre .1) (pre .2)
+    (rw (c .before .before .n .given .1) at (load-rest .ensures))
 
 enum-known-x : tie.Need-enum-known-x
 enum-known-x c = search needs
@@ -25,13 +30,22 @@ same-length : tie.Need-same-length
 same-length c = search needs
 
 returns : tie.Need-returns
-returns c = rest-linked (c .before .before .before .before .before .before .before .before .before .before .before .before .before .args .rooms) (headOf (c .before .before .before .before .before .before .before .before .before .before .before .before .before .args .head)) (drop (c .before .before .before .before .before .before .before .before .before .before .before .before .before .args .at) (c .before .before .before .before .before .before .before .before .before .before .before .before .before .args .s .now)) (c .before .before .before .before .before .before .before .before .before .load-rest .last .1 .1 .1 .0) _ (c .before .before .before .before .before .before .before .before .before .before .before .before .before .pre .0) (c .before .before .before .before .before .before .before .before .before .load-rest .kept .1 .1 .1 .0 ∙ c .before .before .before .before .before .before .before .before .before .before .before .before .before .pre .1) (c .before .before .before .before .before .before .before .before .before .before .before .before .before .pre .2) (rw (c .before .before .before .before .before .n .given .1) at (c .before .before .before .before .before .before .before .before .before .load-rest .ensures)) _ (c .before .before .link-edges .ensures .0) (c .before .before .link-edges .ensures .1) (c .before .before .link-edges .ensures .2)
+returns c =
+    let args = c .before .before .before .before .before .before .before .before .before .before .before .before .before .args in
+    let pre = c .before .before .before .before .before .before .before .before .before .before .before .before .before .pre in
+    let load-rest = c .before .before .before .before .before .before .before .before .before .load-rest in
+    let n = c .before .before .before .before .before .n in
+    rest-linked (args .rooms) (headOf (args .head)) (drop (args .at) (args .s .now)) (load-rest .last .1 .1 .1 .0) _ (pre .0) (load-rest .kept .1 .1 .1 .0 ∙ pre .1) (pre .2)
+    (rw (n .given .1) at (load-rest .ensures)) _ (c .before .before .link-edges .ensures .0) (c .before .before .link-edges .ensures .1) (c .before .before .link-edges .ensures .2)
 
 same-length-2 : tie.Need-same-length-2
 same-length-2 c = search needs
 
 returns-2 : tie.Need-returns-2
-returns-2 c = rest-refused (c .before .before .before .before .before .before .before .before .before .args .rooms) (closed (fromRuns (headOf (c .before .before .before .before .before .before .before .before .before .args .head)) (drop (c .before .before .before .before .before .before .before .before .before .args .at) (c .before .before .before .before .before .before .before .before .before .args .s .now)))) _ _ (rw (c .before .x .given .1) at (c .before .before .before .before .before .load-rest .ensures))
+returns-2 c =
+    let args = c .before .before .before .before .before .before .before .before .before .args in
+    let load-rest = c .before .before .before .before .before .load-rest in
+    rest-refused (args .rooms) (closed (fromRuns (headOf (args .head)) (drop (args .at) (args .s .now)))) _ _ (rw (c .before .x .given .1) at (load-rest .ensures))
 
 pub load-linked-spec : {M : Type 1} → statement M
 load-linked-spec =

@@ -10,13 +10,20 @@ put-head-requires : tie.Need-put-head-requires
 put-head-requires c κs = omega (arith, c .before .before .before .pre .1)
 
 load-runs-requires : tie.Need-load-runs-requires
-load-runs-requires c κs = headed (c .before .before .before .put-head .last .0) (headOf (c .before .before .before .before .before .before .before .args .head)) (c .before .before .before .put-head .ensures) (c .before .before .before .before .before .before .before .pre .0) (omega (arith, c .before .before .before .before .before .before .before .pre .1, c .before .before .before .put-head .kept .0))
+load-runs-requires c κs =
+    let args = c .before .before .before .before .before .before .before .args in
+    let pre = c .before .before .before .before .before .before .before .pre in
+    let put-head = c .before .before .before .put-head in
+    headed (put-head .last .0) (headOf (args .head)) (put-head .ensures) (pre .0) (omega (arith, pre .1, put-head .kept .0))
 
 same-length : tie.Need-same-length
 same-length c = search needs
 
 returns : tie.Need-returns
-returns c = runs-as _ (headOf (c .before .before .before .before .before .before .before .before .before .before .args .head)) _ _ _ (c .before .before .before .before .before .before .put-head .ensures) (c .before .before .load-runs .ensures)
+returns c =
+    let args = c .before .before .before .before .before .before .before .before .before .before .args in
+    let put-head = c .before .before .before .before .before .before .put-head in
+    runs-as _ (headOf (args .head)) _ _ _ (put-head .ensures) (c .before .before .load-runs .ensures)
 
 pub load-rest-spec : {M : Type 1} → statement M
 load-rest-spec = tie.close (tie.spec put-head-requires load-runs-requires same-length returns)

@@ -44,9 +44,12 @@ enum-known-p c = search needs
 
 load-delays-requires : tie.Need-load-delays-requires
 load-delays-requires c κs =
-    let d = c .before .before .before .before .before .before .before .before .before .before .before .before .before .args .mem .now in
-    let ys = c .before .before .before .before .before .before .read-rows .last .1 .1 .1 .1 .1 .1 .0 in
-    lent-headed d (putMid 4 (length d - 4) d ys) ys 4 refl (c .before .before .before .before .before .before .read-rows .kept .1 .1 .1 .1 .1 .1 .0) (omega arith) (omega arith) (c .before .before .before .before .before .before .before .before .before .before .before .before .before .pre)
+    let args = c .before .before .before .before .before .before .before .before .before .before .before .before .before .args in
+    let pre = c .before .before .before .before .before .before .before .before .before .before .before .before .before .pre in
+    let read-rows = c .before .before .before .before .before .before .read-rows in
+    let d = args .mem .now in
+    let ys = read-rows .last .1 .1 .1 .1 .1 .1 .0 in
+    lent-headed d (putMid 4 (length d - 4) d ys) ys 4 refl (read-rows .kept .1 .1 .1 .1 .1 .1 .0) (omega arith) (omega arith) (pre)
 
 enum-known-n : tie.Need-enum-known-n
 enum-known-n c = search needs
@@ -56,14 +59,18 @@ same-length c = search needs
 
 returns : tie.Need-returns
 returns c =
-    let s = c .before .before .before .before .before .before .before .before .before .before .before .before .before .before .before .before .args .s .now in
-    let d = c .before .before .before .before .before .before .before .before .before .before .before .before .before .before .before .before .args .mem .now in
-    let at = c .before .before .before .before .before .before .before .before .before .before .before .before .before .before .before .before .args .at in
-    let w = c .before .before .before .before .before .before .before .before .before .before .before .before .before .before .before .before .pre in
-    let ys = c .before .before .before .before .before .before .before .before .before .read-rows .last .1 .1 .1 .1 .1 .1 .0 in
+    let args = c .before .before .before .before .before .before .before .before .before .before .before .before .before .before .before .before .args in
+    let pre = c .before .before .before .before .before .before .before .before .before .before .before .before .before .before .before .before .pre in
+    let read-rows = c .before .before .before .before .before .before .before .before .before .read-rows in
+    let p = c .before .before .before .before .before .p in
+    let s = args .s .now in
+    let d = args .mem .now in
+    let at = args .at in
+    let w = pre in
+    let ys = read-rows .last .1 .1 .1 .1 .1 .1 .0 in
     let x = putMid 4 (length d - 4) d ys in
     let rs = rows (1 + nth d 1) (nth d 0) ys in
-    let f = sym (c .before .before .before .before .before .before .before .before .before .read-rows .ensures ∙ runs-read d w (bytes "C,") (drop at s)) ∙ ap (told s rs) (c .before .before .before .before .before .p .given .1) in
+    let f = sym (read-rows .ensures ∙ runs-read d w (bytes "C,") (drop at s)) ∙ ap (told s rs) (p .given .1) in
     runs-then (jobHeadOf d) (drop at s) _ rs _ f (jobHeadOf x) (lent-head d x ys 4 refl (omega arith) (omega arith)) _
     (c .before .before .load-delays .ensures (map (drop 1) rs) (runs-in d x ys w refl _ _ f))
 

@@ -22,10 +22,17 @@ slice-read-e : tie.Need-slice-read-e Inv-loop μ-loop
 slice-read-e c = omega (arith, sizes (held-kept (c .before .before .before .before .before .before .pre) (c .before .before .before .clear-heads .ensures .0) (omega arith)) .size)
 
 edges-at-requires : tie.Need-edges-at-requires Inv-loop μ-loop
-edges-at-requires c κs = (c .before .before .before .before .before .before .before .args .rooms, held-kept (c .before .before .before .before .before .before .before .pre) (c .before .before .before .before .clear-heads .ensures .0) (omega arith))
+edges-at-requires c κs =
+    let args = c .before .before .before .before .before .before .before .args in
+    let pre = c .before .before .before .before .before .before .before .pre in
+    let clear-heads = c .before .before .before .before .clear-heads in
+    (args .rooms, held-kept (pre) (clear-heads .ensures .0) (omega arith))
 
 loop-holds : tie.Need-loop-holds Inv-loop μ-loop
-loop-holds c = (omega arith, held-kept (c .before .before .before .before .before .before .before .before .pre) (c .before .before .before .before .before .clear-heads .ensures .0) (omega arith), laying-none _ (c .before .before .before .before .before .clear-heads .ensures .1))
+loop-holds c =
+    let pre = c .before .before .before .before .before .before .before .before .pre in
+    let clear-heads = c .before .before .before .before .before .clear-heads in
+    (omega arith, held-kept (pre) (clear-heads .ensures .0) (omega arith), laying-none _ (clear-heads .ensures .1))
 
 add-c : tie.Need-add-c Inv-loop μ-loop
 add-c c = search needs
@@ -49,8 +56,12 @@ add-put-in-front-2 : tie.Need-add-put-in-front-2 Inv-loop μ-loop
 add-put-in-front-2 c = search needs
 
 put-in-front-requires : tie.Need-put-in-front-requires Inv-loop μ-loop
-put-in-front-requires c κs = let l = c .before .before .before .loop in
-    let p = places (l .inv .1) (l .i) _ (c .before .before .loop-test .taken) (cell (c .before .before .before .before .before .before .before .before .before .clear-heads .last .0) (l .mem) (c .before .before .before .before .edges-at .result) (l .i) (c .before .before .before .before .edges-at .ensures)) (l .inv .2) in
+put-in-front-requires c κs =
+    let clear-heads = c .before .before .before .before .before .before .before .before .before .clear-heads in
+    let edges-at = c .before .before .before .before .edges-at in
+    let loop = c .before .before .before .loop in
+    let l = loop in
+    let p = places (l .inv .1) (l .i) _ (c .before .before .loop-test .taken) (cell (clear-heads .last .0) (l .mem) (edges-at .result) (l .i) (edges-at .ensures)) (l .inv .2) in
     (p .in-head, p .in-next, p .few)
 
 mul-put-in-front-3 : tie.Need-mul-put-in-front-3 Inv-loop μ-loop
@@ -66,9 +77,15 @@ add-put-in-front-4 : tie.Need-add-put-in-front-4 Inv-loop μ-loop
 add-put-in-front-4 c = search needs
 
 put-in-front-requires-2 : tie.Need-put-in-front-requires-2 Inv-loop μ-loop
-put-in-front-requires-2 c κs = let l = c .before .before .before .before .before .before .before .loop in
-    let p = places (l .inv .1) (l .i) _ (c .before .before .before .before .before .before .loop-test .taken) (cell (c .before .before .before .before .before .before .before .before .before .before .before .before .before .clear-heads .last .0) (l .mem) (c .before .before .before .before .before .before .before .before .edges-at .result) (l .i) (c .before .before .before .before .before .before .before .before .edges-at .ensures)) (l .inv .2) in
-    (omega (arith, p .out-head, c .before .before .before .put-in-front .kept .0), omega (arith, p .out-next, c .before .before .before .put-in-front .kept .0), p .few)
+put-in-front-requires-2 c κs =
+    let clear-heads = c .before .before .before .before .before .before .before .before .before .before .before .before .before .clear-heads in
+    let edges-at = c .before .before .before .before .before .before .before .before .edges-at in
+    let loop = c .before .before .before .before .before .before .before .loop in
+    let loop-test = c .before .before .before .before .before .before .loop-test in
+    let put-in-front = c .before .before .before .put-in-front in
+    let l = loop in
+    let p = places (l .inv .1) (l .i) _ (loop-test .taken) (cell (clear-heads .last .0) (l .mem) (edges-at .result) (l .i) (edges-at .ensures)) (l .inv .2) in
+    (omega (arith, p .out-head, put-in-front .kept .0), omega (arith, p .out-next, put-in-front .kept .0), p .few)
 
 add-i : tie.Need-add-i Inv-loop μ-loop
 add-i c = search needs
@@ -77,11 +94,18 @@ loop-less : tie.Need-loop-less Inv-loop μ-loop
 loop-less c = search needs
 
 loop-again : tie.Need-loop-again Inv-loop μ-loop
-loop-again c = let l = c .before .before .before .before .before .before .before .before .before .before .loop in (
-  omega (arith, c .before .before .before .before .before .before .before .before .before .loop-test .taken),
-  l .inv .1,
-  rw (c .before .before .put-in-front2 .ensures, c .before .before .before .before .before .before .put-in-front .ensures) (laying-next (l .inv .1) (l .i) _ (c .before .before .before .before .before .before .before .before .before .loop-test .taken) (cell (c .before .before .before .before .before .before .before .before .before .before .before .before .before .before .before .before .clear-heads .last .0) (l .mem) (c .before .before .before .before .before .before .before .before .before .before .before .edges-at .result) (l .i) (c .before .before .before .before .before .before .before .before .before .before .before .edges-at .ensures)) (l .inv .2)),
-)
+loop-again c =
+    let clear-heads = c .before .before .before .before .before .before .before .before .before .before .before .before .before .before .before .before .clear-heads in
+    let edges-at = c .before .before .before .before .before .before .before .before .before .before .before .edges-at in
+    let loop = c .before .before .before .before .before .before .before .before .before .before .loop in
+    let loop-test = c .before .before .before .before .before .before .before .before .before .loop-test in
+    let put-in-front = c .before .before .before .before .before .before .put-in-front in
+    let l = loop in (
+      omega (arith, loop-test .taken),
+      l .inv .1,
+      rw (c .before .before .put-in-front2 .ensures, put-in-front .ensures)
+          (laying-next (l .inv .1) (l .i) _ (loop-test .taken) (cell (clear-heads .last .0) (l .mem) (edges-at .result) (l .i) (edges-at .ensures)) (l .inv .2)),
+    )
 
 same-length : tie.Need-same-length Inv-loop μ-loop
 same-length c = search needs

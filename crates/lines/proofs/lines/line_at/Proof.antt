@@ -26,7 +26,11 @@ same-length : tie.Need-same-length
 same-length c = search needs
 
 returns : tie.Need-returns
-returns c = (c .before .before .read-numbers .ensures .0 ∙ line-open _ _ _ _ _ (sym (c .before .before .before .before .before .before .before .read-fixed .ensures .0) ∙ ap (told (c .before .before .before .before .before .before .before .before .before .before .before .args .s .now) tt) (c .before .before .before .before .before .p .given .1)), c .before .before .read-numbers .ensures .1)
+returns c =
+    let args = c .before .before .before .before .before .before .before .before .before .before .before .args in
+    let read-fixed = c .before .before .before .before .before .before .before .read-fixed in
+    let p = c .before .before .before .before .before .p in
+    (c .before .before .read-numbers .ensures .0 ∙ line-open _ _ _ _ _ (sym (read-fixed .ensures .0) ∙ ap (told (args .s .now) tt) (p .given .1)), c .before .before .read-numbers .ensures .1)
 
 returns-2 : tie.Need-returns-2
 returns-2 c = (line-no _ _ _ _ _ (sym (c .before .before .before .read-fixed .ensures .0) ∙ ap (told (c .before .before .before .before .before .before .before .args .s .now) tt) (c .before .n .given .1)), refl)

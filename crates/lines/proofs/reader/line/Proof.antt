@@ -1,5 +1,6 @@
 -- `reader::line` meets its contract: a walk of its MIR, by hand. The reader is taken apart, and `line_at` is called on its text and its place. All that the proof knows of `line_at` is that it meets its contract.
--- The reader's fields stand in the order in which the callee takes them, so what they own is what it asks. The `&mut` goes to the callee at its own lifetime, share and name, so what the callee says of its last list is what `line` says.
+-- The reader's fields stand in the order in which the callee takes them, so what they own is what it asks. The `&mut` goes to the
+-- callee at its own lifetime, share and name, so what the callee says of its last list is what `line` says.
 -- Assumes nothing.
 use mathlib.Core.Path.{_≡_, refl}
 use Prim.Native.Nat.{ℕ, _<_, _≤_, _^_}
@@ -59,7 +60,8 @@ D κs = T.the-type (namedLft 3 0 tt κs)
 abbrev L : (κs : Lfts 3) → LL.Laws (D κs)
 L κs = T′.the-laws (namedLft 3 0 tt κs)
 
-module _ {M : Type 1} (𝓤 : URA M) (H : Heap 𝓤) (A : Atoms 𝓤) (W : Given 𝓤 H A) (mem : Memory → SProp 𝓤) (run : Routine → Fun 𝓤) (κs : Lfts 3) (qs : Shares 3) (d : Reader) (o : RefT (List ℕ)) (k : ℕ) (y : RefT (List ℕ)) where
+module _ {M : Type 1} (𝓤 : URA M) (H : Heap 𝓤) (A : Atoms 𝓤) (W : Given 𝓤 H A) (mem : Memory → SProp 𝓤) (run : Routine → Fun 𝓤) (κs : Lfts 3) (qs : Shares 3) (d : Reader)
+    (o : RefT (List ℕ)) (k : ℕ) (y : RefT (List ℕ)) where
   abbrev mach : Val
   mach = T′.lowered d
 
@@ -84,7 +86,8 @@ module _ {M : Type 1} (𝓤 : URA M) (H : Heap 𝓤) (A : Atoms 𝓤) (W : Given
 
   module _ (C : Calls 𝓤 H) (Λ : Loops 𝓤 H) (fm : FmC 𝓤 H (W .laws) C) (known : Triple 𝓤 (C #lines·lines·line-at) (Of 𝓤 H A line-at.ended (line-at.clauses 𝓤 H A mem run))) where
     walk : Holds (hasTy (T′.mir (named 0)) mach) × WT mach → Is (ShrSlice (named 1) (κs .1 .0) u8) o (slice-vals o) → k < 2 ^ 64 → Is (MutSlice (named 2) (κs .1 .1 .0) u64) y (slice-vals y) → k ≤ length (y .now)
-        → ent 𝓤 (onEntry 𝓤 H A line.signature κs qs (d, (o, (k, (y, tt)))) vals) (WpFn 𝓤 H C Λ code.function (Walk 𝓤 H A line.ended (line.clauses 𝓤 H A mem run) .args at) (Walk 𝓤 H A line.ended (line.clauses 𝓤 H A mem run) .post at))
+        → ent 𝓤 (onEntry 𝓤 H A line.signature κs qs (d, (o, (k, (y, tt)))) vals)
+        (WpFn 𝓤 H C Λ code.function (Walk 𝓤 H A line.ended (line.clauses 𝓤 H A mem run) .args at) (Walk 𝓤 H A line.ended (line.clauses 𝓤 H A mem run) .post at))
     walk wt po fits py within =
         qed W (raw (onEntry 𝓤 H A line.signature κs qs (d, (o, (k, (y, tt)))) vals) ∷ []) ∵ enter ! C Λ code.function (Walk 𝓤 H A line.ended (line.clauses 𝓤 H A mem run) .args at) _ $
         alloc1 ! (λ l₀. alloc1 ! (λ l₁. alloc1 ! (λ l₂. alloc1 ! (λ l₃. alloc1 ! (λ l₄. alloc1 ! (λ l₅. alloc1 ! (λ l₆. alloc1 ! (λ l₇. alloc1 ! (λ l₈. alloc0 ! $ params1 ! $
@@ -94,14 +97,18 @@ module _ {M : Type 1} (𝓤 : URA M) (H : Heap 𝓤) (A : Atoms 𝓤) (W : Given
         assigns ! (of-opd ! (load ! (from ! (fld ! refl (stop !))) (look-in ! 14 (sub ! 0 refl (whole !))))) (from ! (stop !)) (init ! 6 refl (tt, wt .1 .0)) $
         assigns ! (of-opd ! (load ! (from ! (fld ! refl (stop !))) (look-in ! 14 (sub ! 1 refl (whole !))))) (from ! (stop !)) (init ! 4 refl (tt, wt .1 .1 .0)) $
         assigns ! (addr ! (from ! (fld ! refl (hop ! (look-in ! 8 (sub ! 0 refl (whole !))) (stop !))))) (from ! (stop !)) (init ! 2 refl (tt, tt)) $
-        assigns ! (agg ! (and-then ! (load ! (from ! (stop !)) (look ! 2 refl)) (and-then ! (load ! (from ! (fld ! refl (stop !))) (look-in ! 8 (sub ! 1 refl (whole !)))) (no-more !)))) (from ! (stop !)) (init ! 0 refl (tt, (tt, (record { fits = py .0 .1 .0 }, tt)))) $
+        assigns ! (agg ! (and-then ! (load ! (from ! (stop !)) (look ! 2 refl)) (and-then ! (load ! (from ! (fld ! refl (stop !))) (look-in ! 8 (sub ! 1 refl (whole !)))) (no-more !))))
+        (from ! (stop !)) (init ! 0 refl (tt, (tt, (record { fits = py .0 .1 .0 }, tt)))) $
         move ! (18 ∷ []) $ use1 W (raw (Of 𝓤 H A line-at.ended (line-at.clauses 𝓤 H A mem run) .pre to)) (goes within) $
         calls ! fm line-at.ended (line-at.clauses 𝓤 H A mem run) known to (λ r ws. LineTold d o k y (ws .1 .1 .1 .1 .0) r) (λ r ws. id⊢ 𝓤 _)
-        (and-then ! (load ! (from ! (stop !)) (look ! 7 refl)) (and-then ! (load ! (from ! (stop !)) (look ! 5 refl)) (and-then ! (load ! (from ! (stop !)) (look ! 13 refl)) (and-then ! (load ! (from ! (stop !)) (look ! 11 refl)) (and-then ! (load ! (from ! (stop !)) (look ! 1 refl)) (no-more !)))))) (λ u r ws e is.
+        (and-then ! (load ! (from ! (stop !)) (look ! 7 refl))
+        (and-then ! (load ! (from ! (stop !)) (look ! 5 refl))
+        (and-then ! (load ! (from ! (stop !)) (look ! 13 refl)) (and-then ! (load ! (from ! (stop !)) (look ! 11 refl)) (and-then ! (load ! (from ! (stop !)) (look ! 1 refl)) (no-more !)))))) (λ u r ws e is.
         -- [the result; the tokens; what says the last list; _8; …; room for _0; …]
         land ! (from ! (stop !)) (init ! 19 refl (EL.lawful S.the-type S′.the-laws 𝓤 H A W tt .typed r _ is .0)) $
         returns ! (look ! 19 refl) $ forget ! 3 refl $ forget ! 5 refl $ forget ! 7 refl $ forget ! 9 refl $ forget ! 11 refl $ forget ! 13 refl $ forget ! 15 refl $ forget ! 17 refl $ forget ! 19 refl $
-        move ! (19 ∷ 20 ∷ []) $ free1 ! $ move ! (17 ∷ 18 ∷ []) $ free1 ! $ move ! (15 ∷ 16 ∷ []) $ free1 ! $ move ! (13 ∷ 14 ∷ []) $ free1 ! $ move ! (11 ∷ 12 ∷ []) $ free1 ! $ move ! (9 ∷ 10 ∷ []) $ free1 ! $ move ! (7 ∷ 8 ∷ []) $ free1 ! $ move ! (5 ∷ 6 ∷ []) $ free1 ! $ move ! (3 ∷ 4 ∷ []) $ free1 ! $ free0 ! $
+        move ! (19 ∷ 20 ∷ []) $ free1 ! $ move ! (17 ∷ 18 ∷ []) $ free1 ! $ move ! (15 ∷ 16 ∷ []) $ free1 ! $ move ! (13 ∷ 14 ∷ []) $ free1 ! $ move ! (11 ∷ 12 ∷ []) $ free1 ! $ move !
+        (9 ∷ 10 ∷ []) $ free1 ! $ move ! (7 ∷ 8 ∷ []) $ free1 ! $ move ! (5 ∷ 6 ∷ []) $ free1 ! $ move ! (3 ∷ 4 ∷ []) $ free1 ! $ free0 ! $
         move ! (2 ∷ []) $ fsplit ! $ drop ! $ move ! (1 ∷ 2 ∷ 0 ∷ []) $ by ! (ended 𝓤 H A W line.ended (line.clauses 𝓤 H A mem run) at u r (ws .1) (LineTold d o k y (ws .1 .1 .1 .1 .0) r) (id⊢ 𝓤 _) e)))))))))))
 
 pub line-spec : {M : Type 1} → stated.statement M

@@ -1,4 +1,5 @@
--- `reader::line_of` meets its contract: a walk of its MIR, by hand. A reader that one call returns is held in a local and passed to the next. All that the proof knows of `start`, `moved` and `line` is that each meets its contract.
+-- `reader::line_of` meets its contract: a walk of its MIR, by hand. A reader that one call returns is held in a local and passed
+-- to the next. All that the proof knows of `start`, `moved` and `line` is that each meets its contract.
 -- In a local of a body MIR erases the lifetime of the struct's type, so a reader's machine value is shown to have the type at `erased`: what the reader owns does not say the lifetime's name.
 -- Assumes nothing.
 use mathlib.Core.Path.{_≡_, refl, subst, _∙_}
@@ -73,7 +74,8 @@ module _ {M : Type 1} (𝓤 : URA M) (H : Heap 𝓤) (A : Atoms 𝓤) (mem : Mem
   abbrev Own : Contract 𝓤
   Own = Walk 𝓤 H A line-of.ended (line-of.clauses 𝓤 H A mem run)
 
-module _ {M : Type 1} (𝓤 : URA M) (H : Heap 𝓤) (A : Atoms 𝓤) (W : Given 𝓤 H A) (mem : Memory → SProp 𝓤) (run : Routine → Fun 𝓤) (κs : Lfts 3) (qs : Shares 3) (s : RefT (List ℕ)) (n : ℕ) (o : RefT (List ℕ)) (k : ℕ) (y : RefT (List ℕ)) where
+module _ {M : Type 1} (𝓤 : URA M) (H : Heap 𝓤) (A : Atoms 𝓤) (W : Given 𝓤 H A) (mem : Memory → SProp 𝓤) (run : Routine → Fun 𝓤) (κs : Lfts 3) (qs : Shares 3) (s : RefT (List ℕ)) (n : ℕ)
+    (o : RefT (List ℕ)) (k : ℕ) (y : RefT (List ℕ)) where
   abbrev a : Args line-of.signature κs
   a = (s, (n, (o, (k, (y, tt)))))
 
@@ -133,8 +135,10 @@ module _ {M : Type 1} (𝓤 : URA M) (H : Heap 𝓤) (A : Atoms 𝓤) (W : Given
       qed W (‵ (R .own r (u ∷ [])) ∷ (‵ Tok ⊛ ‵ ftrue) ∷ ‵ Rest ∷ raw Toks ∷ []) ∵ says ! within $
       move ! (1 ∷ []) $ split ! $ move ! (0 ∷ 4 ∷ []) $ join ! $ frame ! $ move ! (1 ∷ 2 ∷ []) $ fjoin ! $ keep ! (0 ∷ []) $ done !
 
-  module _ (C : Calls 𝓤 H) (Λ : Loops 𝓤 H) (fm : FmC 𝓤 H (W .laws) C) (known-start : Triple 𝓤 (C #lines·reader·start) (Start 𝓤 H A mem run)) (known-moved : Triple 𝓤 (C #lines·reader·moved) (Moved 𝓤 H A mem run)) (known-line : Triple 𝓤 (C #lines·reader·line) (Line 𝓤 H A mem run)) where
-    walk : Is (ShrSlice (named 0) (κs .0) u8) s (slice-vals s) → n < 2 ^ 64 → Is (ShrSlice (named 1) (κs .1 .0) u8) o (slice-vals o) → k < 2 ^ 64 → Is (MutSlice (named 2) (κs .1 .1 .0) u64) y (slice-vals y) → k ≤ length (y .now)
+  module _ (C : Calls 𝓤 H) (Λ : Loops 𝓤 H) (fm : FmC 𝓤 H (W .laws) C) (known-start : Triple 𝓤 (C #lines·reader·start) (Start 𝓤 H A mem run))
+      (known-moved : Triple 𝓤 (C #lines·reader·moved) (Moved 𝓤 H A mem run)) (known-line : Triple 𝓤 (C #lines·reader·line) (Line 𝓤 H A mem run)) where
+    walk : Is (ShrSlice (named 0) (κs .0) u8) s (slice-vals s) → n < 2 ^ 64 → Is (ShrSlice (named 1) (κs .1 .0) u8) o (slice-vals o) → k < 2 ^ 64
+        → Is (MutSlice (named 2) (κs .1 .1 .0) u64) y (slice-vals y) → k ≤ length (y .now)
         → ent 𝓤 (onEntry 𝓤 H A line-of.signature κs qs a vals) (WpFn 𝓤 H C Λ code.function (Own 𝓤 H A mem run .args at) (Own 𝓤 H A mem run .post at))
     walk ps n-fits po k-fits py within =
         qed W (raw (onEntry 𝓤 H A line-of.signature κs qs a vals) ∷ []) ∵ enter ! C Λ code.function (Own 𝓤 H A mem run .args at) _ $
@@ -145,24 +149,30 @@ module _ {M : Type 1} (𝓤 : URA M) (H : Heap 𝓤) (A : Atoms 𝓤) (W : Given
         -- `start`: [_9; …; _8; …; _7; …; _6; …; _5; …; _4; …; _3; …; _2; …; _1; …; room for _0; …; the tokens and what the parameters own]
         move ! (20 ∷ []) $ use1 W (raw (Start 𝓤 H A mem run .pre to-start) ⊛ (raw Toks ⊛ ‵ More)) goes-start $ split ! $
         move ! (1 ∷ []) $ split ! $ move ! (2 ∷ 0 ∷ 1 ∷ []) $
-        calls ! fm start.ended (start.clauses 𝓤 H A mem run) known-start to-start (λ r ws. (r .text ≡ s) × (r .at ≡ 0)) (λ r ws. id⊢ 𝓤 _) (and-then ! (load ! (from ! (stop !)) (look ! 19 refl)) (no-more !)) (λ u₀ r₀ ws₀ e₀ is₀.
+        calls ! fm start.ended (start.clauses 𝓤 H A mem run) known-start to-start (λ r ws. (r .text ≡ s) × (r .at ≡ 0)) (λ r ws. id⊢ 𝓤 _)
+        (and-then ! (load ! (from ! (stop !)) (look ! 19 refl)) (no-more !)) (λ u₀ r₀ ws₀ e₀ is₀.
         -- [the reader; its token; …; the tokens; what the others own; _9; …]
         land ! (from ! (stop !)) (init ! 9 refl (LL.lawful (T.the-type αᵉ) (T′.the-laws αᵉ) 𝓤 H A W .typed r₀ _ is₀ .0)) $
         -- `moved`
         move ! (0 ∷ 1 ∷ 4 ∷ []) $ use3 W (raw (Moved 𝓤 H A mem run .pre (to-moved r₀ u₀)) ⊛ ‵ Rest) (goes-moved r₀ u₀) $ split ! $
-        calls ! fm moved.ended (moved.clauses 𝓤 H A mem run) known-moved (to-moved r₀ u₀) (λ r ws. (r .text ≡ r₀ .text) × (r .at ≡ n)) (λ r ws. id⊢ 𝓤 _) (and-then ! (load ! (from ! (stop !)) (look ! 8 refl)) (and-then ! (load ! (from ! (stop !)) (look ! 18 refl)) (no-more !))) (λ u₁ r₁ ws₁ e₁ is₁.
+        calls ! fm moved.ended (moved.clauses 𝓤 H A mem run) known-moved (to-moved r₀ u₀) (λ r ws. (r .text ≡ r₀ .text) × (r .at ≡ n)) (λ r ws. id⊢ 𝓤 _)
+        (and-then ! (load ! (from ! (stop !)) (look ! 8 refl)) (and-then ! (load ! (from ! (stop !)) (look ! 18 refl)) (no-more !))) (λ u₁ r₁ ws₁ e₁ is₁.
         -- [the reader; its token; …; what the last three own; …; the tokens; _9; …]
         land ! (from ! (stop !)) (init ! 12 refl (LL.lawful (T.the-type αᵉ) (T′.the-laws αᵉ) 𝓤 H A W .typed r₁ _ is₁ .0)) $
         assigns ! (addr ! (from ! (fld ! refl (hop ! (look-in ! 14 (sub ! 0 refl (whole !))) (stop !))))) (from ! (stop !)) (init ! 8 refl (tt, tt)) $
-        assigns ! (agg ! (and-then ! (load ! (from ! (stop !)) (look ! 8 refl)) (and-then ! (load ! (from ! (fld ! refl (stop !))) (look-in ! 14 (sub ! 1 refl (whole !)))) (no-more !)))) (from ! (stop !)) (init ! 6 refl (tt, (tt, (record { fits = py .0 .1 .0 }, tt)))) $
+        assigns ! (agg ! (and-then ! (load ! (from ! (stop !)) (look ! 8 refl)) (and-then ! (load ! (from ! (fld ! refl (stop !))) (look-in ! 14 (sub ! 1 refl (whole !)))) (no-more !))))
+        (from ! (stop !)) (init ! 6 refl (tt, (tt, (record { fits = py .0 .1 .0 }, tt)))) $
         -- `line`
         move ! (3 ∷ 5 ∷ []) $ join ! $ move ! (1 ∷ 2 ∷ 0 ∷ []) $ use3 W (raw (Line 𝓤 H A mem run .pre (to-line r₁ u₁))) (goes-line within r₁ u₁) $
         calls ! fm line.ended (line.clauses 𝓤 H A mem run) known-line (to-line r₁ u₁) (λ r ws. LineTold r₁ o k y (ws .1 .1 .1 .0) r) (λ r ws. id⊢ 𝓤 _)
-        (and-then ! (load ! (from ! (stop !)) (look ! 9 refl)) (and-then ! (load ! (from ! (stop !)) (look ! 15 refl)) (and-then ! (load ! (from ! (stop !)) (look ! 13 refl)) (and-then ! (load ! (from ! (stop !)) (look ! 3 refl)) (no-more !))))) (λ u r ws e is.
+        (and-then ! (load ! (from ! (stop !)) (look ! 9 refl))
+        (and-then ! (load ! (from ! (stop !)) (look ! 15 refl)) (and-then ! (load ! (from ! (stop !)) (look ! 13 refl)) (and-then ! (load ! (from ! (stop !)) (look ! 3 refl)) (no-more !))))) (λ u r ws e is.
         -- [the result; the tokens; what says the last list; …; …; _9; …; room for _0; …]
         land ! (from ! (stop !)) (init ! 23 refl (EL.lawful S.the-type S′.the-laws 𝓤 H A W tt .typed r _ is .0)) $
-        returns ! (look ! 23 refl) $ forget ! 5 refl $ forget ! 7 refl $ forget ! 9 refl $ forget ! 11 refl $ forget ! 13 refl $ forget ! 15 refl $ forget ! 17 refl $ forget ! 19 refl $ forget ! 21 refl $ forget ! 23 refl $
-        move ! (23 ∷ 24 ∷ []) $ free1 ! $ move ! (21 ∷ 22 ∷ []) $ free1 ! $ move ! (19 ∷ 20 ∷ []) $ free1 ! $ move ! (17 ∷ 18 ∷ []) $ free1 ! $ move ! (15 ∷ 16 ∷ []) $ free1 ! $ move ! (13 ∷ 14 ∷ []) $ free1 ! $ move ! (11 ∷ 12 ∷ []) $ free1 ! $ move ! (9 ∷ 10 ∷ []) $ free1 ! $ move ! (7 ∷ 8 ∷ []) $ free1 ! $ move ! (5 ∷ 6 ∷ []) $ free1 ! $ free0 ! $
+        returns ! (look ! 23 refl) $ forget ! 5 refl $ forget ! 7 refl $ forget ! 9 refl $ forget ! 11 refl $ forget ! 13 refl $ forget ! 15 refl $ forget ! 17 refl $ forget ! 19 refl $
+        forget ! 21 refl $ forget ! 23 refl $
+        move ! (23 ∷ 24 ∷ []) $ free1 ! $ move ! (21 ∷ 22 ∷ []) $ free1 ! $ move ! (19 ∷ 20 ∷ []) $ free1 ! $ move ! (17 ∷ 18 ∷ []) $ free1 ! $ move ! (15 ∷ 16 ∷ []) $ free1 ! $ move !
+        (13 ∷ 14 ∷ []) $ free1 ! $ move ! (11 ∷ 12 ∷ []) $ free1 ! $ move ! (9 ∷ 10 ∷ []) $ free1 ! $ move ! (7 ∷ 8 ∷ []) $ free1 ! $ move ! (5 ∷ 6 ∷ []) $ free1 ! $ free0 ! $
         move ! (2 ∷ []) $ nothing ! $ fjoin ! $ keep ! (1 ∷ 2 ∷ 0 ∷ []) $
         by ! (ended 𝓤 H A W line-of.ended (line-of.clauses 𝓤 H A mem run) at u r (tt, ws) (LineTold (record { text = s; at = n }) o k y (ws .1 .1 .1 .0) r) (id⊢ 𝓤 _)
         (subst (λ (x : Reader). LineTold x o k y (ws .1 .1 .1 .0) r) (λ i. record { text = (e₁ .0 ∙ e₀ .0) i; at = e₁ .1 i }) e)))))))))))))))

@@ -22,19 +22,31 @@ abbrev μ-loop : tie.MeasureT-loop
 μ-loop edges v order₀ first next blocked₀ n₀ i₀ order blocked n i = v - i
 
 link-requires : tie.Need-link-requires Inv-loop μ-loop
-link-requires c κs = (c .before .before .before .before .pre .1, length-replicate {A = ℕ} 256 0, length-replicate {A = ℕ} 1024 0, length-replicate {A = ℕ} 256 0, λ t h. (getD-replicate {A = ℕ} 256 t 0 0 h, getD-replicate {A = ℕ} 256 t 0 0 h))
+link-requires c κs =
+    let pre = c .before .before .before .before .pre in
+    (pre .1, length-replicate {A = ℕ} 256 0, length-replicate {A = ℕ} 1024 0, length-replicate {A = ℕ} 256 0, λ t h. (getD-replicate {A = ℕ} 256 t 0 0 h, getD-replicate {A = ℕ} 256 t 0 0 h))
 
 list-entries-requires : tie.Need-list-entries-requires Inv-loop μ-loop
-list-entries-requires c κs = (c .before .before .before .before .before .before .before .pre .0, c .before .before .link .ensures .1, c .before .before .before .before .before .before .before .pre .3, c .before .before .link .ensures .2)
+list-entries-requires c κs =
+    let pre = c .before .before .before .before .before .before .before .pre in
+    (pre .0, c .before .before .link .ensures .1, pre .3, c .before .before .link .ensures .2)
 
 loop-holds : tie.Need-loop-holds Inv-loop μ-loop
 loop-holds c = (c .before .before .before .link .ensures .0, c .list-entries .ensures)
 
 unblock-requires : tie.Need-unblock-requires Inv-loop μ-loop
-unblock-requires c κs = let l = c .before .before .before .before .before .loop in (c .before .before .before .before .before .before .before .before .before .before .before .before .before .before .pre .0, c .before .before .before .before .before .before .before .before .before .before .before .before .before .before .pre .1, c .before .before .before .before .before .before .before .before .before .before .before .before .before .before .pre .2, l .inv .0, l .inv .1, c .before .before .before .before .loop-test .taken)
+unblock-requires c κs =
+    let pre = c .before .before .before .before .before .before .before .before .before .before .before .before .before .before .pre in
+    let loop = c .before .before .before .before .before .loop in
+    let loop-test = c .before .before .before .before .loop-test in
+    let l = loop in (pre .0, pre .1, pre .2, l .inv .0, l .inv .1, loop-test .taken)
 
 add-i : tie.Need-add-i Inv-loop μ-loop
-add-i c = omega (arith, queue-most (c .before .before .before .before .before .before .loop .inv .1 .queue), c .before .before .before .before .before .loop-test .taken, c .before .before .before .before .before .before .before .before .before .before .before .before .before .before .before .pre .0)
+add-i c =
+    let pre = c .before .before .before .before .before .before .before .before .before .before .before .before .before .before .before .pre in
+    let loop = c .before .before .before .before .before .before .loop in
+    let loop-test = c .before .before .before .before .before .loop-test in
+    omega (arith, queue-most (loop .inv .1 .queue), loop-test .taken, pre .0)
 
 loop-less : tie.Need-loop-less Inv-loop μ-loop
 loop-less c = omega (arith, queue-most (c .before .before .before .before .before .before .loop .inv .1 .queue), c .before .before .before .before .before .loop-test .taken)

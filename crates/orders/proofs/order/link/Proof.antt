@@ -15,7 +15,8 @@ use Rattle.orders.proofs.order.link.Reads as reads
 use Rattle.orders.proofs.order.link.Lts as lts
 
 abbrev Inv-loop : tie.InvT-loop
-Inv-loop edges first₀ next₀ blocked₀ i₀ first next blocked i = (i ≤ length edges) × (length first ≡ 256) × (length next ≡ 1024) × (length blocked ≡ 256) × Linked edges first next i × ((u : ℕ) → u < 256 → nth blocked u ≡ entering edges [] u i)
+Inv-loop edges first₀ next₀ blocked₀ i₀ first next blocked i =
+    (i ≤ length edges) × (length first ≡ 256) × (length next ≡ 1024) × (length blocked ≡ 256) × Linked edges first next i × ((u : ℕ) → u < 256 → nth blocked u ≡ entering edges [] u i)
 
 abbrev μ-loop : tie.MeasureT-loop
 μ-loop edges first₀ next₀ blocked₀ i₀ first next blocked i = length edges - i
@@ -62,8 +63,11 @@ element-copy-out-blocked c = search needs
 
 add-blocked : tie.Need-add-blocked Inv-loop μ-loop
 add-blocked c =
-    let l = c .before .before .before .before .loop in
-    omega (arith, counted-most (c .before .before .before .before .before .args .edges .now) (l .blocked) (l .i) (l .inv .5) (toOf (c .before .before .before .before .before .args .edges .now) (l .i)) (mod-lt _ (omega arith)), l .inv .0, c .before .before .before .before .before .pre .0)
+    let args = c .before .before .before .before .before .args in
+    let pre = c .before .before .before .before .before .pre in
+    let loop = c .before .before .before .before .loop in
+    let l = loop in
+    omega (arith, counted-most (args .edges .now) (l .blocked) (l .i) (l .inv .5) (toOf (args .edges .now) (l .i)) (mod-lt _ (omega arith)), l .inv .0, pre .0)
 
 element-write-blocked : tie.Need-element-write-blocked Inv-loop μ-loop
 element-write-blocked c = search needs
@@ -76,9 +80,20 @@ loop-less c = search needs
 
 loop-again : tie.Need-loop-again Inv-loop μ-loop
 loop-again c =
-    let l = c .before .before .before .before .loop in
-    let s = c .before .before .before .before .before .args .edges .now in
-    (search needs, simp length-set (l .inv .1), simp length-set (l .inv .2), simp length-set (l .inv .3), linked-next s (l .i) (l .inv .1) (omega (arith, l .inv .2, c .before .before .before .before .before .pre .0, c .before .before .before .loop-test .taken)) (l .inv .4), counted-next s (l .blocked) (l .i) (l .inv .3) (l .inv .5))
+    let args = c .before .before .before .before .before .args in
+    let pre = c .before .before .before .before .before .pre in
+    let loop = c .before .before .before .before .loop in
+    let loop-test = c .before .before .before .loop-test in
+    let l = loop in
+    let s = args .edges .now in (
+      search needs,
+      simp length-set (l .inv .1),
+      simp length-set (l .inv .2),
+      simp length-set (l .inv .3),
+      linked-next s (l .i) (l .inv .1)
+          (omega (arith, l .inv .2, pre .0, loop-test .taken)) (l .inv .4),
+      counted-next s (l .blocked) (l .i) (l .inv .3) (l .inv .5),
+    )
 
 returns : tie.Need-returns Inv-loop μ-loop
 returns c =

@@ -47,7 +47,8 @@ cast-k c =
     omega (arith, c .before .before .pre .3 .first-of (nth (c .before .before .args .order .now) (c .before .before .args .i)) (omega arith) .most, c .before .before .pre .1)
 
 loop-holds : tie.Need-loop-holds Inv-loop μ-loop
-loop-holds c = releasing-first (c .before .before .pre .3) (c .before .before .pre .4) (c .before .before .pre .5) (omega (arith, task-below (c .before .before .pre .4) (c .before .before .pre .5), c .before .before .pre .0))
+loop-holds c =
+    releasing-first (c .before .before .pre .3) (c .before .before .pre .4) (c .before .before .pre .5) (omega (arith, task-below (c .before .before .pre .4) (c .before .before .pre .5), c .before .before .pre .0))
 
 sub-u : tie.Need-sub-u Inv-loop μ-loop
 sub-u c = search needs
@@ -107,17 +108,21 @@ loop-less c =
 
 loop-again : tie.Need-loop-again Inv-loop μ-loop
 loop-again c =
-    let l = c .before .before .before .before .before .loop in
-    let some = c .before .before .before .before .loop-test .taken in
+    let args = c .before .before .before .before .before .before .before .before .args in
+    let pre = c .before .before .before .before .before .before .before .before .pre in
+    let loop = c .before .before .before .before .before .loop in
+    let loop-test = c .before .before .before .before .loop-test in
+    let l = loop in
+    let some = loop-test .taken in
     let h = l .k - 1 in
     let e : l .k ≡ suc h = omega arith in
-    let s = c .before .before .before .before .before .before .before .before .args .edges .now in
-    let least = releasing-least (c .before .before .before .before .before .before .before .before .pre .3) (l .inv) h e in
+    let s = args .edges .now in
+    let least = releasing-least (pre .3) (l .inv) h e in
     let m = l .inv .last in
-    let inside = c .before .before .before .before .before .before .before .before .pre .2 (edgeIn (nth s h)) (map-in edgeIn (nth s h) s (nth-in s h (omega arith))) in
+    let inside = pre .2 (edgeIn (nth s h)) (map-in edgeIn (nth s h) s (nth-in s h (omega arith))) in
     ⊎-elim
-    (λ w. rw (w .1, w .2, w .0 .taken) (releasing-join (c .before .before .before .before .before .before .before .before .pre .3) (l .inv) h e (omega (arith, w .0 .taken)) (inside .1) (c .before .before .before .before .before .before .before .before .pre .0)))
-    (λ w. rw (w .1, w .2) (releasing-keep (c .before .before .before .before .before .before .before .before .pre .3) (l .inv) h e (nth (l .blocked) (toOf s h) - 1) (omega arith) (w .0 .left)))
+    (λ w. rw (w .1, w .2, w .0 .taken) (releasing-join (pre .3) (l .inv) h e (omega (arith, w .0 .taken)) (inside .1) (pre .0)))
+    (λ w. rw (w .1, w .2) (releasing-keep (pre .3) (l .inv) h e (nth (l .blocked) (toOf s h) - 1) (omega arith) (w .0 .left)))
     (c .before .if1 .came)
 
 returns : tie.Need-returns Inv-loop μ-loop

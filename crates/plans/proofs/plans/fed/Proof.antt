@@ -41,7 +41,12 @@ sender-unplaced-requires : tie.Need-sender-unplaced-requires Inv-loop μ-loop
 sender-unplaced-requires c κs = (c .before .before .before .before .pre .0, omega (arith, c .before .loop .inv .0, c .loop-test .taken))
 
 returns : tie.Need-returns Inv-loop μ-loop
-returns c = lined-no (c .before .before .before .before .before .before .args .rooms) (c .before .before .before .before .before .before .args .mem .now) (c .before .before .before .before .before .before .args .t) (c .before .before .before .before .before .before .pre .1) (c .before .before .before .loop .k) (c .before .before .loop-test .taken) (c .before .before .before .loop .inv .0) (sym (c .before .sender-unplaced .ensures) ∙ c .if1 .taken) ∙ c .before .before .before .loop .inv .1 ∙ lined-all (c .before .before .before .before .before .before .args .rooms) (c .before .before .before .before .before .before .args .mem .now) (c .before .before .before .before .before .before .args .t) (c .before .before .before .before .before .before .pre .1) (c .before .before .before .before .before .before .pre .2)
+returns c =
+    let args = c .before .before .before .before .before .before .args in
+    let pre = c .before .before .before .before .before .before .pre in
+    let loop = c .before .before .before .loop in
+    lined-no (args .rooms) (args .mem .now) (args .t) (pre .1) (loop .k) (c .before .before .loop-test .taken) (loop .inv .0) (sym (c .before .sender-unplaced .ensures) ∙ c .if1 .taken)
+    ∙ loop .inv .1 ∙ lined-all (args .rooms) (args .mem .now) (args .t) (pre .1) (pre .2)
 
 sub-k : tie.Need-sub-k Inv-loop μ-loop
 sub-k c = omega (arith, c .before .before .loop-test .taken)
@@ -53,18 +58,38 @@ mul-k-3 : tie.Need-mul-k-3 Inv-loop μ-loop
 mul-k-3 c = search needs
 
 shared-slice-read-k-2 : tie.Need-shared-slice-read-k-2 Inv-loop μ-loop
-shared-slice-read-k-2 c = let w = sizes (c .before .before .before .before .before .before .before .pre .0) in omega (arith, w .size, w .edges-most, c .before .before .before .before .loop .inv .0, c .before .before .before .loop-test .taken)
+shared-slice-read-k-2 c =
+    let pre = c .before .before .before .before .before .before .before .pre in
+    let loop = c .before .before .before .before .loop in
+    let loop-test = c .before .before .before .loop-test in
+    let w = sizes (pre .0) in omega (arith, w .size, w .edges-most, loop .inv .0, loop-test .taken)
 
 loop-less : tie.Need-loop-less Inv-loop μ-loop
-loop-less c = link-falls (c .before .before .before .before .before .before .before .args .rooms) (c .before .before .before .before .before .before .before .args .mem .now) (c .before .before .before .before .before .before .before .args .t) (c .before .before .before .before .before .before .before .pre .1) (c .before .before .before .before .loop .k) (c .before .before .before .loop-test .taken) (c .before .before .before .before .loop .inv .0)
+loop-less c =
+    let args = c .before .before .before .before .before .before .before .args in
+    let pre = c .before .before .before .before .before .before .before .pre in
+    let loop = c .before .before .before .before .loop in
+    let loop-test = c .before .before .before .loop-test in
+    link-falls (args .rooms) (args .mem .now) (args .t) (pre .1) (loop .k) (loop-test .taken) (loop .inv .0)
 
 loop-again : tie.Need-loop-again Inv-loop μ-loop
-loop-again c = let f = link-falls (c .before .before .before .before .before .before .before .args .rooms) (c .before .before .before .before .before .before .before .args .mem .now) (c .before .before .before .before .before .before .before .args .t) (c .before .before .before .before .before .before .before .pre .1) (c .before .before .before .before .loop .k) (c .before .before .before .loop-test .taken) (c .before .before .before .before .loop .inv .0) in
-    (omega (arith, f, c .before .before .before .before .loop .inv .0), lined-next (c .before .before .before .before .before .before .before .args .rooms) (c .before .before .before .before .before .before .before .args .mem .now) (c .before .before .before .before .before .before .before .args .t) (c .before .before .before .before .before .before .before .pre .1) (c .before .before .before .before .loop .k) (c .before .before .before .loop-test .taken) (c .before .before .before .before .loop .inv .0) (sym (c .before .before .sender-unplaced .ensures) ∙ c .before .if1 .left) ∙ c .before .before .before .before .loop .inv .1)
+loop-again c =
+    let args = c .before .before .before .before .before .before .before .args in
+    let pre = c .before .before .before .before .before .before .before .pre in
+    let loop = c .before .before .before .before .loop in
+    let loop-test = c .before .before .before .loop-test in
+    let f = link-falls (args .rooms) (args .mem .now) (args .t) (pre .1) (loop .k) (loop-test .taken) (loop .inv .0) in (
+      omega (arith, f, loop .inv .0),
+      lined-next (args .rooms) (args .mem .now) (args .t) (pre .1) (loop .k) (loop-test .taken) (loop .inv .0)
+          (sym (c .before .before .sender-unplaced .ensures) ∙ c .before .if1 .left) ∙ loop .inv .1,
+    )
 
 returns-2 : tie.Need-returns-2 Inv-loop μ-loop
-returns-2 c = let z : c .before .loop .k ≡ 0 = omega (arith, c .loop-test .left) in
-    lined-end (c .before .before .before .before .args .rooms) (c .before .before .before .before .args .mem .now) (c .before .before .before .before .args .t) ∙ rw z at (c .before .loop .inv .1) ∙ lined-all (c .before .before .before .before .args .rooms) (c .before .before .before .before .args .mem .now) (c .before .before .before .before .args .t) (c .before .before .before .before .pre .1) (c .before .before .before .before .pre .2)
+returns-2 c =
+    let args = c .before .before .before .before .args in
+    let pre = c .before .before .before .before .pre in
+    let z : c .before .loop .k ≡ 0 = omega (arith, c .loop-test .left) in
+    lined-end (args .rooms) (args .mem .now) (args .t) ∙ rw z at (c .before .loop .inv .1) ∙ lined-all (args .rooms) (args .mem .now) (args .t) (pre .1) (pre .2)
 
 pub fed-spec : {M : Type 1} → statement M
 fed-spec =

@@ -22,10 +22,14 @@ returns-5 : tie.Need-returns-5
 returns-5 c = let a = c .before .before .before .before .before .args in head-losses (a .tasks) (a .processors) (a .losses) (a .best) (a .worst) (omega arith) (omega arith) (omega arith) (omega arith) (c .if5 .taken)
 
 returns-6 : tie.Need-returns-6
-returns-6 c = let a = c .before .before .before .before .before .before .args in head-best (a .tasks) (a .processors) (a .losses) (a .best) (a .worst) (omega arith) (omega arith) (omega arith) (omega arith) (omega arith) (c .if6 .taken)
+returns-6 c =
+    let args = c .before .before .before .before .before .before .args in
+    let a = args in head-best (a .tasks) (a .processors) (a .losses) (a .best) (a .worst) (omega arith) (omega arith) (omega arith) (omega arith) (omega arith) (c .if6 .taken)
 
 returns-7 : tie.Need-returns-7
-returns-7 c = let a = c .before .before .before .before .before .before .args in head-worst (a .tasks) (a .processors) (a .losses) (a .best) (a .worst) (omega arith) (omega arith) (omega arith) (omega arith) (omega arith) (omega arith)
+returns-7 c =
+    let args = c .before .before .before .before .before .before .args in
+    let a = args in head-worst (a .tasks) (a .processors) (a .losses) (a .best) (a .worst) (omega arith) (omega arith) (omega arith) (omega arith) (omega arith) (omega arith)
 
 pub head-strays-spec : {M : Type 1} → statement M
 head-strays-spec =

@@ -18,7 +18,10 @@ clear-lines-requires : tie.Need-clear-lines-requires
 clear-lines-requires c κs = c .before .before .before .pre .0 .size
 
 read-plan-lines-requires : tie.Need-read-plan-lines-requires
-read-plan-lines-requires c κs = cleared-standing (c .before .before .before .before .before .before .before .pre .0) (c .before .before .before .before .before .before .before .pre .1) (c .before .before .before .clear-lines .ensures .0) (c .before .before .before .clear-lines .ensures .1)
+read-plan-lines-requires c κs =
+    let pre = c .before .before .before .before .before .before .before .pre in
+    let clear-lines = c .before .before .before .clear-lines in
+    cleared-standing (pre .0) (pre .1) (clear-lines .ensures .0) (clear-lines .ensures .1)
 
 enum-known-p : tie.Need-enum-known-p
 enum-known-p c = search needs
@@ -27,11 +30,16 @@ same-length : tie.Need-same-length
 same-length c = search needs
 
 returns : tie.Need-returns
-returns c = let mem = c .before .before .before .before .before .before .read-plan-lines .last .1 .1 .0 in
-    let ns = linesIn (c .before .before .before .before .before .before .before .before .before .before .before .before .before .before .args .rooms) (nth mem 3 + 1) (nth mem 0) mem in
-    let g = sym (ap (told (c .before .before .before .before .before .before .before .before .before .before .before .before .before .before .args .s .now) ns) (c .before .before .p .given .1)) ∙ c .before .before .before .before .before .before .read-plan-lines .ensures .1 ∙ cleared-lines (c .before .before .before .before .before .before .before .before .before .before .before .before .before .before .pre .0) (c .before .before .before .before .before .before .before .before .before .before .before .before .before .before .pre .1) (c .before .before .before .before .before .before .before .before .before .before .clear-lines .ensures .0) (c .before .before .before .before .before .before .before .before .before .before .before .before .before .before .args .s .now) (c .before .before .before .before .before .before .before .before .before .before .before .before .before .before .args .at) in (
-      kept-then (kept-wider (lineAt (c .before .before .before .before .before .before .before .before .before .before .before .before .before .before .args .rooms)) (farAt (c .before .before .before .before .before .before .before .before .before .before .before .before .before .before .args .rooms)) (c .before .before .before .before .before .before .before .before .before .before .clear-lines .ensures .0) (omega arith) (omega arith)) (c .before .before .before .before .before .before .read-plan-lines .ensures .0),
-      plan-left-over (c .before .before .before .before .before .before .before .before .before .before .before .before .before .before .args .mem .now) (c .before .before .before .before .before .before .before .before .before .before .before .before .before .before .args .s .now) _ _ (c .before .before .before .before .before .before .before .before .before .before .before .before .before .before .args .at) ns (c .before .before .p .given .0 .0) g _ mem (c .if1 .taken),
+returns c =
+    let args = c .before .before .before .before .before .before .before .before .before .before .before .before .before .before .args in
+    let pre = c .before .before .before .before .before .before .before .before .before .before .before .before .before .before .pre in
+    let clear-lines = c .before .before .before .before .before .before .before .before .before .before .clear-lines in
+    let read-plan-lines = c .before .before .before .before .before .before .read-plan-lines in
+    let mem = read-plan-lines .last .1 .1 .0 in
+    let ns = linesIn (args .rooms) (nth mem 3 + 1) (nth mem 0) mem in
+    let g = sym (ap (told (args .s .now) ns) (c .before .before .p .given .1)) ∙ read-plan-lines .ensures .1 ∙ cleared-lines (pre .0) (pre .1) (clear-lines .ensures .0) (args .s .now) (args .at) in (
+      kept-then (kept-wider (lineAt (args .rooms)) (farAt (args .rooms)) (clear-lines .ensures .0) (omega arith) (omega arith)) (read-plan-lines .ensures .0),
+      plan-left-over (args .mem .now) (args .s .now) _ _ (args .at) ns (c .before .before .p .given .0 .0) g _ mem (c .if1 .taken),
     )
 
 mul-mem : tie.Need-mul-mem
@@ -41,8 +49,12 @@ mul-mem-2 : tie.Need-mul-mem-2
 mul-mem-2 c = search needs
 
 slice-write-mem : tie.Need-slice-write-mem
-slice-write-mem c = let w = sizes (c .before .before .before .before .before .before .before .before .before .before .before .before .before .before .pre .0) in
-    let z = c .before .before .before .before .before .before .read-plan-lines .ensures .0 .size ∙ c .before .before .before .before .before .before .before .before .before .before .clear-lines .ensures .0 .size ∙ w .size in
+slice-write-mem c =
+    let pre = c .before .before .before .before .before .before .before .before .before .before .before .before .before .before .pre in
+    let clear-lines = c .before .before .before .before .before .before .before .before .before .before .clear-lines in
+    let read-plan-lines = c .before .before .before .before .before .before .read-plan-lines in
+    let w = sizes (pre .0) in
+    let z = read-plan-lines .ensures .0 .size ∙ clear-lines .ensures .0 .size ∙ w .size in
     omega (arith, z, w .some-task, w .tasks-most)
 
 mul-mem-3 : tie.Need-mul-mem-3
@@ -52,36 +64,54 @@ mul-mem-4 : tie.Need-mul-mem-4
 mul-mem-4 c = search needs
 
 slice-write-mem-2 : tie.Need-slice-write-mem-2
-slice-write-mem-2 c = let w = sizes (c .before .before .before .before .before .before .before .before .before .before .before .before .before .before .pre .0) in
-    let z = c .before .before .before .before .before .before .read-plan-lines .ensures .0 .size ∙ c .before .before .before .before .before .before .before .before .before .before .clear-lines .ensures .0 .size ∙ w .size in
+slice-write-mem-2 c =
+    let pre = c .before .before .before .before .before .before .before .before .before .before .before .before .before .before .pre in
+    let clear-lines = c .before .before .before .before .before .before .before .before .before .before .clear-lines in
+    let read-plan-lines = c .before .before .before .before .before .before .read-plan-lines in
+    let w = sizes (pre .0) in
+    let z = read-plan-lines .ensures .0 .size ∙ clear-lines .ensures .0 .size ∙ w .size in
     simp length-set (omega (arith, z, w .some-task, w .tasks-most))
 
 enum-known-x : tie.Need-enum-known-x
 enum-known-x c = search needs
 
 same-length-2 : tie.Need-same-length-2
-same-length-2 c = simp length-set (c .before .before .before .before .before .before .read-plan-lines .ensures .0 .size ∙ c .before .before .before .before .before .before .before .before .before .before .clear-lines .ensures .0 .size)
+same-length-2 c =
+    let clear-lines = c .before .before .before .before .before .before .before .before .before .before .clear-lines in
+    let read-plan-lines = c .before .before .before .before .before .before .read-plan-lines in
+    simp length-set (read-plan-lines .ensures .0 .size ∙ clear-lines .ensures .0 .size)
 
 returns-2 : tie.Need-returns-2
-returns-2 c = let mem = c .before .before .before .before .before .before .read-plan-lines .last .1 .1 .0 in
-    let best = c .before .before .before .before .before .before .before .before .before .before .before .before .before .before .args .best in
-    let worst = c .before .before .before .before .before .before .before .before .before .before .before .before .before .before .args .worst in
-    let ns = linesIn (c .before .before .before .before .before .before .before .before .before .before .before .before .before .before .args .rooms) (nth mem 3 + 1) (nth mem 0) mem in
-    let g = sym (ap (told (c .before .before .before .before .before .before .before .before .before .before .before .before .before .before .args .s .now) ns) (c .before .before .p .given .1)) ∙ c .before .before .before .before .before .before .read-plan-lines .ensures .1 ∙ cleared-lines (c .before .before .before .before .before .before .before .before .before .before .before .before .before .before .pre .0) (c .before .before .before .before .before .before .before .before .before .before .before .before .before .before .pre .1) (c .before .before .before .before .before .before .before .before .before .before .clear-lines .ensures .0) (c .before .before .before .before .before .before .before .before .before .before .before .before .before .before .args .s .now) (c .before .before .before .before .before .before .before .before .before .before .before .before .before .before .args .at) in
-    let t = c .before .before .before .before .before .before .read-plan-lines .ensures .2 (c .before .before .p .given .0 .0) (c .before .before .p .given .1) in (
-      kept-then (kept-wider (lineAt (c .before .before .before .before .before .before .before .before .before .before .before .before .before .before .args .rooms)) (farAt (c .before .before .before .before .before .before .before .before .before .before .before .before .before .before .args .rooms)) (c .before .before .before .before .before .before .before .before .before .before .clear-lines .ensures .0) (omega arith) (omega arith)) (kept-then (c .before .before .before .before .before .before .read-plan-lines .ensures .0) (kept-wider (lineAt (c .before .before .before .before .before .before .before .before .before .before .before .before .before .before .args .rooms)) (farAt (c .before .before .before .before .before .before .before .before .before .before .before .before .before .before .args .rooms)) (stored-kept mem best worst t) (omega arith) (omega arith))),
-      plan-good (c .before .before .before .before .before .before .before .before .before .before .before .before .before .before .args .mem .now) (c .before .before .before .before .before .before .before .before .before .before .before .before .before .before .args .s .now) best worst (c .before .before .before .before .before .before .before .before .before .before .before .before .before .before .args .at) ns (c .before .before .p .given .0 .0) g _ (c .if1 .left) (stored-plan mem best worst t) (stored-standing mem best worst t),
+returns-2 c =
+    let args = c .before .before .before .before .before .before .before .before .before .before .before .before .before .before .args in
+    let pre = c .before .before .before .before .before .before .before .before .before .before .before .before .before .before .pre in
+    let clear-lines = c .before .before .before .before .before .before .before .before .before .before .clear-lines in
+    let read-plan-lines = c .before .before .before .before .before .before .read-plan-lines in
+    let mem = read-plan-lines .last .1 .1 .0 in
+    let best = args .best in
+    let worst = args .worst in
+    let ns = linesIn (args .rooms) (nth mem 3 + 1) (nth mem 0) mem in
+    let g = sym (ap (told (args .s .now) ns) (c .before .before .p .given .1)) ∙ read-plan-lines .ensures .1 ∙ cleared-lines (pre .0) (pre .1) (clear-lines .ensures .0) (args .s .now) (args .at) in
+    let t = read-plan-lines .ensures .2 (c .before .before .p .given .0 .0) (c .before .before .p .given .1) in (
+      kept-then (kept-wider (lineAt (args .rooms)) (farAt (args .rooms)) (clear-lines .ensures .0) (omega arith) (omega arith))
+          (kept-then (read-plan-lines .ensures .0) (kept-wider (lineAt (args .rooms)) (farAt (args .rooms)) (stored-kept mem best worst t) (omega arith) (omega arith))),
+      plan-good (args .mem .now) (args .s .now) best worst (args .at) ns (c .before .before .p .given .0 .0) g _ (c .if1 .left) (stored-plan mem best worst t) (stored-standing mem best worst t),
     )
 
 same-length-3 : tie.Need-same-length-3
 same-length-3 c = search needs
 
 returns-3 : tie.Need-returns-3
-returns-3 c = let mem = c .before .before .before .before .before .read-plan-lines .last .1 .1 .0 in
-    let ns = linesIn (c .before .before .before .before .before .before .before .before .before .before .before .before .before .args .rooms) (nth mem 3 + 1) (nth mem 0) mem in
-    let g = sym (ap (told (c .before .before .before .before .before .before .before .before .before .before .before .before .before .args .s .now) ns) (c .before .x .given .1)) ∙ c .before .before .before .before .before .read-plan-lines .ensures .1 ∙ cleared-lines (c .before .before .before .before .before .before .before .before .before .before .before .before .before .pre .0) (c .before .before .before .before .before .before .before .before .before .before .before .before .before .pre .1) (c .before .before .before .before .before .before .before .before .before .clear-lines .ensures .0) (c .before .before .before .before .before .before .before .before .before .before .before .before .before .args .s .now) (c .before .before .before .before .before .before .before .before .before .before .before .before .before .args .at) in (
-      kept-then (kept-wider (lineAt (c .before .before .before .before .before .before .before .before .before .before .before .before .before .args .rooms)) (farAt (c .before .before .before .before .before .before .before .before .before .before .before .before .before .args .rooms)) (c .before .before .before .before .before .before .before .before .before .clear-lines .ensures .0) (omega arith) (omega arith)) (c .before .before .before .before .before .read-plan-lines .ensures .0),
-      plan-lines-bad (c .before .before .before .before .before .before .before .before .before .before .before .before .before .args .mem .now) (c .before .before .before .before .before .before .before .before .before .before .before .before .before .args .s .now) _ _ (c .before .before .before .before .before .before .before .before .before .before .before .before .before .args .at) _ mem _ g,
+returns-3 c =
+    let args = c .before .before .before .before .before .before .before .before .before .before .before .before .before .args in
+    let pre = c .before .before .before .before .before .before .before .before .before .before .before .before .before .pre in
+    let clear-lines = c .before .before .before .before .before .before .before .before .before .clear-lines in
+    let read-plan-lines = c .before .before .before .before .before .read-plan-lines in
+    let mem = read-plan-lines .last .1 .1 .0 in
+    let ns = linesIn (args .rooms) (nth mem 3 + 1) (nth mem 0) mem in
+    let g = sym (ap (told (args .s .now) ns) (c .before .x .given .1)) ∙ read-plan-lines .ensures .1 ∙ cleared-lines (pre .0) (pre .1) (clear-lines .ensures .0) (args .s .now) (args .at) in (
+      kept-then (kept-wider (lineAt (args .rooms)) (farAt (args .rooms)) (clear-lines .ensures .0) (omega arith) (omega arith)) (read-plan-lines .ensures .0),
+      plan-lines-bad (args .mem .now) (args .s .now) _ _ (args .at) _ mem _ g,
     )
 
 pub load-lines-spec : {M : Type 1} → statement M

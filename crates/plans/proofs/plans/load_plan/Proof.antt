@@ -35,10 +35,18 @@ same-length : tie.Need-same-length
 same-length c = search needs
 
 returns-2 : tie.Need-returns-2
-returns-2 c = let d = c .before .before .before .before .before .before .before .before .before .before .before .before .before .before .args .mem .now in
-    let s = c .before .before .before .before .before .before .before .before .before .before .before .before .before .before .args .s .now in
-    let ys = c .before .before .before .before .before .before .before .before .read-line .last .1 .1 .1 .1 .0 in
-    (kept-all, plan-head-no d s (c .before .before .before .before .before .before .before .before .before .before .before .if1 .left) ys (c .before .before .before .before .before .p .given .0 .0) (sym (c .before .before .before .before .before .before .before .before .read-line .ensures .0 ∙ line-fits 5 _ 5 _ (omega arith)) ∙ ap (told s (take 5 ys)) (c .before .before .before .before .before .p .given .1)) _ d _ (c .before .check-head .ensures) (c .if2 .taken))
+returns-2 c =
+    let args = c .before .before .before .before .before .before .before .before .before .before .before .before .before .before .args in
+    let if1 = c .before .before .before .before .before .before .before .before .before .before .before .if1 in
+    let read-line = c .before .before .before .before .before .before .before .before .read-line in
+    let p = c .before .before .before .before .before .p in
+    let d = args .mem .now in
+    let s = args .s .now in
+    let ys = read-line .last .1 .1 .1 .1 .0 in (
+      kept-all,
+      plan-head-no d s (if1 .left) ys (p .given .0 .0) (sym (read-line .ensures .0 ∙ line-fits 5 _ 5 _ (omega arith)) ∙ ap (told s (take 5 ys)) (p .given .1)) _ d _
+          (c .before .check-head .ensures) (c .if2 .taken),
+    )
 
 array-read-load-lines : tie.Need-array-read-load-lines
 array-read-load-lines c = search needs
@@ -56,17 +64,31 @@ same-length-2 : tie.Need-same-length-2
 same-length-2 c = search needs
 
 returns-3 : tie.Need-returns-3
-returns-3 c = let d = c .before .before .before .before .before .before .before .before .before .before .before .before .before .before .before .before .before .before .args .mem .now in
-    let s = c .before .before .before .before .before .before .before .before .before .before .before .before .before .before .before .before .before .before .args .s .now in
-    let ys = c .before .before .before .before .before .before .before .before .before .before .before .before .read-line .last .1 .1 .1 .1 .0 in
-    let z : 0 ≡ c .before .before .before .before .before .check-head .result = omega (arith, c .before .before .before .before .if2 .left) in
-    (c .before .before .load-lines .ensures .0, rw (plan-next d s (c .before .before .before .before .before .before .before .before .before .before .before .before .before .before .before .if1 .left) ys (c .before .before .before .before .before .before .before .before .before .p .given .0 .0) (sym (c .before .before .before .before .before .before .before .before .before .before .before .before .read-line .ensures .0 ∙ line-fits 5 _ 5 _ (omega arith)) ∙ ap (told s (take 5 ys)) (c .before .before .before .before .before .before .before .before .before .p .given .1)) (z ∙ c .before .before .before .before .before .check-head .ensures)) (c .before .before .load-lines .ensures .1))
+returns-3 c =
+    let args = c .before .before .before .before .before .before .before .before .before .before .before .before .before .before .before .before .before .before .args in
+    let if1 = c .before .before .before .before .before .before .before .before .before .before .before .before .before .before .before .if1 in
+    let read-line = c .before .before .before .before .before .before .before .before .before .before .before .before .read-line in
+    let p = c .before .before .before .before .before .before .before .before .before .p in
+    let check-head = c .before .before .before .before .before .check-head in
+    let if2 = c .before .before .before .before .if2 in
+    let d = args .mem .now in
+    let s = args .s .now in
+    let ys = read-line .last .1 .1 .1 .1 .0 in
+    let z : 0 ≡ check-head .result = omega (arith, if2 .left) in (
+      c .before .before .load-lines .ensures .0,
+      rw (plan-next d s (if1 .left) ys (p .given .0 .0)
+          (sym (read-line .ensures .0 ∙ line-fits 5 _ 5 _ (omega arith)) ∙ ap (told s (take 5 ys)) (p .given .1)) (z ∙ check-head .ensures)) (c .before .before .load-lines .ensures .1),
+    )
 
 returns-4 : tie.Need-returns-4
-returns-4 c = let d = c .before .before .before .before .before .before .before .before .before .before .args .mem .now in
-    let s = c .before .before .before .before .before .before .before .before .before .before .args .s .now in
-    let ys = c .before .before .before .before .read-line .last .1 .1 .1 .1 .0 in
-    (kept-all, plan-head-bad d s (c .before .before .before .before .before .before .before .if1 .left) _ d _ (sym (c .before .before .before .before .read-line .ensures .0 ∙ line-fits 5 _ 5 _ (omega arith)) ∙ ap (told s (take 5 ys)) (c .before .x .given .1)))
+returns-4 c =
+    let args = c .before .before .before .before .before .before .before .before .before .before .args in
+    let if1 = c .before .before .before .before .before .before .before .if1 in
+    let read-line = c .before .before .before .before .read-line in
+    let d = args .mem .now in
+    let s = args .s .now in
+    let ys = read-line .last .1 .1 .1 .1 .0 in
+    (kept-all, plan-head-bad d s (if1 .left) _ d _ (sym (read-line .ensures .0 ∙ line-fits 5 _ 5 _ (omega arith)) ∙ ap (told s (take 5 ys)) (c .before .x .given .1)))
 
 pub load-plan-spec : {M : Type 1} → statement M
 load-plan-spec =

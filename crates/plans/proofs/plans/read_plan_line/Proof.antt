@@ -59,22 +59,29 @@ enum-known-p c = search needs
 
 check-line-requires : tie.Need-check-line-requires
 check-line-requires c κs =
-    let n = 4 + 3 * nth (c .before .before .before .before .before .before .before .before .before .before .before .before .args .mem .now) 3 in
-    let t = line-standing (c .before .before .before .before .before .before .before .before .before .before .before .before .pre .0) (c .before .before .before .before .before .before .before .before .before .before .before .before .pre .1) n refl (c .before .before .before .before .before .before .read-line .last .1 .1 .1 .1 .0) (c .before .before .before .before .before .before .read-line .kept .1 .1 .1 .1 .0) in
-    (t .job, t .linked, omega (arith, sizes (t .job) .size, sizes (c .before .before .before .before .before .before .before .before .before .before .before .before .pre .0 .job) .size, row-within (c .before .before .before .before .before .before .before .before .before .before .before .before .pre .0) (c .before .before .before .before .before .before .before .before .before .before .before .before .pre .1)))
+    let args = c .before .before .before .before .before .before .before .before .before .before .before .before .args in
+    let pre = c .before .before .before .before .before .before .before .before .before .before .before .before .pre in
+    let read-line = c .before .before .before .before .before .before .read-line in
+    let n = 4 + 3 * nth (args .mem .now) 3 in
+    let t = line-standing (pre .0) (pre .1) n refl (read-line .last .1 .1 .1 .1 .0) (read-line .kept .1 .1 .1 .1 .0) in
+    (t .job, t .linked, omega (arith, sizes (t .job) .size, sizes (pre .0 .job) .size, row-within (pre .0) (pre .1)))
 
 same-length : tie.Need-same-length
 same-length c = search needs
 
 returns : tie.Need-returns
 returns c =
-    let a = c .before .before .before .before .before .before .before .before .before .before .before .before .before .before .args in
+    let args = c .before .before .before .before .before .before .before .before .before .before .before .before .before .before .args in
+    let pre = c .before .before .before .before .before .before .before .before .before .before .before .before .before .before .pre in
+    let read-line = c .before .before .before .before .before .before .before .before .read-line in
+    let p = c .before .before .before .before .p in
+    let a = args in
     let n = 4 + 3 * nth (a .mem .now) 3 in
-    let ys = c .before .before .before .before .before .before .before .before .read-line .last .1 .1 .1 .1 .0 in
-    let l = c .before .before .before .before .before .before .before .before .read-line .kept .1 .1 .1 .1 .0 in
-    let e = sym (c .before .before .before .before .before .before .before .before .read-line .ensures .0 ∙ line-fits _ _ _ _ (line-room (c .before .before .before .before .before .before .before .before .before .before .before .before .before .before .pre .0) (c .before .before .before .before .before .before .before .before .before .before .before .before .before .before .pre .1) n refl ys l)) ∙ ap (told (a .s .now) (take n ys)) (c .before .before .before .before .p .given .1) in
-    let t = line-standing (c .before .before .before .before .before .before .before .before .before .before .before .before .before .before .pre .0) (c .before .before .before .before .before .before .before .before .before .before .before .before .before .before .pre .1) n refl ys l in
-    read-no (c .before .before .before .before .before .before .before .before .before .before .before .before .before .before .pre .0) (c .before .before .before .before .before .before .before .before .before .before .before .before .before .before .pre .1) n refl ys l (a .s .now) (a .at) (c .before .before .before .before .p .given .0 .0) e _ (c .before .check-line .ensures .0 (a .k) t) (c .if1 .taken)
+    let ys = read-line .last .1 .1 .1 .1 .0 in
+    let l = read-line .kept .1 .1 .1 .1 .0 in
+    let e = sym (read-line .ensures .0 ∙ line-fits _ _ _ _ (line-room (pre .0) (pre .1) n refl ys l)) ∙ ap (told (a .s .now) (take n ys)) (p .given .1) in
+    let t = line-standing (pre .0) (pre .1) n refl ys l in
+    read-no (pre .0) (pre .1) n refl ys l (a .s .now) (a .at) (p .given .0 .0) e _ (c .before .check-line .ensures .0 (a .k) t) (c .if1 .taken)
 
 mul-t : tie.Need-mul-t
 mul-t c = search needs
@@ -87,18 +94,27 @@ add-mem c = search needs
 
 add-mem-2 : tie.Need-add-mem-2
 add-mem-2 c =
+    let pre = c .before .before .before .before .before .before .before .before .before .before .before .before .before .before .before .pre in
+    let args = c .before .before .before .before .before .before .before .before .before .before .before .before .before .before .before .args in
+    let read-line = c .before .before .before .before .before .before .before .before .before .read-line in
     let b = c .before .before .check-line .ensures .1 (omega (arith, c .before .if1 .left)) .0 in
-    omega (arith, line-place (c .before .before .before .before .before .before .before .before .before .before .before .before .before .before .before .pre .0) (c .before .before .before .before .before .before .before .before .before .before .before .before .before .before .before .pre .1) (4 + 3 * nth (c .before .before .before .before .before .before .before .before .before .before .before .before .before .before .before .args .mem .now) 3) refl (c .before .before .before .before .before .before .before .before .before .read-line .last .1 .1 .1 .1 .0) (c .before .before .before .before .before .before .before .before .before .read-line .kept .1 .1 .1 .1 .0) b)
+    omega (arith, line-place (pre .0) (pre .1) (4 + 3 * nth (args .mem .now) 3) refl (read-line .last .1 .1 .1 .1 .0) (read-line .kept .1 .1 .1 .1 .0) b)
 
 mul-mem : tie.Need-mul-mem
 mul-mem c =
+    let pre = c .before .before .before .before .before .before .before .before .before .before .before .before .before .before .before .pre in
+    let args = c .before .before .before .before .before .before .before .before .before .before .before .before .before .before .before .args in
+    let read-line = c .before .before .before .before .before .before .before .before .before .read-line in
     let b = c .before .before .check-line .ensures .1 (omega (arith, c .before .if1 .left)) .0 in
-    omega (arith, line-place (c .before .before .before .before .before .before .before .before .before .before .before .before .before .before .before .pre .0) (c .before .before .before .before .before .before .before .before .before .before .before .before .before .before .before .pre .1) (4 + 3 * nth (c .before .before .before .before .before .before .before .before .before .before .before .before .before .before .before .args .mem .now) 3) refl (c .before .before .before .before .before .before .before .before .before .read-line .last .1 .1 .1 .1 .0) (c .before .before .before .before .before .before .before .before .before .read-line .kept .1 .1 .1 .1 .0) b)
+    omega (arith, line-place (pre .0) (pre .1) (4 + 3 * nth (args .mem .now) 3) refl (read-line .last .1 .1 .1 .1 .0) (read-line .kept .1 .1 .1 .1 .0) b)
 
 slice-write-mem : tie.Need-slice-write-mem
 slice-write-mem c =
+    let pre = c .before .before .before .before .before .before .before .before .before .before .before .before .before .before .before .pre in
+    let args = c .before .before .before .before .before .before .before .before .before .before .before .before .before .before .before .args in
+    let read-line = c .before .before .before .before .before .before .before .before .before .read-line in
     let b = c .before .before .check-line .ensures .1 (omega (arith, c .before .if1 .left)) .0 in
-    line-place (c .before .before .before .before .before .before .before .before .before .before .before .before .before .before .before .pre .0) (c .before .before .before .before .before .before .before .before .before .before .before .before .before .before .before .pre .1) (4 + 3 * nth (c .before .before .before .before .before .before .before .before .before .before .before .before .before .before .before .args .mem .now) 3) refl (c .before .before .before .before .before .before .before .before .before .read-line .last .1 .1 .1 .1 .0) (c .before .before .before .before .before .before .before .before .before .read-line .kept .1 .1 .1 .1 .0) b
+    line-place (pre .0) (pre .1) (4 + 3 * nth (args .mem .now) 3) refl (read-line .last .1 .1 .1 .1 .0) (read-line .kept .1 .1 .1 .1 .0) b
 
 enum-known-x : tie.Need-enum-known-x
 enum-known-x c = search needs
@@ -108,25 +124,33 @@ same-length-2 c = search needs
 
 returns-2 : tie.Need-returns-2
 returns-2 c =
-    let a = c .before .before .before .before .before .before .before .before .before .before .before .before .before .before .before .args in
+    let args = c .before .before .before .before .before .before .before .before .before .before .before .before .before .before .before .args in
+    let pre = c .before .before .before .before .before .before .before .before .before .before .before .before .before .before .before .pre in
+    let read-line = c .before .before .before .before .before .before .before .before .before .read-line in
+    let p = c .before .before .before .before .before .p in
+    let a = args in
     let n = 4 + 3 * nth (a .mem .now) 3 in
-    let ys = c .before .before .before .before .before .before .before .before .before .read-line .last .1 .1 .1 .1 .0 in
-    let l = c .before .before .before .before .before .before .before .before .before .read-line .kept .1 .1 .1 .1 .0 in
-    let e = sym (c .before .before .before .before .before .before .before .before .before .read-line .ensures .0 ∙ line-fits _ _ _ _ (line-room (c .before .before .before .before .before .before .before .before .before .before .before .before .before .before .before .pre .0) (c .before .before .before .before .before .before .before .before .before .before .before .before .before .before .before .pre .1) n refl ys l)) ∙ ap (told (a .s .now) (take n ys)) (c .before .before .before .before .before .p .given .1) in
-    let t = line-standing (c .before .before .before .before .before .before .before .before .before .before .before .before .before .before .before .pre .0) (c .before .before .before .before .before .before .before .before .before .before .before .before .before .before .before .pre .1) n refl ys l in
-    read-yes (c .before .before .before .before .before .before .before .before .before .before .before .before .before .before .before .pre .0) (c .before .before .before .before .before .before .before .before .before .before .before .before .before .before .before .pre .1) n refl ys l (a .s .now) (a .at) (c .before .before .before .before .before .p .given .0 .0) e _ (c .before .before .check-line .ensures .0 (a .k) t) (c .before .if1 .left) (c .before .before .check-line .ensures .1 (omega (arith, c .before .if1 .left)))
+    let ys = read-line .last .1 .1 .1 .1 .0 in
+    let l = read-line .kept .1 .1 .1 .1 .0 in
+    let e = sym (read-line .ensures .0 ∙ line-fits _ _ _ _ (line-room (pre .0) (pre .1) n refl ys l)) ∙ ap (told (a .s .now) (take n ys)) (p .given .1) in
+    let t = line-standing (pre .0) (pre .1) n refl ys l in
+    read-yes (pre .0) (pre .1) n refl ys l (a .s .now) (a .at) (p .given .0 .0) e _ (c .before .before .check-line .ensures .0 (a .k) t) (c .before .if1 .left)
+    (c .before .before .check-line .ensures .1 (omega (arith, c .before .if1 .left)))
 
 same-length-3 : tie.Need-same-length-3
 same-length-3 c = search needs
 
 returns-3 : tie.Need-returns-3
 returns-3 c =
-    let a = c .before .before .before .before .before .before .before .before .before .before .before .args in
+    let args = c .before .before .before .before .before .before .before .before .before .before .before .args in
+    let pre = c .before .before .before .before .before .before .before .before .before .before .before .pre in
+    let read-line = c .before .before .before .before .before .read-line in
+    let a = args in
     let n = 4 + 3 * nth (a .mem .now) 3 in
-    let ys = c .before .before .before .before .before .read-line .last .1 .1 .1 .1 .0 in
-    let l = c .before .before .before .before .before .read-line .kept .1 .1 .1 .1 .0 in
-    let e = sym (c .before .before .before .before .before .read-line .ensures .0 ∙ line-fits _ _ _ _ (line-room (c .before .before .before .before .before .before .before .before .before .before .before .pre .0) (c .before .before .before .before .before .before .before .before .before .before .before .pre .1) n refl ys l)) ∙ ap (told (a .s .now) (take n ys)) (c .before .x .given .1) in
-    read-bad (c .before .before .before .before .before .before .before .before .before .before .before .pre .0) (c .before .before .before .before .before .before .before .before .before .before .before .pre .1) n refl ys l (a .s .now) (a .at) _ e
+    let ys = read-line .last .1 .1 .1 .1 .0 in
+    let l = read-line .kept .1 .1 .1 .1 .0 in
+    let e = sym (read-line .ensures .0 ∙ line-fits _ _ _ _ (line-room (pre .0) (pre .1) n refl ys l)) ∙ ap (told (a .s .now) (take n ys)) (c .before .x .given .1) in
+    read-bad (pre .0) (pre .1) n refl ys l (a .s .now) (a .at) _ e
 
 pub read-plan-line-spec : {M : Type 1} → statement M
 read-plan-line-spec =

@@ -29,7 +29,11 @@ enum-known-x : tie.Need-enum-known-x Inv-loop μ-loop
 enum-known-x c = search needs
 
 same-length : tie.Need-same-length Inv-loop μ-loop
-same-length c = upto-kept (c .before .before .before .before .before .before .before .before .loop .inv .1) (c .before .before .before .before .before .before .before .loop-test .taken) _ _ (c .before .before .before .before .before .read-plan-line .ensures) .size
+same-length c =
+    let loop = c .before .before .before .before .before .before .before .before .loop in
+    let loop-test = c .before .before .before .before .before .before .before .loop-test in
+    let read-plan-line = c .before .before .before .before .before .read-plan-line in
+    upto-kept (loop .inv .1) (loop-test .taken) _ _ (read-plan-line .ensures) .size
 
 returns : tie.Need-returns Inv-loop μ-loop
 returns c =

@@ -43,7 +43,10 @@ mul-from : tie.Need-mul-from
 mul-from c = let w = sizes (c .before .before .pre .0) in omega (arith, w .before-edges, w .edges-most, c .before .before .pre .1)
 
 shared-slice-read-from : tie.Need-shared-slice-read-from
-shared-slice-read-from c = edge-inside (c .before .before .before .args .rooms) (c .before .before .before .args .k) (c .before .before .before .args .mem .now) (c .before .before .before .pre .0) (c .before .before .before .pre .1)
+shared-slice-read-from c =
+    let args = c .before .before .before .args in
+    let pre = c .before .before .before .pre in
+    edge-inside (args .rooms) (args .k) (args .mem .now) (pre .0) (pre .1)
 
 mul-result : tie.Need-mul-result
 mul-result c = search needs
@@ -55,7 +58,10 @@ mul-result-2 : tie.Need-mul-result-2
 mul-result-2 c = search needs
 
 shared-slice-read-result : tie.Need-shared-slice-read-result
-shared-slice-read-result c = line-inside (c .before .before .before .before .args .rooms) (c .before .before .before .before .args .k) (c .before .before .before .before .args .mem .now) (c .before .before .before .before .pre .0) (c .before .before .before .before .pre .1)
+shared-slice-read-result c =
+    let args = c .before .before .before .before .args in
+    let pre = c .before .before .before .before .pre in
+    line-inside (args .rooms) (args .k) (args .mem .now) (pre .0) (pre .1)
 
 returns : tie.Need-returns
 returns c = search needs

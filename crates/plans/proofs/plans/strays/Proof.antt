@@ -60,8 +60,11 @@ shared-slice-read-if2 c = search needs
 
 returns-2 : tie.Need-returns-2 Inv-loop μ-loop
 returns-2 c =
-    let mem = c .before .before .before .before .before .before .before .before .before .args .mem .now in let a = c .before .before .before .before .before .before .before .before .before .args .a in let k = c .before .before .before .loop .c in
-    stray-processor mem a (k - 1) k (omega arith) (c .if2 .taken) ∙ c .before .before .before .loop .inv .1 ∙ strays-row mem a (c .before .before .before .before .before .before .if1 .left)
+    let args = c .before .before .before .before .before .before .before .before .before .args in
+    let if1 = c .before .before .before .before .before .before .if1 in
+    let loop = c .before .before .before .loop in
+    let mem = args .mem .now in let a = args .a in let k = loop .c in
+    stray-processor mem a (k - 1) k (omega arith) (c .if2 .taken) ∙ loop .inv .1 ∙ strays-row mem a (if1 .left)
 
 mul-if3 : tie.Need-mul-if3 Inv-loop μ-loop
 mul-if3 c = search needs
@@ -80,8 +83,11 @@ shared-slice-read-if3 c = search needs
 
 returns-3 : tie.Need-returns-3 Inv-loop μ-loop
 returns-3 c =
-    let mem = c .before .before .before .before .before .before .before .before .before .before .before .args .mem .now in let a = c .before .before .before .before .before .before .before .before .before .before .before .args .a in let k = c .before .before .before .before .before .loop .c in
-    stray-early mem a (k - 1) k (omega arith) (c .before .before .if2 .left) (c .if3 .taken) ∙ c .before .before .before .before .before .loop .inv .1 ∙ strays-row mem a (c .before .before .before .before .before .before .before .before .if1 .left)
+    let args = c .before .before .before .before .before .before .before .before .before .before .before .args in
+    let if1 = c .before .before .before .before .before .before .before .before .if1 in
+    let loop = c .before .before .before .before .before .loop in
+    let mem = args .mem .now in let a = args .a in let k = loop .c in
+    stray-early mem a (k - 1) k (omega arith) (c .before .before .if2 .left) (c .if3 .taken) ∙ loop .inv .1 ∙ strays-row mem a (if1 .left)
 
 mul-if4 : tie.Need-mul-if4 Inv-loop μ-loop
 mul-if4 c = search needs
@@ -100,16 +106,23 @@ shared-slice-read-if4 c = search needs
 
 returns-4 : tie.Need-returns-4 Inv-loop μ-loop
 returns-4 c =
-    let mem = c .before .before .before .before .before .before .before .before .before .before .before .before .before .args .mem .now in let a = c .before .before .before .before .before .before .before .before .before .before .before .before .before .args .a in let k = c .before .before .before .before .before .before .before .loop .c in
-    stray-late mem a (k - 1) k (omega arith) (c .before .before .before .before .if2 .left) (c .before .before .if3 .left) (c .if4 .taken) ∙ c .before .before .before .before .before .before .before .loop .inv .1 ∙ strays-row mem a (c .before .before .before .before .before .before .before .before .before .before .if1 .left)
+    let args = c .before .before .before .before .before .before .before .before .before .before .before .before .before .args in
+    let if1 = c .before .before .before .before .before .before .before .before .before .before .if1 in
+    let loop = c .before .before .before .before .before .before .before .loop in
+    let if2 = c .before .before .before .before .if2 in
+    let mem = args .mem .now in let a = args .a in let k = loop .c in
+    stray-late mem a (k - 1) k (omega arith) (if2 .left) (c .before .before .if3 .left) (c .if4 .taken) ∙ loop .inv .1 ∙ strays-row mem a (if1 .left)
 
 loop-less : tie.Need-loop-less Inv-loop μ-loop
 loop-less c = search needs
 
 loop-again : tie.Need-loop-again Inv-loop μ-loop
 loop-again c =
-    let mem = c .before .before .before .before .before .before .before .before .before .before .before .before .before .args .mem .now in let a = c .before .before .before .before .before .before .before .before .before .before .before .before .before .args .a in let k = c .before .before .before .before .before .before .before .loop .c in
-    (search needs, stray-none mem a (k - 1) k (omega arith) (c .before .before .before .before .if2 .left) (c .before .before .if3 .left) (c .if4 .left) ∙ c .before .before .before .before .before .before .before .loop .inv .1)
+    let args = c .before .before .before .before .before .before .before .before .before .before .before .before .before .args in
+    let loop = c .before .before .before .before .before .before .before .loop in
+    let if2 = c .before .before .before .before .if2 in
+    let mem = args .mem .now in let a = args .a in let k = loop .c in
+    (search needs, stray-none mem a (k - 1) k (omega arith) (if2 .left) (c .before .before .if3 .left) (c .if4 .left) ∙ loop .inv .1)
 
 returns-5 : tie.Need-returns-5 Inv-loop μ-loop
 returns-5 c =

@@ -31,9 +31,12 @@ width-of-requires c κs = search needs
 
 returns : tie.Need-returns Inv-loop μ-loop
 returns c =
-    let s = c .before .before .before .before .before .before .args .vals .now in
-    let l = c .before .before .before .before .loop in
-    sym (lt-leb (length (textOf s)) (c .before .before .before .before .before .before .args .room) (omega (arith, l .inv .2, c .before .width-of .ensures, c .if1 .taken, length-next s (l .i) (c .before .before .before .loop-test .taken))))
+    let args = c .before .before .before .before .before .before .args in
+    let loop = c .before .before .before .before .loop in
+    let loop-test = c .before .before .before .loop-test in
+    let s = args .vals .now in
+    let l = loop in
+    sym (lt-leb (length (textOf s)) (args .room) (omega (arith, l .inv .2, c .before .width-of .ensures, c .if1 .taken, length-next s (l .i) (loop-test .taken))))
 
 add-left : tie.Need-add-left Inv-loop μ-loop
 add-left c = omega (arith, c .before .width-of .ensures, width-powers document01 (getD (c .before .before .before .before .before .before .args .vals .now) (c .before .before .before .before .loop .i) 0) (omega arith))
@@ -49,9 +52,12 @@ loop-less c = search needs
 
 loop-again : tie.Need-loop-again Inv-loop μ-loop
 loop-again c =
-    let s = c .before .before .before .before .before .before .args .vals .now in
-    let l = c .before .before .before .before .loop in
-    (omega (arith, c .before .before .before .loop-test .taken), omega (arith, l .inv .1), omega (arith, l .inv .2, c .before .width-of .ensures, c .if1 .left, length-next s (l .i) (c .before .before .before .loop-test .taken)))
+    let args = c .before .before .before .before .before .before .args in
+    let loop = c .before .before .before .before .loop in
+    let loop-test = c .before .before .before .loop-test in
+    let s = args .vals .now in
+    let l = loop in
+    (omega (arith, loop-test .taken), omega (arith, l .inv .1), omega (arith, l .inv .2, c .before .width-of .ensures, c .if1 .left, length-next s (l .i) (loop-test .taken)))
 
 returns-2 : tie.Need-returns-2 Inv-loop μ-loop
 returns-2 c =

@@ -29,10 +29,16 @@ width-of-requires : tie.Need-width-of-requires Inv-loop μ-loop
 width-of-requires c κs = search needs
 
 add-n : tie.Need-add-n Inv-loop μ-loop
-add-n c = let s = c .before .before .before .before .before .args .vals .now in let i = c .before .before .before .loop .i in let w = c .width-of .ensures in omega (arith, w, width-powers document01 (getD s i 0) (omega arith))
+add-n c =
+    let args = c .before .before .before .before .before .args in
+    let loop = c .before .before .before .loop in
+    let s = args .vals .now in let i = loop .i in let w = c .width-of .ensures in omega (arith, w, width-powers document01 (getD s i 0) (omega arith))
 
 add-n-2 : tie.Need-add-n-2 Inv-loop μ-loop
-add-n-2 c = let s = c .before .before .before .before .before .args .vals .now in let i = c .before .before .before .loop .i in let w = c .width-of .ensures in omega (arith, w, length-next s i (c .before .before .loop-test .taken), numbers-most s)
+add-n-2 c =
+    let args = c .before .before .before .before .before .args in
+    let loop = c .before .before .before .loop in
+    let s = args .vals .now in let i = loop .i in let w = c .width-of .ensures in omega (arith, w, length-next s i (c .before .before .loop-test .taken), numbers-most s)
 
 add-i : tie.Need-add-i Inv-loop μ-loop
 add-i c = search needs
@@ -41,7 +47,10 @@ loop-less : tie.Need-loop-less Inv-loop μ-loop
 loop-less c = search needs
 
 loop-again : tie.Need-loop-again Inv-loop μ-loop
-loop-again c = let s = c .before .before .before .before .before .args .vals .now in let i = c .before .before .before .loop .i in let w = c .width-of .ensures in (search needs, omega (arith, w, length-next s i (c .before .before .loop-test .taken)))
+loop-again c =
+    let args = c .before .before .before .before .before .args in
+    let loop = c .before .before .before .loop in
+    let s = args .vals .now in let i = loop .i in let w = c .width-of .ensures in (search needs, omega (arith, w, length-next s i (c .before .before .loop-test .taken)))
 
 returns : tie.Need-returns Inv-loop μ-loop
 returns c = let s = c .before .before .before .args .vals .now in let i = c .before .loop .i in let e = ap length (text-end s i (c .loop-test .left)) in omega arith

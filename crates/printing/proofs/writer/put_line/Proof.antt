@@ -17,9 +17,12 @@ same-length c = search needs
 
 returns : tie.Need-returns
 returns c =
-    let a = c .before .before .before .before .before .before .before .before .before .before .before .args in let w = c .before .before .before .before .before .before .write-fixed in let n = c .before .before .write-numbers in (
-      line-place (a .out .now) (a .opening .now) (a .vals .now) (c .before .before .before .before .before .before .before .before .before .before .before .pre) (w .last .0) (w .result) (w .ensures .1) (w .ensures .0) (n .result) (n .ensures .0),
-      line-whole (a .out .now) (a .opening .now) (a .vals .now) (c .before .before .before .before .before .before .before .before .before .before .before .pre) (w .last .0) (w .result) (w .ensures .1) (w .ensures .0) (n .last .0) (n .ensures .1),
+    let args = c .before .before .before .before .before .before .before .before .before .before .before .args in
+    let pre = c .before .before .before .before .before .before .before .before .before .before .before .pre in
+    let write-fixed = c .before .before .before .before .before .before .write-fixed in
+    let a = args in let w = write-fixed in let n = c .before .before .write-numbers in (
+      line-place (a .out .now) (a .opening .now) (a .vals .now) (pre) (w .last .0) (w .result) (w .ensures .1) (w .ensures .0) (n .result) (n .ensures .0),
+      line-whole (a .out .now) (a .opening .now) (a .vals .now) (pre) (w .last .0) (w .result) (w .ensures .1) (w .ensures .0) (n .last .0) (n .ensures .1),
     )
 
 pub put-line-spec : {M : Type 1} → statement M

@@ -41,30 +41,42 @@ mark-after-requires c κs = search needs
 
 slice-write-out : tie.Need-slice-write-out Inv-loop μ-loop
 slice-write-out c =
-    let s = c .before .before .before .before .before .before .before .before .before .before .args .vals .now in let l = c .before .before .before .before .before .before .before .loop in let w = c .before .before .before .write-number in
+    let args = c .before .before .before .before .before .before .before .before .before .before .args in
+    let loop = c .before .before .before .before .before .before .before .loop in
+    let loop-test = c .before .before .before .before .before .before .loop-test in
+    let write-number = c .before .before .before .write-number in
+    let s = args .vals .now in let l = loop in let w = write-number in
     omega (
       arith,
-      place-turn s (l .i) (c .before .before .before .before .before .before .loop-test .taken) (l .out) (l .p) (omega arith) (w .last .0) (w .result) (w .ensures .1) (w .ensures .0),
-      length-turn s (l .i) (c .before .before .before .before .before .before .loop-test .taken) (l .out) (l .p) (omega arith) (w .last .0) (w .result) (w .ensures .1) (w .ensures .0),
+      place-turn s (l .i) (loop-test .taken) (l .out) (l .p) (omega arith) (w .last .0) (w .result) (w .ensures .1) (w .ensures .0),
+      length-turn s (l .i) (loop-test .taken) (l .out) (l .p) (omega arith) (w .last .0) (w .result) (w .ensures .1) (w .ensures .0),
     )
 
 add-p : tie.Need-add-p Inv-loop μ-loop
 add-p c =
-    let s = c .before .before .before .before .before .before .before .before .before .before .args .vals .now in let l = c .before .before .before .before .before .before .before .loop in let w = c .before .before .before .write-number in
-    omega (arith, place-turn s (l .i) (c .before .before .before .before .before .before .loop-test .taken) (l .out) (l .p) (omega arith) (w .last .0) (w .result) (w .ensures .1) (w .ensures .0))
+    let args = c .before .before .before .before .before .before .before .before .before .before .args in
+    let loop = c .before .before .before .before .before .before .before .loop in
+    let loop-test = c .before .before .before .before .before .before .loop-test in
+    let write-number = c .before .before .before .write-number in
+    let s = args .vals .now in let l = loop in let w = write-number in
+    omega (arith, place-turn s (l .i) (loop-test .taken) (l .out) (l .p) (omega arith) (w .last .0) (w .result) (w .ensures .1) (w .ensures .0))
 
 loop-less : tie.Need-loop-less Inv-loop μ-loop
 loop-less c = search needs
 
 loop-again : tie.Need-loop-again Inv-loop μ-loop
 loop-again c =
-    let s = c .before .before .before .before .before .before .before .before .before .before .args .vals .now in let l = c .before .before .before .before .before .before .before .loop in let w = c .before .before .before .write-number in
+    let args = c .before .before .before .before .before .before .before .before .before .before .args in
+    let loop = c .before .before .before .before .before .before .before .loop in
+    let loop-test = c .before .before .before .before .before .before .loop-test in
+    let write-number = c .before .before .before .write-number in
+    let s = args .vals .now in let l = loop in let w = write-number in
     let r : l .p + length (textOf (drop (l .i) s)) ≤ length (l .out) = omega arith in (
       search needs,
       refl,
-      length-set (w .last .0) (w .result) (c .mark-after .result) ∙ length-turn s (l .i) (c .before .before .before .before .before .before .loop-test .taken) (l .out) (l .p) r (w .last .0) (w .result) (w .ensures .1) (w .ensures .0) ∙ l .inv .2,
-      place-turn s (l .i) (c .before .before .before .before .before .before .loop-test .taken) (l .out) (l .p) r (w .last .0) (w .result) (w .ensures .1) (w .ensures .0) ∙ l .inv .3,
-      write-turn s (l .i) (c .before .before .before .before .before .before .loop-test .taken) (l .out) (l .p) r (w .last .0) (w .result) (w .ensures .1) (w .ensures .0) (c .mark-after .result) (c .mark-after .ensures) ∙ l .inv .4,
+      length-set (w .last .0) (w .result) (c .mark-after .result) ∙ length-turn s (l .i) (loop-test .taken) (l .out) (l .p) r (w .last .0) (w .result) (w .ensures .1) (w .ensures .0) ∙ l .inv .2,
+      place-turn s (l .i) (loop-test .taken) (l .out) (l .p) r (w .last .0) (w .result) (w .ensures .1) (w .ensures .0) ∙ l .inv .3,
+      write-turn s (l .i) (loop-test .taken) (l .out) (l .p) r (w .last .0) (w .result) (w .ensures .1) (w .ensures .0) (c .mark-after .result) (c .mark-after .ensures) ∙ l .inv .4,
     )
 
 same-length : tie.Need-same-length Inv-loop μ-loop

@@ -12,13 +12,24 @@ ends-agree-requires : tie.Need-ends-agree-requires
 ends-agree-requires c κs = (c .before .before .before .pre .0, c .before .before .before .pre .1, c .before .before .before .pre .2, sym (c .before .ticks-agree .ensures) ∙ c .if1 .taken)
 
 returns : tie.Need-returns
-returns c = answer-accepted (jobIn (c .before .before .before .before .before .args .mem .now)) (planIn (c .before .before .before .before .before .args .rooms) (c .before .before .before .before .before .args .mem .now)) (c .before .before .before .before .before .pre .2) (sym (c .before .before .before .ticks-agree .ensures) ∙ c .before .before .if1 .taken) (sym (c .before .ends-agree .ensures) ∙ c .if2 .taken)
+returns c =
+    let args = c .before .before .before .before .before .args in
+    let pre = c .before .before .before .before .before .pre in
+    let ticks-agree = c .before .before .before .ticks-agree in
+    answer-accepted (jobIn (args .mem .now)) (planIn (args .rooms) (args .mem .now)) (pre .2) (sym (ticks-agree .ensures) ∙ c .before .before .if1 .taken) (sym (c .before .ends-agree .ensures) ∙ c .if2 .taken)
 
 returns-2 : tie.Need-returns-2
-returns-2 c = answer-ends (jobIn (c .before .before .before .before .before .args .mem .now)) (planIn (c .before .before .before .before .before .args .rooms) (c .before .before .before .before .before .args .mem .now)) (c .before .before .before .before .before .pre .2) (sym (c .before .before .before .ticks-agree .ensures) ∙ c .before .before .if1 .taken) (sym (c .before .ends-agree .ensures) ∙ c .if2 .left)
+returns-2 c =
+    let args = c .before .before .before .before .before .args in
+    let pre = c .before .before .before .before .before .pre in
+    let ticks-agree = c .before .before .before .ticks-agree in
+    answer-ends (jobIn (args .mem .now)) (planIn (args .rooms) (args .mem .now)) (pre .2) (sym (ticks-agree .ensures) ∙ c .before .before .if1 .taken) (sym (c .before .ends-agree .ensures) ∙ c .if2 .left)
 
 returns-3 : tie.Need-returns-3
-returns-3 c = answer-ticks (jobIn (c .before .before .before .args .mem .now)) (planIn (c .before .before .before .args .rooms) (c .before .before .before .args .mem .now)) (c .before .before .before .pre .2) (sym (c .before .ticks-agree .ensures) ∙ c .if1 .left)
+returns-3 c =
+    let args = c .before .before .before .args in
+    let pre = c .before .before .before .pre in
+    answer-ticks (jobIn (args .mem .now)) (planIn (args .rooms) (args .mem .now)) (pre .2) (sym (c .before .ticks-agree .ensures) ∙ c .if1 .left)
 
 pub compare-spec : {M : Type 1} → statement M
 compare-spec =

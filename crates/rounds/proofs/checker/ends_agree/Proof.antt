@@ -20,7 +20,9 @@ shared-slice-read-if1 : tie.Need-shared-slice-read-if1
 shared-slice-read-if1 c = search needs
 
 returns : tie.Need-returns
-returns c = best-differs (c .before .before .before .before .pre .0) (c .before .before .before .before .pre .2) (c .before .before .before .before .pre .3) (c .before .before .end-of .result) (c .before .before .end-of .ensures) (c .if1 .taken)
+returns c =
+    let pre = c .before .before .before .before .pre in
+    best-differs (pre .0) (pre .2) (pre .3) (c .before .before .end-of .result) (c .before .before .end-of .ensures) (c .if1 .taken)
 
 end-of-requires-2 : tie.Need-end-of-requires-2
 end-of-requires-2 c κs = search needs
@@ -32,7 +34,10 @@ shared-slice-read-result : tie.Need-shared-slice-read-result
 shared-slice-read-result c = search needs
 
 returns-2 : tie.Need-returns-2
-returns-2 c = worst-decides (c .before .before .before .before .before .before .pre .0) (c .before .before .before .before .before .before .pre .2) (c .before .before .before .before .before .before .pre .3) (c .before .before .before .before .end-of .result) (c .before .before .before .before .end-of .ensures) (c .before .before .if1 .left) (c .before .end-of2 .result) (c .before .end-of2 .ensures)
+returns-2 c =
+    let pre = c .before .before .before .before .before .before .pre in
+    let end-of = c .before .before .before .before .end-of in
+    worst-decides (pre .0) (pre .2) (pre .3) (end-of .result) (end-of .ensures) (c .before .before .if1 .left) (c .before .end-of2 .result) (c .before .end-of2 .ensures)
 
 pub ends-agree-spec : {M : Type 1} → statement M
 ends-agree-spec =

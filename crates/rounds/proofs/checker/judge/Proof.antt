@@ -26,8 +26,10 @@ returns c = search needs
 
 returns-2 : tie.Need-returns-2
 returns-2 c =
-    let i = rw (c .before .t .given .1) at (c .before .before .before .doubled .ensures) in
-    answer-doubled (jobIn (c .before .before .before .before .before .args .mem .now)) (planIn (c .before .before .before .before .before .args .rooms) (c .before .before .before .before .before .args .mem .now)) _ (i .0)
+    let args = c .before .before .before .before .before .args in
+    let doubled = c .before .before .before .doubled in
+    let i = rw (c .before .t .given .1) at (doubled .ensures) in
+    answer-doubled (jobIn (args .mem .now)) (planIn (args .rooms) (args .mem .now)) _ (i .0)
 
 pub judge-spec : {M : Type 1} → statement M
 judge-spec =

@@ -40,7 +40,10 @@ shared-slice-read-t : tie.Need-shared-slice-read-t Inv-loop μ-loop
 shared-slice-read-t c = let s = sizes (c .before .before .before .pre .0 .standing .job) in omega arith
 
 finishes-requires : tie.Need-finishes-requires Inv-loop μ-loop
-finishes-requires c κs = finishes-asked (c .before .before .before .pre .0) (c .before .before .before .args .k) (c .before .before .before .pre .2) (c .before .before .before .pre .3) (c .before .before .before .args .delays .now) (c .before .before .before .args .clocks) (c .before .before .before .pre .1) (c .before .before .before .pre .4)
+finishes-requires c κs =
+    let pre = c .before .before .before .pre in
+    let args = c .before .before .before .args in
+    finishes-asked (pre .0) (args .k) (pre .2) (pre .3) (args .delays .now) (args .clocks) (pre .1) (pre .4)
 
 loop-holds : tie.Need-loop-holds Inv-loop μ-loop
 loop-holds c = (omega arith, agrees-none (c .before .before .before .before .args .rooms) (c .before .before .before .before .args .k) (c .before .before .before .before .args .mem .now))
@@ -61,10 +64,16 @@ shared-slice-read-p : tie.Need-shared-slice-read-p Inv-loop μ-loop
 shared-slice-read-p c = let s = sizes (c .before .before .before .before .before .before .before .pre .0 .standing .job) in omega arith
 
 mul-if1 : tie.Need-mul-if1 Inv-loop μ-loop
-mul-if1 c = omega (arith, box-most (c .before .before .before .before .before .before .before .pre .0) (c .before .before .before .before .before .before .before .args .k) (c .before .before .before .before .before .before .before .pre .2) (c .before .before .loop .c) (c .before .loop-test .taken))
+mul-if1 c =
+    let pre = c .before .before .before .before .before .before .before .pre in
+    let args = c .before .before .before .before .before .before .before .args in
+    omega (arith, box-most (pre .0) (args .k) (pre .2) (c .before .before .loop .c) (c .before .loop-test .taken))
 
 element-copy-out-if1 : tie.Need-element-copy-out-if1 Inv-loop μ-loop
-element-copy-out-if1 c = box-most (c .before .before .before .before .before .before .before .pre .0) (c .before .before .before .before .before .before .before .args .k) (c .before .before .before .before .before .before .before .pre .2) (c .before .before .loop .c) (c .before .loop-test .taken)
+element-copy-out-if1 c =
+    let pre = c .before .before .before .before .before .before .before .pre in
+    let args = c .before .before .before .before .before .before .before .args in
+    box-most (pre .0) (args .k) (pre .2) (c .before .before .loop .c) (c .before .loop-test .taken)
 
 cast-if1 : tie.Need-cast-if1 Inv-loop μ-loop
 cast-if1 c = search needs
@@ -85,22 +94,48 @@ shared-slice-read-if1 : tie.Need-shared-slice-read-if1 Inv-loop μ-loop
 shared-slice-read-if1 c = let s = sizes (c .before .before .before .before .before .before .before .before .before .pre .0 .standing .job) in omega arith
 
 returns : tie.Need-returns Inv-loop μ-loop
-returns c = let l = c .before .before .before .before .before .loop in (λ z. absurd (false≢true z), λ a. absurd (early-not (c .before .before .before .before .before .before .before .before .before .before .pre .0) (c .before .before .before .before .before .before .before .before .before .before .args .k) (c .before .before .before .before .before .before .before .before .before .before .pre .2) (l .c) (c .before .before .before .before .loop-test .taken) (c .before .before .before .before .before .before .before .before .before .before .args .clocks) (c .before .before .before .before .before .before .before .before .before .before .pre .4) (c .before .before .before .before .before .before .finishes .result .early) (c .before .before .before .before .before .before .finishes .result .late) (c .before .before .before .before .before .before .finishes .ensures) (c .if1 .taken) a))
+returns c =
+    let pre = c .before .before .before .before .before .before .before .before .before .before .pre in
+    let args = c .before .before .before .before .before .before .before .before .before .before .args in
+    let finishes = c .before .before .before .before .before .before .finishes in
+    let loop = c .before .before .before .before .before .loop in
+    let loop-test = c .before .before .before .before .loop-test in
+    let l = loop in (
+      λ z. absurd (false≢true z),
+      λ a. absurd (early-not (pre .0) (args .k) (pre .2) (l .c) (loop-test .taken) (args .clocks) (pre .4) (finishes .result .early) (finishes .result .late)
+          (finishes .ensures) (c .if1 .taken) a),
+    )
 
 mul-if2 : tie.Need-mul-if2 Inv-loop μ-loop
-mul-if2 c = omega (arith, box-most (c .before .before .before .before .before .before .before .before .before .before .pre .0) (c .before .before .before .before .before .before .before .before .before .before .args .k) (c .before .before .before .before .before .before .before .before .before .before .pre .2) (c .before .before .before .before .before .loop .c) (c .before .before .before .before .loop-test .taken))
+mul-if2 c =
+    let pre = c .before .before .before .before .before .before .before .before .before .before .pre in
+    let args = c .before .before .before .before .before .before .before .before .before .before .args in
+    let loop = c .before .before .before .before .before .loop in
+    let loop-test = c .before .before .before .before .loop-test in
+    omega (arith, box-most (pre .0) (args .k) (pre .2) (loop .c) (loop-test .taken))
 
 element-copy-out-if2 : tie.Need-element-copy-out-if2 Inv-loop μ-loop
-element-copy-out-if2 c = box-most (c .before .before .before .before .before .before .before .before .before .before .pre .0) (c .before .before .before .before .before .before .before .before .before .before .args .k) (c .before .before .before .before .before .before .before .before .before .before .pre .2) (c .before .before .before .before .before .loop .c) (c .before .before .before .before .loop-test .taken)
+element-copy-out-if2 c =
+    let pre = c .before .before .before .before .before .before .before .before .before .before .pre in
+    let args = c .before .before .before .before .before .before .before .before .before .before .args in
+    let loop = c .before .before .before .before .before .loop in
+    let loop-test = c .before .before .before .before .loop-test in
+    box-most (pre .0) (args .k) (pre .2) (loop .c) (loop-test .taken)
 
 cast-if2 : tie.Need-cast-if2 Inv-loop μ-loop
 cast-if2 c = elem-fits-field w32 w64 (c .before .before .before .before .before .before .before .finishes .result .late) _ _ (c .before .before .before .before .before .before .before .finishes .ok .1 .1 .1 .0 .1 .1) tt
 
 mul-if2-2 : tie.Need-mul-if2-2 Inv-loop μ-loop
-mul-if2-2 c = omega (arith, c .before .before .before .before .before .loop-test .taken, sizes (c .before .before .before .before .before .before .before .before .before .before .before .pre .0 .standing .job) .losses-most)
+mul-if2-2 c =
+    let pre = c .before .before .before .before .before .before .before .before .before .before .before .pre in
+    let loop-test = c .before .before .before .before .before .loop-test in
+    omega (arith, loop-test .taken, sizes (pre .0 .standing .job) .losses-most)
 
 add-if2 : tie.Need-add-if2 Inv-loop μ-loop
-add-if2 c = omega (arith, c .before .before .before .before .before .loop-test .taken, sizes (c .before .before .before .before .before .before .before .before .before .before .before .pre .0 .standing .job) .losses-most)
+add-if2 c =
+    let pre = c .before .before .before .before .before .before .before .before .before .before .before .pre in
+    let loop-test = c .before .before .before .before .before .loop-test in
+    omega (arith, loop-test .taken, sizes (pre .0 .standing .job) .losses-most)
 
 add-if2-2 : tie.Need-add-if2-2 Inv-loop μ-loop
 add-if2-2 c = let s = sizes (c .before .before .before .before .before .before .before .before .before .before .before .pre .0 .standing .job) in omega arith
@@ -112,23 +147,46 @@ shared-slice-read-if2 : tie.Need-shared-slice-read-if2 Inv-loop μ-loop
 shared-slice-read-if2 c = let s = sizes (c .before .before .before .before .before .before .before .before .before .before .before .before .pre .0 .standing .job) in omega arith
 
 returns-2 : tie.Need-returns-2 Inv-loop μ-loop
-returns-2 c = let l = c .before .before .before .before .before .before .before .before .loop in (λ z. absurd (false≢true z), λ a. absurd (late-not (c .before .before .before .before .before .before .before .before .before .before .before .before .before .pre .0) (c .before .before .before .before .before .before .before .before .before .before .before .before .before .args .k) (c .before .before .before .before .before .before .before .before .before .before .before .before .before .pre .2) (l .c) (c .before .before .before .before .before .before .before .loop-test .taken) (c .before .before .before .before .before .before .before .before .before .before .before .before .before .args .clocks) (c .before .before .before .before .before .before .before .before .before .before .before .before .before .pre .4) (c .before .before .before .before .before .before .before .before .before .finishes .result .early) (c .before .before .before .before .before .before .before .before .before .finishes .result .late) (c .before .before .before .before .before .before .before .before .before .finishes .ensures) (c .if2 .taken) a))
+returns-2 c =
+    let pre = c .before .before .before .before .before .before .before .before .before .before .before .before .before .pre in
+    let args = c .before .before .before .before .before .before .before .before .before .before .before .before .before .args in
+    let finishes = c .before .before .before .before .before .before .before .before .before .finishes in
+    let loop = c .before .before .before .before .before .before .before .before .loop in
+    let loop-test = c .before .before .before .before .before .before .before .loop-test in
+    let l = loop in (
+      λ z. absurd (false≢true z),
+      λ a. absurd (late-not (pre .0) (args .k) (pre .2) (l .c) (loop-test .taken) (args .clocks) (pre .4) (finishes .result .early) (finishes .result .late)
+          (finishes .ensures) (c .if2 .taken) a),
+    )
 
 add-c : tie.Need-add-c Inv-loop μ-loop
-add-c c = omega (arith, c .before .before .before .before .before .before .before .loop-test .taken, sizes (c .before .before .before .before .before .before .before .before .before .before .before .before .before .pre .0 .standing .job) .losses-most)
+add-c c =
+    let pre = c .before .before .before .before .before .before .before .before .before .before .before .before .before .pre in
+    let loop-test = c .before .before .before .before .before .before .before .loop-test in
+    omega (arith, loop-test .taken, sizes (pre .0 .standing .job) .losses-most)
 
 loop-less : tie.Need-loop-less Inv-loop μ-loop
 loop-less c = search needs
 
 loop-again : tie.Need-loop-again Inv-loop μ-loop
-loop-again c = let l = c .before .before .before .before .before .before .before .before .loop in (omega arith, agrees-next (c .before .before .before .before .before .before .before .before .before .before .before .before .before .pre .0) (c .before .before .before .before .before .before .before .before .before .before .before .before .before .args .k) (c .before .before .before .before .before .before .before .before .before .before .before .before .before .pre .2) (l .c) (c .before .before .before .before .before .before .before .loop-test .taken) (c .before .before .before .before .before .before .before .before .before .before .before .before .before .args .clocks) (c .before .before .before .before .before .before .before .before .before .before .before .before .before .pre .4) (c .before .before .before .before .before .before .before .before .before .finishes .result .early) (c .before .before .before .before .before .before .before .before .before .finishes .result .late) (c .before .before .before .before .before .before .before .before .before .finishes .ensures) (c .before .before .before .if1 .left) (c .if2 .left) (l .inv .1))
+loop-again c =
+    let pre = c .before .before .before .before .before .before .before .before .before .before .before .before .before .pre in
+    let args = c .before .before .before .before .before .before .before .before .before .before .before .before .before .args in
+    let finishes = c .before .before .before .before .before .before .before .before .before .finishes in
+    let loop = c .before .before .before .before .before .before .before .before .loop in
+    let loop-test = c .before .before .before .before .before .before .before .loop-test in
+    let if1 = c .before .before .before .if1 in
+    let l = loop in
+    (omega arith, agrees-next (pre .0) (args .k) (pre .2) (l .c) (loop-test .taken) (args .clocks) (pre .4) (finishes .result .early) (finishes .result .late) (finishes .ensures) (if1 .left) (c .if2 .left) (l .inv .1))
 
 returns-3 : tie.Need-returns-3 Inv-loop μ-loop
 returns-3 c =
+    let args = c .before .before .before .before .before .before .args in
+    let pre = c .before .before .before .before .before .before .pre in
     let l = c .before .loop in
-    let e : l .c ≡ getD (c .before .before .before .before .before .before .args .mem .now) 3 0 + 1 = omega arith in
-    let a : LineAgrees (c .before .before .before .before .before .before .args .rooms) (c .before .before .before .before .before .before .args .k) (c .before .before .before .before .before .before .args .mem .now) = rw e at (l .inv .1) in
-    (λ z. (a, short-next (c .before .before .before .before .before .before .pre .0) (c .before .before .before .before .before .before .args .k) (c .before .before .before .before .before .before .pre .2) (c .before .before .before .before .before .before .pre .3) a), λ b. refl)
+    let e : l .c ≡ getD (args .mem .now) 3 0 + 1 = omega arith in
+    let a : LineAgrees (args .rooms) (args .k) (args .mem .now) = rw e at (l .inv .1) in
+    (λ z. (a, short-next (pre .0) (args .k) (pre .2) (pre .3) a), λ b. refl)
 
 pub line-agrees-spec : {M : Type 1} → statement M
 line-agrees-spec =

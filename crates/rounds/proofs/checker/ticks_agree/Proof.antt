@@ -32,10 +32,16 @@ new-requires : tie.Need-new-requires Inv-loop μ-loop
 new-requires c κs = search needs
 
 loop-holds : tie.Need-loop-holds Inv-loop μ-loop
-loop-holds c = (omega arith, λ i l. absurd (omega arith), λ i n l m. absurd (omega arith), clocks-new (c .new .result) (c .before .before .before .before .args .mem .now) (c .before .before .before .before .pre .0 .standing .job) (c .new .ensures .0) (c .new .ensures .1))
+loop-holds c =
+    let args = c .before .before .before .before .args in
+    let pre = c .before .before .before .before .pre in
+    (omega arith, λ i l. absurd (omega arith), λ i n l m. absurd (omega arith), clocks-new (c .new .result) (args .mem .now) (pre .0 .standing .job) (c .new .ensures .0) (c .new .ensures .1))
 
 line-agrees-requires : tie.Need-line-agrees-requires Inv-loop μ-loop
-line-agrees-requires c κs = (c .before .before .before .before .before .before .before .pre .0, c .before .before .before .before .delay-table .ensures, c .before .loop-test .taken, c .before .before .loop .inv .2, c .before .before .loop .inv .3)
+line-agrees-requires c κs =
+    let pre = c .before .before .before .before .before .before .before .pre in
+    let delay-table = c .before .before .before .before .delay-table in
+    (pre .0, delay-table .ensures, c .before .loop-test .taken, c .before .before .loop .inv .2, c .before .before .loop .inv .3)
 
 mul-advance-line : tie.Need-mul-advance-line Inv-loop μ-loop
 mul-advance-line c = let s = sizes (c .before .before .before .before .before .before .before .before .before .pre .0 .standing .job) in omega arith
@@ -44,10 +50,17 @@ add-advance-line : tie.Need-add-advance-line Inv-loop μ-loop
 add-advance-line c = let s = sizes (c .before .before .before .before .before .before .before .before .before .pre .0 .standing .job) in omega arith
 
 advance-line-requires : tie.Need-advance-line-requires Inv-loop μ-loop
-advance-line-requires c κs = line-timed (c .before .before .before .before .before .before .before .before .before .pre .0 .standing) (omega arith) (c .before .line-agrees .ensures .0 (c .if1 .taken) .1) (c .before .before .before .before .loop .k) (omega arith)
+advance-line-requires c κs =
+    let pre = c .before .before .before .before .before .before .before .before .before .pre in
+    let loop = c .before .before .before .before .loop in
+    line-timed (pre .0 .standing) (omega arith) (c .before .line-agrees .ensures .0 (c .if1 .taken) .1) (loop .k) (omega arith)
 
 returns : tie.Need-returns Inv-loop μ-loop
-returns c = ticks-no (c .before .before .before .before .before .before .before .before .before .pre .0) (c .before .before .before .before .before .before .before .before .before .pre .1) (c .before .before .before .before .loop .k) (c .before .before .before .loop-test .taken) (λ a. false≢true (sym (c .if1 .left) ∙ c .before .line-agrees .ensures .1 a))
+returns c =
+    let pre = c .before .before .before .before .before .before .before .before .before .pre in
+    let loop = c .before .before .before .before .loop in
+    let loop-test = c .before .before .before .loop-test in
+    ticks-no (pre .0) (pre .1) (loop .k) (loop-test .taken) (λ a. false≢true (sym (c .if1 .left) ∙ c .before .line-agrees .ensures .1 a))
 
 add-k : tie.Need-add-k Inv-loop μ-loop
 add-k c = let s = sizes (c .before .before .before .before .before .before .before .before .before .before .pre .0 .standing .job) in omega arith

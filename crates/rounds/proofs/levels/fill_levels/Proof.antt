@@ -33,33 +33,67 @@ element-copy-out-t : tie.Need-element-copy-out-t Inv-loop μ-loop
 element-copy-out-t c = let s = sizes (c .before .before .before .before .pre .0) in omega arith
 
 cast-t : tie.Need-cast-t Inv-loop μ-loop
-cast-t c = let s = sizes (c .before .before .before .before .before .pre .0) in omega (arith, filling-task (c .before .before .before .before .before .pre .0) (c .before .before .before .before .before .pre .3) (c .before .before .loop .inv .2) (c .before .loop-test .taken) (c .before .before .loop .inv .0))
+cast-t c =
+    let pre = c .before .before .before .before .before .pre in
+    let s = sizes (pre .0) in omega (arith, filling-task (pre .0) (pre .3) (c .before .before .loop .inv .2) (c .before .loop-test .taken) (c .before .before .loop .inv .0))
 
 scaled-run-requires : tie.Need-scaled-run-requires Inv-loop μ-loop
-scaled-run-requires c κs = ((_, filling-held (c .before .before .before .before .before .before .pre .0) (c .before .before .before .before .before .before .pre .3) (c .before .before .before .loop .inv .2)), filling-below (c .before .before .before .before .before .before .pre .0) (c .before .before .before .before .before .before .pre .3) (c .before .before .before .loop .inv .2) (c .before .before .loop-test .taken) (c .before .before .before .loop .inv .0))
+scaled-run-requires c κs =
+    let pre = c .before .before .before .before .before .before .pre in
+    let loop = c .before .before .before .loop in
+    ((_, filling-held (pre .0) (pre .3) (loop .inv .2)), filling-below (pre .0) (pre .3) (loop .inv .2) (c .before .before .loop-test .taken) (loop .inv .0))
 
 longest-after-requires : tie.Need-longest-after-requires Inv-loop μ-loop
 longest-after-requires c κs =
-    let f = c .before .before .before .before .before .loop .inv .2 in
-    (filling-held (c .before .before .before .before .before .before .before .before .pre .0) (c .before .before .before .before .before .before .before .before .pre .3) f, filling-linked (c .before .before .before .before .before .before .before .before .pre .0) (c .before .before .before .before .before .before .before .before .pre .3) f (c .before .before .before .before .before .before .before .before .pre .1), filling-below (c .before .before .before .before .before .before .before .before .pre .0) (c .before .before .before .before .before .before .before .before .pre .3) f (c .before .before .before .before .loop-test .taken) (c .before .before .before .before .before .loop .inv .0), rw (filling-job (c .before .before .before .before .before .before .before .before .pre .0) (c .before .before .before .before .before .before .before .before .pre .3) f) (c .before .before .before .before .before .before .before .before .pre .2), filling-most (c .before .before .before .before .before .before .before .before .pre .0) (c .before .before .before .before .before .before .before .before .pre .3) f (c .before .before .before .before .loop-test .taken) (c .before .before .before .before .before .loop .inv .0))
+    let pre = c .before .before .before .before .before .before .before .before .pre in
+    let loop = c .before .before .before .before .before .loop in
+    let loop-test = c .before .before .before .before .loop-test in
+    let f = loop .inv .2 in (
+      filling-held (pre .0) (pre .3) f,
+      filling-linked (pre .0) (pre .3) f (pre .1),
+      filling-below (pre .0) (pre .3) f (loop-test .taken) (loop .inv .0),
+      rw (filling-job (pre .0) (pre .3) f)
+          (pre .2),
+      filling-most (pre .0) (pre .3) f (loop-test .taken) (loop .inv .0),
+    )
 
 add-mem : tie.Need-add-mem Inv-loop μ-loop
-add-mem c = omega (arith, c .before .before .scaled-run .ensures, filling-run (c .before .before .before .before .before .before .before .before .before .pre .0) (c .before .before .before .before .before .before .before .before .before .pre .3) (c .before .before .before .before .before .before .loop .inv .2) (c .before .before .before .before .before .loop-test .taken) (c .before .before .before .before .before .before .loop .inv .0), c .longest-after .ensures .1)
+add-mem c =
+    let pre = c .before .before .before .before .before .before .before .before .before .pre in
+    let loop = c .before .before .before .before .before .before .loop in
+    let loop-test = c .before .before .before .before .before .loop-test in
+    omega (arith, c .before .before .scaled-run .ensures, filling-run (pre .0) (pre .3) (loop .inv .2) (loop-test .taken) (loop .inv .0), c .longest-after .ensures .1)
 
 add-mem-2 : tie.Need-add-mem-2 Inv-loop μ-loop
-add-mem-2 c = let s = sizes (c .before .before .before .before .before .before .before .before .before .pre .0) in omega (arith, filling-task (c .before .before .before .before .before .before .before .before .before .pre .0) (c .before .before .before .before .before .before .before .before .before .pre .3) (c .before .before .before .before .before .before .loop .inv .2) (c .before .before .before .before .before .loop-test .taken) (c .before .before .before .before .before .before .loop .inv .0))
+add-mem-2 c =
+    let pre = c .before .before .before .before .before .before .before .before .before .pre in
+    let loop = c .before .before .before .before .before .before .loop in
+    let loop-test = c .before .before .before .before .before .loop-test in
+    let s = sizes (pre .0) in omega (arith, filling-task (pre .0) (pre .3) (loop .inv .2) (loop-test .taken) (loop .inv .0))
 
 mul-mem : tie.Need-mul-mem Inv-loop μ-loop
-mul-mem c = let s = sizes (c .before .before .before .before .before .before .before .before .before .pre .0) in omega (arith, filling-task (c .before .before .before .before .before .before .before .before .before .pre .0) (c .before .before .before .before .before .before .before .before .before .pre .3) (c .before .before .before .before .before .before .loop .inv .2) (c .before .before .before .before .before .loop-test .taken) (c .before .before .before .before .before .before .loop .inv .0))
+mul-mem c =
+    let pre = c .before .before .before .before .before .before .before .before .before .pre in
+    let loop = c .before .before .before .before .before .before .loop in
+    let loop-test = c .before .before .before .before .before .loop-test in
+    let s = sizes (pre .0) in omega (arith, filling-task (pre .0) (pre .3) (loop .inv .2) (loop-test .taken) (loop .inv .0))
 
 slice-write-mem : tie.Need-slice-write-mem Inv-loop μ-loop
-slice-write-mem c = let s = sizes (c .before .before .before .before .before .before .before .before .before .pre .0) in omega (arith, filling-task (c .before .before .before .before .before .before .before .before .before .pre .0) (c .before .before .before .before .before .before .before .before .before .pre .3) (c .before .before .before .before .before .before .loop .inv .2) (c .before .before .before .before .before .loop-test .taken) (c .before .before .before .before .before .before .loop .inv .0), c .before .before .before .before .before .before .loop .inv .1)
+slice-write-mem c =
+    let pre = c .before .before .before .before .before .before .before .before .before .pre in
+    let loop = c .before .before .before .before .before .before .loop in
+    let loop-test = c .before .before .before .before .before .loop-test in
+    let s = sizes (pre .0) in omega (arith, filling-task (pre .0) (pre .3) (loop .inv .2) (loop-test .taken) (loop .inv .0), loop .inv .1)
 
 loop-less : tie.Need-loop-less Inv-loop μ-loop
 loop-less c = search needs
 
 loop-again : tie.Need-loop-again Inv-loop μ-loop
-loop-again c = (search needs, search needs, filling-more (c .before .before .before .before .before .before .before .before .before .pre .0) (c .before .before .before .before .before .before .before .before .before .pre .3) (c .before .before .before .before .before .before .loop .inv .2) (c .before .before .before .before .before .loop-test .taken) (c .before .before .before .before .before .before .loop .inv .0) _ (omega (arith, c .before .before .scaled-run .ensures, c .longest-after .ensures .0)))
+loop-again c =
+    let pre = c .before .before .before .before .before .before .before .before .before .pre in
+    let loop = c .before .before .before .before .before .before .loop in
+    let loop-test = c .before .before .before .before .before .loop-test in
+    (search needs, search needs, filling-more (pre .0) (pre .3) (loop .inv .2) (loop-test .taken) (loop .inv .0) _ (omega (arith, c .before .before .scaled-run .ensures, c .longest-after .ensures .0)))
 
 same-length : tie.Need-same-length Inv-loop μ-loop
 same-length c = search needs

@@ -43,7 +43,10 @@ leaving-requires : tie.Need-leaving-requires Inv-loop μ-loop
 leaving-requires c κs = record { job = c .before .before .before .before .before .pre .0; place = c .before .before .before .edges-at .ensures; some = c .loop-test .taken; most = c .before .loop .inv .1 .most }
 
 mul-y : tie.Need-mul-y Inv-loop μ-loop
-mul-y c = rw (c .before .leaving .ensures .volume-of) (omega (arith, longest-message (c .before .before .before .before .before .before .before .pre .0) (c .before .before .before .before .before .before .before .pre .1) (c .before .before .before .before .before .before .before .pre .2) (c .before .before .before .loop .inv .1) (c .before .before .loop-test .taken) (c .before .before .before .before .before .before .before .pre .3)))
+mul-y c =
+    let pre = c .before .before .before .before .before .before .before .pre in
+    let loop = c .before .before .before .loop in
+    rw (c .before .leaving .ensures .volume-of) (omega (arith, longest-message (pre .0) (pre .1) (pre .2) (loop .inv .1) (c .before .before .loop-test .taken) (pre .3)))
 
 add-y : tie.Need-add-y Inv-loop μ-loop
 add-y c = search needs
@@ -56,42 +59,71 @@ shared-slice-read-y c = let s = sizes (c .before .before .before .before .before
 
 add-y-2 : tie.Need-add-y-2 Inv-loop μ-loop
 add-y-2 c =
-    let e = edgeOf (c .before .before .before .before .loop .k) (c .before .before .before .before .before .before .before .before .args .mem .now) in
+    let args = c .before .before .before .before .before .before .before .before .args in
+    let pre = c .before .before .before .before .before .before .before .before .pre in
+    let loop = c .before .before .before .before .loop in
+    let loop-test = c .before .before .before .loop-test in
+    let e = edgeOf (loop .k) (args .mem .now) in
     rw (c .before .before .leaving .ensures .volume-of, c .before .before .leaving .ensures .to-of)
-    (omega (arith, longest-message (c .before .before .before .before .before .before .before .before .pre .0) (c .before .before .before .before .before .before .before .before .pre .1) (c .before .before .before .before .before .before .before .before .pre .2) (c .before .before .before .before .loop .inv .1) (c .before .before .before .loop-test .taken) (c .before .before .before .before .before .before .before .before .pre .3), c .before .before .before .before .before .before .before .before .pre .4 e (longest-leaves (c .before .before .before .before .before .before .before .before .pre .0) (c .before .before .before .before .before .before .before .before .pre .1) (c .before .before .before .before .before .before .before .before .pre .2) (c .before .before .before .before .loop .inv .1) (c .before .before .before .loop-test .taken))))
+    (omega (arith, longest-message (pre .0) (pre .1) (pre .2) (loop .inv .1) (loop-test .taken) (pre .3), pre .4 e (longest-leaves (pre .0) (pre .1) (pre .2) (loop .inv .1) (loop-test .taken))))
 
 loop-less : tie.Need-loop-less Inv-loop μ-loop
-loop-less c = rw (c .before .before .before .leaving .ensures .next-of) (longest-falls (c .before .before .before .before .before .before .before .before .before .pre .0) (c .before .before .before .before .before .before .before .before .before .pre .1) (c .before .before .before .before .before .before .before .before .before .pre .2) (c .before .before .before .before .before .loop .inv .1) (c .before .before .before .before .loop-test .taken))
+loop-less c =
+    let pre = c .before .before .before .before .before .before .before .before .before .pre in
+    let loop = c .before .before .before .before .before .loop in
+    let loop-test = c .before .before .before .before .loop-test in
+    let leaving = c .before .before .before .leaving in
+    rw (leaving .ensures .next-of) (longest-falls (pre .0) (pre .1) (pre .2) (loop .inv .1) (loop-test .taken))
 
 loop-again : tie.Need-loop-again Inv-loop μ-loop
 loop-again c =
-    let mem = c .before .before .before .before .before .before .before .before .before .args .mem .now in
-    let g = c .before .before .before .before .before .loop .inv .1 in
-    let h = c .before .before .before .before .loop-test .taken in
-    let f = c .before .before .before .leaving .ensures in
-    let e = edgeOf (c .before .before .before .before .before .loop .k) mem in
-    let y : c .before .before .before .leaving .result .volume * c .before .before .before .before .before .before .before .before .before .args .total + nth mem (levelAt (c .before .before .before .before .before .before .before .before .before .args .rooms) + c .before .before .before .leaving .result .to) ≡ sent (c .before .before .before .before .before .before .before .before .before .args .rooms) mem e = rw (f .volume-of, f .to-of, c .before .before .before .before .before .before .before .before .before .pre .3) in
-    let z : sent (c .before .before .before .before .before .before .before .before .before .args .rooms) mem e ≤ 133_714_329_600 =
-    rw (← c .before .before .before .before .before .before .before .before .before .pre .3) (omega (arith, longest-message (c .before .before .before .before .before .before .before .before .before .pre .0) (c .before .before .before .before .before .before .before .before .before .pre .1) (c .before .before .before .before .before .before .before .before .before .pre .2) g h (c .before .before .before .before .before .before .before .before .before .pre .3), c .before .before .before .before .before .before .before .before .before .pre .4 e (longest-leaves (c .before .before .before .before .before .before .before .before .before .pre .0) (c .before .before .before .before .before .before .before .before .before .pre .1) (c .before .before .before .before .before .before .before .before .before .pre .2) g h))) in
-    (omega (arith, y, z, c .before .before .before .before .before .loop .inv .0), rw (f .next-of) (longest-next (c .before .before .before .before .before .before .before .before .before .pre .0) (c .before .before .before .before .before .before .before .before .before .pre .1) (c .before .before .before .before .before .before .before .before .before .pre .2) g h (c .before .before .before .leaving .result .volume * c .before .before .before .before .before .before .before .before .before .args .total + nth mem (levelAt (c .before .before .before .before .before .before .before .before .before .args .rooms) + c .before .before .before .leaving .result .to)) (omega (arith, c .if1 .taken, y))))
+    let args = c .before .before .before .before .before .before .before .before .before .args in
+    let pre = c .before .before .before .before .before .before .before .before .before .pre in
+    let loop = c .before .before .before .before .before .loop in
+    let loop-test = c .before .before .before .before .loop-test in
+    let leaving = c .before .before .before .leaving in
+    let mem = args .mem .now in
+    let g = loop .inv .1 in
+    let h = loop-test .taken in
+    let f = leaving .ensures in
+    let e = edgeOf (loop .k) mem in
+    let y : leaving .result .volume * args .total + nth mem (levelAt (args .rooms) + leaving .result .to) ≡ sent (args .rooms) mem e = rw (f .volume-of, f .to-of, pre .3) in
+    let z : sent (args .rooms) mem e ≤ 133_714_329_600 =
+    rw (← pre .3) (omega (arith, longest-message (pre .0) (pre .1) (pre .2) g h (pre .3), pre .4 e (longest-leaves (pre .0) (pre .1) (pre .2) g h))) in (
+      omega (arith, y, z, loop .inv .0),
+      rw (f .next-of) (longest-next (pre .0) (pre .1) (pre .2) g h
+          (leaving .result .volume * args .total + nth mem (levelAt (args .rooms) + leaving .result .to)) (omega (arith, c .if1 .taken, y))),
+    )
 
 loop-less-2 : tie.Need-loop-less-2 Inv-loop μ-loop
-loop-less-2 c = rw (c .before .before .before .leaving .ensures .next-of) (longest-falls (c .before .before .before .before .before .before .before .before .before .pre .0) (c .before .before .before .before .before .before .before .before .before .pre .1) (c .before .before .before .before .before .before .before .before .before .pre .2) (c .before .before .before .before .before .loop .inv .1) (c .before .before .before .before .loop-test .taken))
+loop-less-2 c =
+    let pre = c .before .before .before .before .before .before .before .before .before .pre in
+    let loop = c .before .before .before .before .before .loop in
+    let loop-test = c .before .before .before .before .loop-test in
+    let leaving = c .before .before .before .leaving in
+    rw (leaving .ensures .next-of) (longest-falls (pre .0) (pre .1) (pre .2) (loop .inv .1) (loop-test .taken))
 
 loop-again-2 : tie.Need-loop-again-2 Inv-loop μ-loop
 loop-again-2 c =
-    let mem = c .before .before .before .before .before .before .before .before .before .args .mem .now in
-    let g = c .before .before .before .before .before .loop .inv .1 in
-    let h = c .before .before .before .before .loop-test .taken in
-    let f = c .before .before .before .leaving .ensures in
-    let e = edgeOf (c .before .before .before .before .before .loop .k) mem in
-    let y : c .before .before .before .leaving .result .volume * c .before .before .before .before .before .before .before .before .before .args .total + nth mem (levelAt (c .before .before .before .before .before .before .before .before .before .args .rooms) + c .before .before .before .leaving .result .to) ≡ sent (c .before .before .before .before .before .before .before .before .before .args .rooms) mem e = rw (f .volume-of, f .to-of, c .before .before .before .before .before .before .before .before .before .pre .3) in
-    let z : sent (c .before .before .before .before .before .before .before .before .before .args .rooms) mem e ≤ 133_714_329_600 =
-    rw (← c .before .before .before .before .before .before .before .before .before .pre .3) (omega (arith, longest-message (c .before .before .before .before .before .before .before .before .before .pre .0) (c .before .before .before .before .before .before .before .before .before .pre .1) (c .before .before .before .before .before .before .before .before .before .pre .2) g h (c .before .before .before .before .before .before .before .before .before .pre .3), c .before .before .before .before .before .before .before .before .before .pre .4 e (longest-leaves (c .before .before .before .before .before .before .before .before .before .pre .0) (c .before .before .before .before .before .before .before .before .before .pre .1) (c .before .before .before .before .before .before .before .before .before .pre .2) g h))) in
-    (omega (arith, y, z, c .before .before .before .before .before .loop .inv .0), rw (f .next-of) (longest-next (c .before .before .before .before .before .before .before .before .before .pre .0) (c .before .before .before .before .before .before .before .before .before .pre .1) (c .before .before .before .before .before .before .before .before .before .pre .2) g h (c .before .before .before .before .before .loop .x) (omega (arith, c .if1 .left, y))))
+    let args = c .before .before .before .before .before .before .before .before .before .args in
+    let pre = c .before .before .before .before .before .before .before .before .before .pre in
+    let loop = c .before .before .before .before .before .loop in
+    let loop-test = c .before .before .before .before .loop-test in
+    let leaving = c .before .before .before .leaving in
+    let mem = args .mem .now in
+    let g = loop .inv .1 in
+    let h = loop-test .taken in
+    let f = leaving .ensures in
+    let e = edgeOf (loop .k) mem in
+    let y : leaving .result .volume * args .total + nth mem (levelAt (args .rooms) + leaving .result .to) ≡ sent (args .rooms) mem e = rw (f .volume-of, f .to-of, pre .3) in
+    let z : sent (args .rooms) mem e ≤ 133_714_329_600 =
+    rw (← pre .3) (omega (arith, longest-message (pre .0) (pre .1) (pre .2) g h (pre .3), pre .4 e (longest-leaves (pre .0) (pre .1) (pre .2) g h))) in
+    (omega (arith, y, z, loop .inv .0), rw (f .next-of) (longest-next (pre .0) (pre .1) (pre .2) g h (loop .x) (omega (arith, c .if1 .left, y))))
 
 returns : tie.Need-returns Inv-loop μ-loop
-returns c = (longest-done (c .before .before .before .before .before .pre .0) (c .before .before .before .before .before .pre .1) (c .before .before .before .before .before .pre .2) (c .before .loop .inv .1) (omega arith), omega (arith, c .before .loop .inv .0))
+returns c =
+    let pre = c .before .before .before .before .before .pre in
+    (longest-done (pre .0) (pre .1) (pre .2) (c .before .loop .inv .1) (omega arith), omega (arith, c .before .loop .inv .0))
 
 pub longest-after-spec : {M : Type 1} → statement M
 longest-after-spec =

@@ -43,16 +43,34 @@ total-requires : tie.Need-total-requires
 total-requires c κs = search needs
 
 returns : tie.Need-returns
-returns c = row-in (c .before .before .before .before .before .args .mem .now) (c .before .before .before .before .before .pre .0 .1) (c .before .before .before .before .before .args .t) (c .before .total .result) (omega (arith, c .before .before .before .before .before .pre .1)) (run-sum-most (c .before .before .before .before .before .args .mem .now) (c .before .before .before .before .before .pre .0 .1) (c .before .before .before .before .before .args .t) (c .before .before .before .before .before .pre .1)) (c .before .total .ensures) ∙ scaled-one (c .before .before .before .before .before .args .mem .now) (c .before .before .before .before .before .pre .0 .1) (c .before .before .before .before .before .args .t) (c .before .before .before .before .before .pre .1) (c .if1 .taken)
+returns c =
+    let args = c .before .before .before .before .before .args in
+    let pre = c .before .before .before .before .before .pre in
+    row-in (args .mem .now) (pre .0 .1) (args .t) (c .before .total .result) (omega (arith, pre .1)) (run-sum-most (args .mem .now) (pre .0 .1) (args .t) (pre .1))
+    (c .before .total .ensures) ∙ scaled-one (args .mem .now) (pre .0 .1) (args .t) (pre .1) (c .if1 .taken)
 
 sub-result : tie.Need-sub-result
 sub-result c = let s = sizes (c .before .before .before .before .before .pre .0 .1) in omega arith
 
 mul-result : tie.Need-mul-result
-mul-result c = let d = c .before .before .before .before .before .args .mem .now in omega (arith, ap (λ (x : ℕ). (nth d 1 - 1) * x) (row-in (c .before .before .before .before .before .args .mem .now) (c .before .before .before .before .before .pre .0 .1) (c .before .before .before .before .before .args .t) (c .before .total .result) (omega (arith, c .before .before .before .before .before .pre .1)) (run-sum-most (c .before .before .before .before .before .args .mem .now) (c .before .before .before .before .before .pre .0 .1) (c .before .before .before .before .before .args .t) (c .before .before .before .before .before .pre .1)) (c .before .total .ensures)), scaled-fits d (c .before .before .before .before .before .pre .0 .1) (c .before .before .before .before .before .args .t) (c .before .before .before .before .before .pre .1))
+mul-result c =
+    let args = c .before .before .before .before .before .args in
+    let pre = c .before .before .before .before .before .pre in
+    let d = args .mem .now in
+    omega (
+      arith,
+      ap (λ (x : ℕ). (nth d 1 - 1) * x) (row-in (args .mem .now) (pre .0 .1) (args .t) (c .before .total .result) (omega (arith, pre .1))
+          (run-sum-most (args .mem .now) (pre .0 .1) (args .t) (pre .1)) (c .before .total .ensures)),
+      scaled-fits d (pre .0 .1) (args .t) (pre .1),
+    )
 
 returns-2 : tie.Need-returns-2
-returns-2 c = let d = c .before .before .before .before .before .args .mem .now in ap (λ (x : ℕ). (nth d 1 - 1) * x) (row-in (c .before .before .before .before .before .args .mem .now) (c .before .before .before .before .before .pre .0 .1) (c .before .before .before .before .before .args .t) (c .before .total .result) (omega (arith, c .before .before .before .before .before .pre .1)) (run-sum-most (c .before .before .before .before .before .args .mem .now) (c .before .before .before .before .before .pre .0 .1) (c .before .before .before .before .before .args .t) (c .before .before .before .before .before .pre .1)) (c .before .total .ensures)) ∙ scaled-more d (c .before .before .before .before .before .pre .0 .1) (c .before .before .before .before .before .args .t) (c .before .before .before .before .before .pre .1) (c .if1 .left)
+returns-2 c =
+    let args = c .before .before .before .before .before .args in
+    let pre = c .before .before .before .before .before .pre in
+    let d = args .mem .now in
+    ap (λ (x : ℕ). (nth d 1 - 1) * x) (row-in (args .mem .now) (pre .0 .1) (args .t) (c .before .total .result) (omega (arith, pre .1))
+    (run-sum-most (args .mem .now) (pre .0 .1) (args .t) (pre .1)) (c .before .total .ensures)) ∙ scaled-more d (pre .0 .1) (args .t) (pre .1) (c .if1 .left)
 
 pub scaled-run-spec : {M : Type 1} → statement M
 scaled-run-spec =

@@ -36,7 +36,11 @@ total-delay-requires : tie.Need-total-delay-requires
 total-delay-requires c κs = search needs
 
 fill-levels-requires : tie.Need-fill-levels-requires
-fill-levels-requires c κs = (c .before .before .before .before .before .before .before .before .before .before .before .before .before .pre .0, c .before .before .before .before .before .before .before .before .before .before .before .before .before .pre .1, c .before .before .total-delay .ensures, order-made (c .before .before .before .before .before .before .before .before .before .before .before .before .before .pre .0) _ _ _ (c .before .before .before .before .before .before .before .before .before .edges-at .ensures) (c .before .before .before .before .before .arrange .ensures))
+fill-levels-requires c κs =
+    let pre = c .before .before .before .before .before .before .before .before .before .before .before .before .before .pre in
+    let edges-at = c .before .before .before .before .before .before .before .before .before .edges-at in
+    let arrange = c .before .before .before .before .before .arrange in
+    (pre .0, pre .1, c .before .before .total-delay .ensures, order-made (pre .0) _ _ _ (edges-at .ensures) (arrange .ensures))
 
 same-length : tie.Need-same-length
 same-length c = search needs

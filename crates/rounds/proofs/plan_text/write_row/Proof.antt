@@ -51,27 +51,34 @@ part-write-line-start-2 : tie.Need-part-write-line-start-2
 part-write-line-start-2 c = search needs
 
 part-write-line-end-2 : tie.Need-part-write-line-end-2
-part-write-line-end-2 c = omega (arith, row-few (sizes (c .before .before .before .before .before .pre .0)), row-within (sizes (c .before .before .before .before .before .pre .0)) (c .before .before .before .before .before .args .k) (c .before .before .before .before .before .pre .1))
+part-write-line-end-2 c =
+    let pre = c .before .before .before .before .before .pre in
+    let args = c .before .before .before .before .before .args in
+    omega (arith, row-few (sizes (pre .0)), row-within (sizes (pre .0)) (args .k) (pre .1))
 
 write-line-requires : tie.Need-write-line-requires
 write-line-requires c κs = search needs
 
 add-result : tie.Need-add-result
 add-result c =
-    let a = c .before .before .before .before .before .before .before .before .before .args in
+    let args = c .before .before .before .before .before .before .before .before .before .args in
+    let pre = c .before .before .before .before .before .before .before .before .before .pre in
+    let a = args in
     let w = c .before .before .write-line in
     let q = row-part (a .rooms) (a .k) (a .mem .now) in
-    omega (arith, c .before .before .before .before .before .before .before .before .before .pre .2, part-written (a .out .now) (a .at) (rowLine (a .rooms) (a .k) (a .mem .now)) (c .before .before .before .before .before .before .before .before .before .pre .2) (w .result) (w .last .0) (rw q at (w .ensures .0)) (rw q at (w .ensures .1)) .0)
+    omega (arith, pre .2, part-written (a .out .now) (a .at) (rowLine (a .rooms) (a .k) (a .mem .now)) (pre .2) (w .result) (w .last .0) (rw q at (w .ensures .0)) (rw q at (w .ensures .1)) .0)
 
 same-length : tie.Need-same-length
 same-length c = search needs
 
 returns : tie.Need-returns
 returns c =
-    let a = c .before .before .before .before .before .before .before .before .before .args in
+    let args = c .before .before .before .before .before .before .before .before .before .args in
+    let pre = c .before .before .before .before .before .before .before .before .before .pre in
+    let a = args in
     let w = c .before .before .write-line in
     let q = row-part (a .rooms) (a .k) (a .mem .now) in
-    part-written (a .out .now) (a .at) (rowLine (a .rooms) (a .k) (a .mem .now)) (c .before .before .before .before .before .before .before .before .before .pre .2) (w .result) (w .last .0) (rw q at (w .ensures .0)) (rw q at (w .ensures .1))
+    part-written (a .out .now) (a .at) (rowLine (a .rooms) (a .k) (a .mem .now)) (pre .2) (w .result) (w .last .0) (rw q at (w .ensures .0)) (rw q at (w .ensures .1))
 
 pub write-row-spec : {M : Type 1} → statement M
 write-row-spec =

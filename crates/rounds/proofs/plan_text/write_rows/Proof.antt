@@ -23,17 +23,25 @@ shared-slice-read-v c = omega (arith, sizes (c .before .before .before .pre .0) 
 
 loop-holds : tie.Need-loop-holds Inv-loop μ-loop
 loop-holds c =
-    let a = c .before .before .before .args in
+    let args = c .before .before .before .args in
+    let pre = c .before .before .before .pre in
+    let a = args in
     let m = a .mem .now in
-    let (e, f) = text-start (λ i. rowLines (a .rooms) i m) (λ i. rowLine (a .rooms) i m) (nth m 0) (rows-next (sizes (c .before .before .before .pre .0))) (rows-none (sizes (c .before .before .before .pre .0))) (a .out .now) (a .from) in
+    let (e, f) = text-start (λ i. rowLines (a .rooms) i m) (λ i. rowLine (a .rooms) i m) (nth m 0) (rows-next (sizes (pre .0))) (rows-none (sizes (pre .0))) (a .out .now) (a .from) in
     (omega arith, e, f)
 
 write-row-requires : tie.Need-write-row-requires Inv-loop μ-loop
 write-row-requires c κs =
-    let a = c .before .before .before .before .before .before .args in
+    let args = c .before .before .before .before .before .before .args in
+    let pre = c .before .before .before .before .before .before .pre in
+    let a = args in
     let m = a .mem .now in
-    let l = c .before .before .loop in
-    (c .before .before .before .before .before .before .pre .0, c .before .loop-test .taken, line-room (λ i. rowLines (a .rooms) i m) (λ i. rowLine (a .rooms) i m) (nth m 0) (rows-next (sizes (c .before .before .before .before .before .before .pre .0))) (a .out .now) (a .from) (c .before .before .before .before .before .before .pre .1) (l .k) (c .before .loop-test .taken) (l .out) (l .at) (l .inv .1) (l .inv .2))
+    let l = c .before .before .loop in (
+      pre .0,
+      c .before .loop-test .taken,
+      line-room (λ i. rowLines (a .rooms) i m) (λ i. rowLine (a .rooms) i m) (nth m 0) (rows-next (sizes (pre .0))) (a .out .now) (a .from) (pre .1)
+          (l .k) (c .before .loop-test .taken) (l .out) (l .at) (l .inv .1) (l .inv .2),
+    )
 
 add-k : tie.Need-add-k Inv-loop μ-loop
 add-k c = omega (arith, c .before .before .before .before .loop-test .taken, sizes (c .before .before .before .before .before .before .before .before .before .pre .0) .tasks-most .0)
@@ -43,22 +51,31 @@ loop-less c = omega (arith, c .before .before .before .before .loop-test .taken)
 
 loop-again : tie.Need-loop-again Inv-loop μ-loop
 loop-again c =
-    let a = c .before .before .before .before .before .before .before .before .before .args in
+    let args = c .before .before .before .before .before .before .before .before .before .args in
+    let pre = c .before .before .before .before .before .before .before .before .before .pre in
+    let loop = c .before .before .before .before .before .loop in
+    let loop-test = c .before .before .before .before .loop-test in
+    let a = args in
     let m = a .mem .now in
-    let l = c .before .before .before .before .before .loop in
+    let l = loop in
     let w = c .before .before .write-row in (
-      omega (arith, c .before .before .before .before .loop-test .taken),
-      line-place (λ i. rowLines (a .rooms) i m) (λ i. rowLine (a .rooms) i m) (nth m 0) (rows-next (sizes (c .before .before .before .before .before .before .before .before .before .pre .0))) (a .out .now) (a .from) (c .before .before .before .before .before .before .before .before .before .pre .1) (l .k) (c .before .before .before .before .loop-test .taken) (l .out) (l .at) (l .inv .1) (l .inv .2) (w .result) (w .ensures .0),
-      line-whole (λ i. rowLines (a .rooms) i m) (λ i. rowLine (a .rooms) i m) (nth m 0) (rows-next (sizes (c .before .before .before .before .before .before .before .before .before .pre .0))) (a .out .now) (a .from) (c .before .before .before .before .before .before .before .before .before .pre .1) (l .k) (c .before .before .before .before .loop-test .taken) (l .out) (l .at) (l .inv .1) (l .inv .2) (w .last .0) (w .ensures .1),
+      omega (arith, loop-test .taken),
+      line-place (λ i. rowLines (a .rooms) i m) (λ i. rowLine (a .rooms) i m) (nth m 0) (rows-next (sizes (pre .0))) (a .out .now) (a .from) (pre .1) (l .k) (loop-test .taken) (l .out)
+          (l .at) (l .inv .1) (l .inv .2) (w .result) (w .ensures .0),
+      line-whole (λ i. rowLines (a .rooms) i m) (λ i. rowLine (a .rooms) i m) (nth m 0) (rows-next (sizes (pre .0))) (a .out .now) (a .from) (pre .1) (l .k) (loop-test .taken) (l .out)
+          (l .at) (l .inv .1) (l .inv .2) (w .last .0) (w .ensures .1),
     )
 
 same-length : tie.Need-same-length Inv-loop μ-loop
 same-length c =
-    let a = c .before .before .before .before .before .args in
+    let args = c .before .before .before .before .before .args in
+    let pre = c .before .before .before .before .before .pre in
+    let a = args in
     let m = a .mem .now in
     let l = c .before .loop in
     let e : l .k ≡ nth m 0 = omega (arith, l .inv .0, c .loop-test .left) in
-    text-kept (λ i. rowLines (a .rooms) i m) (λ i. rowLine (a .rooms) i m) (nth m 0) (rows-next (sizes (c .before .before .before .before .before .pre .0))) (a .out .now) (a .from) (c .before .before .before .before .before .pre .1) (l .out) (l .inv .2 ∙ ap (λ (i : ℕ). over (a .out .now) (a .from) (rowLines (a .rooms) i m)) e)
+    text-kept (λ i. rowLines (a .rooms) i m) (λ i. rowLine (a .rooms) i m) (nth m 0) (rows-next (sizes (pre .0))) (a .out .now) (a .from) (pre .1) (l .out)
+    (l .inv .2 ∙ ap (λ (i : ℕ). over (a .out .now) (a .from) (rowLines (a .rooms) i m)) e)
 
 returns : tie.Need-returns Inv-loop μ-loop
 returns c =

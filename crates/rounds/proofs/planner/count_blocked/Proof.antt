@@ -56,13 +56,19 @@ mul-mem : tie.Need-mul-mem Inv-loop μ-loop
 mul-mem c = search needs
 
 slice-read-mem : tie.Need-slice-read-mem Inv-loop μ-loop
-slice-read-mem c = let l = c .before .before .before .loop in omega (arith, counted-below (c .before .before .before .before .before .before .before .pre .0) (l .inv .1) (c .before .before .loop-test .taken), l .inv .0, l .inv .1 .kept .size)
+slice-read-mem c =
+    let pre = c .before .before .before .before .before .before .before .pre in
+    let loop = c .before .before .before .loop in
+    let l = loop in omega (arith, counted-below (pre .0) (l .inv .1) (c .before .before .loop-test .taken), l .inv .0, l .inv .1 .kept .size)
 
 add-mem-2 : tie.Need-add-mem-2 Inv-loop μ-loop
 add-mem-2 c = omega (arith, counted-little (c .before .before .before .before .before .before .before .pre .0) (c .before .before .before .loop .inv .1) (c .before .before .loop-test .taken))
 
 slice-write-mem : tie.Need-slice-write-mem Inv-loop μ-loop
-slice-write-mem c = let l = c .before .before .before .loop in omega (arith, counted-below (c .before .before .before .before .before .before .before .pre .0) (l .inv .1) (c .before .before .loop-test .taken), l .inv .0, l .inv .1 .kept .size)
+slice-write-mem c =
+    let pre = c .before .before .before .before .before .before .before .pre in
+    let loop = c .before .before .before .loop in
+    let l = loop in omega (arith, counted-below (pre .0) (l .inv .1) (c .before .before .loop-test .taken), l .inv .0, l .inv .1 .kept .size)
 
 add-i : tie.Need-add-i Inv-loop μ-loop
 add-i c = search needs

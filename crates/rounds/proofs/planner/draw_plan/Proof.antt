@@ -22,7 +22,8 @@ use Rattle.rounds.proofs.planner.draw_plan.Tie as tie
 
 abbrev Inv-loop : tie.InvT-loop
 Inv-loop mem₀ rooms v delays clocks₀ free₀ n₀ k₀ mem clocks free n k =
-    (k ≤ v) × (v ≡ nth mem 0) × KeptOutside (inHeadAt rooms) (memorySize rooms) mem₀ mem × Drawn rooms k mem × Ranked rooms [] mem × ClocksHeld clocks (jobIn mem) (earliesIn rooms k mem) (latesIn rooms k mem) × FreeList rooms free n mem
+    (k ≤ v) × (v ≡ nth mem 0) × KeptOutside (inHeadAt rooms) (memorySize rooms) mem₀ mem × Drawn rooms k mem × Ranked rooms [] mem
+    × ClocksHeld clocks (jobIn mem) (earliesIn rooms k mem) (latesIn rooms k mem) × FreeList rooms free n mem
 
 abbrev μ-loop : tie.MeasureT-loop
 μ-loop mem₀ rooms v delays clocks₀ free₀ n₀ k₀ mem clocks free n k = v - k
@@ -58,8 +59,10 @@ list-free-requires c κs =
 loop-holds : tie.Need-loop-holds Inv-loop μ-loop
 unfolding placedIn
 loop-holds c =
-    let s = c .before .before .before .before .before .before .before .before .before .before .prepare .ensures in
-    (search needs, refl, kept-all, s .1, s .2, outset-clocks (rw (processors-in (c .before .before .before .before .before .before .before .before .before .before .prepare .last .0)) (sizes (s .1 .standing .job) .processors-most)) (c .before .before .before .before .new .ensures .0) (c .before .before .before .before .new .ensures .1), c .before .list-free .ensures)
+    let prepare = c .before .before .before .before .before .before .before .before .before .before .prepare in
+    let new = c .before .before .before .before .new in
+    let s = prepare .ensures in
+    (search needs, refl, kept-all, s .1, s .2, outset-clocks (rw (processors-in (prepare .last .0)) (sizes (s .1 .standing .job) .processors-most)) (new .ensures .0) (new .ensures .1), c .before .list-free .ensures)
 
 sub-t : tie.Need-sub-t Inv-loop μ-loop
 sub-t c = some c
@@ -74,8 +77,18 @@ cast-t c = omega (arith, last-task c, sizes (c .before .loop .inv .3 .standing .
 
 place-task-requires : tie.Need-place-task-requires Inv-loop μ-loop
 place-task-requires c κs =
-    let l = c .before .before .before .loop in
-    (delays-kept (c .before .before .before .before .before .before .before .before .before .before .before .before .before .before .prepare .ensures .1 .standing .job) (same-before 0 (jobSize _) (l .inv .2) (omega arith)) (c .before .before .before .before .before .before .before .before .before .delay-table .ensures), l .inv .3, l .inv .4, omega (arith, c .before .before .loop-test .taken, l .inv .1), last-best (l .inv .6) (some (c .before .before)), l .inv .5)
+    let prepare = c .before .before .before .before .before .before .before .before .before .before .before .before .before .before .prepare in
+    let delay-table = c .before .before .before .before .before .before .before .before .before .delay-table in
+    let loop = c .before .before .before .loop in
+    let l = loop in (
+      delays-kept (prepare .ensures .1 .standing .job) (same-before 0 (jobSize _) (l .inv .2) (omega arith)) (delay-table .ensures),
+      l .inv .3,
+      l .inv .4,
+      omega
+          (arith, c .before .before .loop-test .taken, l .inv .1),
+      last-best (l .inv .6) (some (c .before .before)),
+      l .inv .5,
+    )
 
 slice-aggregate-release : tie.Need-slice-aggregate-release Inv-loop μ-loop
 slice-aggregate-release c = search needs
@@ -91,7 +104,10 @@ release-requires c κs =
     ((l .k + 1, p .1), p .2, free-out (l .inv .6) (some (c .before .before .before .before .before .before .before)) (p .4) z, rw z (last-task (c .before .before .before .before .before .before .before)))
 
 add-k : tie.Need-add-k Inv-loop μ-loop
-add-k c = omega (arith, c .before .before .before .before .before .before .before .before .before .before .before .loop-test .taken, c .before .before .before .before .before .before .before .before .before .before .before .before .loop .inv .1, sizes (c .before .before .before .before .before .before .before .before .before .before .before .before .loop .inv .3 .standing .job) .tasks-most .0)
+add-k c =
+    let loop = c .before .before .before .before .before .before .before .before .before .before .before .before .loop in
+    let loop-test = c .before .before .before .before .before .before .before .before .before .before .before .loop-test in
+    omega (arith, loop-test .taken, loop .inv .1, sizes (loop .inv .3 .standing .job) .tasks-most .0)
 
 loop-less : tie.Need-loop-less Inv-loop μ-loop
 loop-less c = search needs

@@ -17,22 +17,36 @@ fill-far-requires : tie.Need-fill-far-requires
 fill-far-requires c κs = held-kept (c .before .before .before .before .before .before .pre .0) (c .before .before .before .settle-levels .ensures .0) (omega arith)
 
 clear-tasks-requires : tie.Need-clear-tasks-requires
-clear-tasks-requires c κs = held-kept (held-kept (c .before .before .before .before .before .before .before .before .before .before .pre .0) (c .before .before .before .before .before .before .before .settle-levels .ensures .0) (omega arith)) (c .before .before .before .fill-far .ensures .0) (omega arith)
+clear-tasks-requires c κs =
+    let pre = c .before .before .before .before .before .before .before .before .before .before .pre in
+    let settle-levels = c .before .before .before .before .before .before .before .settle-levels in
+    let fill-far = c .before .before .before .fill-far in
+    held-kept (held-kept (pre .0) (settle-levels .ensures .0) (omega arith)) (fill-far .ensures .0) (omega arith)
 
 count-blocked-requires : tie.Need-count-blocked-requires
-count-blocked-requires c κs = (held-kept (held-kept (held-kept (c .before .before .before .before .before .before .before .before .before .before .before .before .before .before .pre .0) (c .before .before .before .before .before .before .before .before .before .before .before .settle-levels .ensures .0) (omega arith)) (c .before .before .before .before .before .before .before .fill-far .ensures .0) (omega arith)) (c .before .before .before .clear-tasks .ensures .0) (omega arith), c .before .before .before .clear-tasks .ensures .1 .blocked)
+count-blocked-requires c κs =
+    let pre = c .before .before .before .before .before .before .before .before .before .before .before .before .before .before .pre in
+    let settle-levels = c .before .before .before .before .before .before .before .before .before .before .before .settle-levels in
+    let fill-far = c .before .before .before .before .before .before .before .fill-far in
+    let clear-tasks = c .before .before .before .clear-tasks in
+    (held-kept (held-kept (held-kept (pre .0) (settle-levels .ensures .0) (omega arith)) (fill-far .ensures .0) (omega arith)) (clear-tasks .ensures .0) (omega arith), clear-tasks .ensures .1 .blocked)
 
 same-length : tie.Need-same-length
 same-length c = search needs
 
 returns : tie.Need-returns
 returns c =
-    let h = c .before .before .before .before .before .before .before .before .before .before .before .before .before .before .before .before .before .pre .0 in
-    let d = c .before .before .before .before .before .before .before .before .before .before .before .before .before .before .before .before .before .args .mem .now in
-    let a : KeptOutside (inHeadAt (c .before .before .before .before .before .before .before .before .before .before .before .before .before .before .before .before .before .args .rooms)) (levelAt (c .before .before .before .before .before .before .before .before .before .before .before .before .before .before .before .before .before .args .rooms)) d d × LinkedIn (c .before .before .before .before .before .before .before .before .before .before .before .before .before .before .before .before .before .args .rooms) d × LinkedOut (c .before .before .before .before .before .before .before .before .before .before .before .before .before .before .before .before .before .args .rooms) d = (kept-all, c .before .before .before .before .before .before .before .before .before .before .before .before .before .before .before .before .before .pre .1, c .before .before .before .before .before .before .before .before .before .before .before .before .before .before .before .before .before .pre .2) in
-    let b = c .before .before .before .before .before .before .before .before .before .before .before .before .before .before .settle-levels .ensures in
-    let k = c .before .before .before .before .before .before .before .before .before .before .fill-far .ensures in
-    let e = c .before .before .before .before .before .before .clear-tasks .ensures in
+    let pre = c .before .before .before .before .before .before .before .before .before .before .before .before .before .before .before .before .before .pre in
+    let args = c .before .before .before .before .before .before .before .before .before .before .before .before .before .before .before .before .before .args in
+    let settle-levels = c .before .before .before .before .before .before .before .before .before .before .before .before .before .before .settle-levels in
+    let fill-far = c .before .before .before .before .before .before .before .before .before .before .fill-far in
+    let clear-tasks = c .before .before .before .before .before .before .clear-tasks in
+    let h = pre .0 in
+    let d = args .mem .now in
+    let a : KeptOutside (inHeadAt (args .rooms)) (levelAt (args .rooms)) d d × LinkedIn (args .rooms) d × LinkedOut (args .rooms) d = (kept-all, pre .1, pre .2) in
+    let b = settle-levels .ensures in
+    let k = fill-far .ensures in
+    let e = clear-tasks .ensures in
     let f = c .before .before .count-blocked .ensures in
     (outset-kept h a b k e f, outset h a b k e f, outset-counts h a b k e f)
 

@@ -39,19 +39,31 @@ leaving-requires c κs = let (i, s, r) = c .before .before .loop .inv .0 in rele
 
 unblock-requires : tie.Need-unblock-requires Inv-loop μ-loop
 unblock-requires c κs =
-    let (i, s, r) = c .before .before .before .before .before .loop .inv .0 in
-    let h = c .before .before .before .before .loop-test .taken in
-    ((c .before .before .before .before .before .before .before .before .before .before .before .args .mem .now, i, c .before .before .before .before .before .loop .k, record { drawn = s; releasing = r; some = h; enters = release-left s r h (c .before .before .leaving .ensures) .0 }), c .before .before .before .before .before .loop .inv .1)
+    let args = c .before .before .before .before .before .before .before .before .before .before .before .args in
+    let loop = c .before .before .before .before .before .loop in
+    let loop-test = c .before .before .before .before .loop-test in
+    let (i, s, r) = loop .inv .0 in
+    let h = loop-test .taken in
+    ((args .mem .now, i, loop .k, record { drawn = s; releasing = r; some = h; enters = release-left s r h (c .before .before .leaving .ensures) .0 }), loop .inv .1)
 
 loop-less : tie.Need-loop-less Inv-loop μ-loop
-loop-less c = let (i, s, r) = c .before .before .before .before .before .before .before .before .before .before .loop .inv .0 in let h = c .before .before .before .before .before .before .before .before .before .loop-test .taken in omega (arith, release-left s r h (c .before .before .before .before .before .before .before .leaving .ensures) .1, release-falls s r h)
+loop-less c =
+    let loop = c .before .before .before .before .before .before .before .before .before .before .loop in
+    let loop-test = c .before .before .before .before .before .before .before .before .before .loop-test in
+    let leaving = c .before .before .before .before .before .before .before .leaving in
+    let (i, s, r) = loop .inv .0 in let h = loop-test .taken in omega (arith, release-left s r h (leaving .ensures) .1, release-falls s r h)
 
 loop-again : tie.Need-loop-again Inv-loop μ-loop
 loop-again c =
-    let (i, s, r) = c .before .before .before .before .before .before .before .before .before .before .loop .inv .0 in
-    let h = c .before .before .before .before .before .before .before .before .before .loop-test .taken in
-    let (e, f) = release-left s r h (c .before .before .before .before .before .before .before .leaving .ensures) in
-    ((i, s, rw f (c .before .before .before .before .unblock .ensures .0 (c .before .before .before .before .before .before .before .before .before .before .before .before .before .before .before .before .args .mem .now) i (c .before .before .before .before .before .before .before .before .before .before .loop .k) (record { drawn = s; releasing = r; some = h; enters = e }))), c .before .before .before .before .unblock .ensures .1)
+    let args = c .before .before .before .before .before .before .before .before .before .before .before .before .before .before .before .before .args in
+    let loop = c .before .before .before .before .before .before .before .before .before .before .loop in
+    let loop-test = c .before .before .before .before .before .before .before .before .before .loop-test in
+    let leaving = c .before .before .before .before .before .before .before .leaving in
+    let unblock = c .before .before .before .before .unblock in
+    let (i, s, r) = loop .inv .0 in
+    let h = loop-test .taken in
+    let (e, f) = release-left s r h (leaving .ensures) in
+    ((i, s, rw f (unblock .ensures .0 (args .mem .now) i (loop .k) (record { drawn = s; releasing = r; some = h; enters = e }))), unblock .ensures .1)
 
 same-length : tie.Need-same-length Inv-loop μ-loop
 same-length c = c .before .loop .inv .0 .2 .kept .size

@@ -37,9 +37,10 @@ same-length c = search needs
 
 returns : tie.Need-returns
 returns c =
-    let v = c .before .before .before .before .pre .0 .3 in
+    let pre = c .before .before .before .before .pre in
+    let v = pre .0 .3 in
     let o = c .if1 .taken in
-    (λ d i k v. release-held (v .drawn) (v .releasing) (v .some) _ (v .enters) (λ z. omega (arith, o, z)), list-held (v .drawn) (v .releasing) (v .some) _ (v .enters) (c .before .before .before .before .pre .1) (λ z. omega (arith, o, z)))
+    (λ d i k v. release-held (v .drawn) (v .releasing) (v .some) _ (v .enters) (λ z. omega (arith, o, z)), list-held (v .drawn) (v .releasing) (v .some) _ (v .enters) (pre .1) (λ z. omega (arith, o, z)))
 
 top-level-requires : tie.Need-top-level-requires
 top-level-requires c κs = let v = c .before .before .before .before .before .pre .0 .3 in release-asks (v .drawn) (v .releasing) (v .some) _ (v .enters) (omega (arith, c .before .if1 .left))
@@ -59,7 +60,10 @@ slice-read-mem c =
     simp length-set (omega (arith, release-within (v .drawn) (v .releasing) (v .some) _ (v .enters), v .releasing .kept .size, sizes (v .drawn .standing .job) .size))
 
 add-mem-3 : tie.Need-add-mem-3
-add-mem-3 c = let v = c .before .before .before .before .before .before .before .pre .0 .3 in omega (arith, release-level (v .drawn) (v .releasing) (v .some) _ (v .enters) (omega (arith, c .before .before .before .if1 .left)), c .before .top-level .ensures .1)
+add-mem-3 c =
+    let pre = c .before .before .before .before .before .before .before .pre in
+    let if1 = c .before .before .before .if1 in
+    let v = pre .0 .3 in omega (arith, release-level (v .drawn) (v .releasing) (v .some) _ (v .enters) (omega (arith, if1 .left)), c .before .top-level .ensures .1)
 
 mul-mem-4 : tie.Need-mul-mem-4
 mul-mem-4 c = search needs
@@ -77,16 +81,24 @@ slice-write-mem-2 c =
 
 cast-put-in : tie.Need-cast-put-in
 cast-put-in c =
-    let v = c .before .before .before .before .before .before .before .before .before .pre .0 .3 in
-    omega (arith, release-puts (v .drawn) (v .releasing) (v .some) _ (v .enters) (omega (arith, c .before .before .before .before .before .if1 .left)) (c .before .before .before .before .before .before .before .before .before .pre .1) (c .before .before .before .top-level .result) (c .before .before .before .top-level .ensures .0) .3, sizes (v .drawn .standing .job) .tasks-most)
+    let pre = c .before .before .before .before .before .before .before .before .before .pre in
+    let if1 = c .before .before .before .before .before .if1 in
+    let top-level = c .before .before .before .top-level in
+    let v = pre .0 .3 in
+    omega (arith, release-puts (v .drawn) (v .releasing) (v .some) _ (v .enters) (omega (arith, if1 .left)) (pre .1) (top-level .result) (top-level .ensures .0) .3, sizes (v .drawn .standing .job) .tasks-most)
 
 put-in-requires : tie.Need-put-in-requires
 put-in-requires c κs =
-    let v = c .before .before .before .before .before .before .before .before .before .pre .0 .3 in
-    release-puts (v .drawn) (v .releasing) (v .some) _ (v .enters) (omega (arith, c .before .before .before .before .before .if1 .left)) (c .before .before .before .before .before .before .before .before .before .pre .1) (c .before .before .before .top-level .result) (c .before .before .before .top-level .ensures .0)
+    let pre = c .before .before .before .before .before .before .before .before .before .pre in
+    let if1 = c .before .before .before .before .before .if1 in
+    let top-level = c .before .before .before .top-level in
+    let v = pre .0 .3 in
+    release-puts (v .drawn) (v .releasing) (v .some) _ (v .enters) (omega (arith, if1 .left)) (pre .1) (top-level .result) (top-level .ensures .0)
 
 add-result : tie.Need-add-result
-add-result c = let v = c .before .before .before .before .before .before .before .before .before .before .before .before .pre .0 .3 in omega (arith, list-few (v .drawn) (v .releasing) (c .before .before .before .before .before .before .before .before .before .before .before .before .pre .1))
+add-result c =
+    let pre = c .before .before .before .before .before .before .before .before .before .before .before .before .pre in
+    let v = pre .0 .3 in omega (arith, list-few (v .drawn) (v .releasing) (pre .1))
 
 same-length-2 : tie.Need-same-length-2
 same-length-2 c = search needs
@@ -96,10 +108,13 @@ same-length-3 c = search needs
 
 returns-2 : tie.Need-returns-2
 returns-2 c =
-    let v = c .before .before .before .before .before .before .before .before .before .before .before .before .pre .0 .3 in
-    let o = c .before .before .before .before .before .before .before .before .if1 .left in (
-      λ d i k v. release-free (v .drawn) (v .releasing) (v .some) _ (v .enters) (omega (arith, o)) (c .before .before .before .before .before .before .top-level .result) (c .before .before .before .before .before .before .top-level .ensures .0),
-      list-free (v .drawn) (v .releasing) (v .some) _ (v .enters) (c .before .before .before .before .before .before .before .before .before .before .before .before .pre .1) (omega (arith, o)) _ (c .before .before .put-in .ensures .0) (c .before .before .put-in .ensures .1 .1),
+    let pre = c .before .before .before .before .before .before .before .before .before .before .before .before .pre in
+    let if1 = c .before .before .before .before .before .before .before .before .if1 in
+    let top-level = c .before .before .before .before .before .before .top-level in
+    let v = pre .0 .3 in
+    let o = if1 .left in (
+      λ d i k v. release-free (v .drawn) (v .releasing) (v .some) _ (v .enters) (omega (arith, o)) (top-level .result) (top-level .ensures .0),
+      list-free (v .drawn) (v .releasing) (v .some) _ (v .enters) (pre .1) (omega (arith, o)) _ (c .before .before .put-in .ensures .0) (c .before .before .put-in .ensures .1 .1),
     )
 
 pub unblock-spec : {M : Type 1} → statement M

@@ -89,12 +89,15 @@ loop-less c = search needs
 
 loop-again : tie.Need-loop-again Inv-loop μ-loop
 loop-again c =
-    let d = c .before .before .before .before .before .before .before .args .mem .now in let l = c .before .before .before .loop in let x = c .largest-delay in let h = c .before .before .loop-test .taken in (
+    let args = c .before .before .before .before .before .before .before .args in
+    let pre = c .before .before .before .before .before .before .before .pre in
+    let loop = c .before .before .before .loop in
+    let d = args .mem .now in let l = loop in let x = c .largest-delay in let h = c .before .before .loop-test .taken in (
       search needs,
       search needs,
       search needs,
-      kept-set (farAt (c .before .before .before .before .before .before .before .args .rooms) + l .p) (x .result) (l .inv .3) (omega arith) (omega arith),
-      table-more (largestDelay (jobIn d)) (l .mem) (farAt (c .before .before .before .before .before .before .before .args .rooms)) (l .p) (x .result) (l .inv .4) (omega arith) (far-kept (c .before .before .before .before .before .before .before .pre) (l .inv .3) (l .p) (x .result) h (x .ensures)),
+      kept-set (farAt (args .rooms) + l .p) (x .result) (l .inv .3) (omega arith) (omega arith),
+      table-more (largestDelay (jobIn d)) (l .mem) (farAt (args .rooms)) (l .p) (x .result) (l .inv .4) (omega arith) (far-kept (pre) (l .inv .3) (l .p) (x .result) h (x .ensures)),
     )
 
 same-length : tie.Need-same-length Inv-loop μ-loop

@@ -34,18 +34,24 @@ shared-slice-read-k : tie.Need-shared-slice-read-k Inv-loop μ-loop
 shared-slice-read-k c = let s = sizes (c .before .before .before .pre .0 .1 .job) in omega (arith, s .size, s .tasks-most, c .before .before .before .pre .1)
 
 loop-holds : tie.Need-loop-holds Inv-loop μ-loop
-loop-holds c = (omega arith, gather-first (spreads (c .before .before .before .args .rooms) (c .before .before .before .args .mem .now)) (c .before .before .before .pre .0 .0) (c .before .before .before .args .t) (c .before .before .before .args .mem .now) (c .before .before .before .pre .0 .1) (c .before .before .before .pre .1))
+loop-holds c =
+    let args = c .before .before .before .args in
+    let pre = c .before .before .before .pre in
+    (omega arith, gather-first (spreads (args .rooms) (args .mem .now)) (pre .0 .0) (args .t) (args .mem .now) (pre .0 .1) (pre .1))
 
 entering-requires : tie.Need-entering-requires Inv-loop μ-loop
 entering-requires c κs =
+    let pre = c .before .before .before .before .before .pre in
+    let args = c .before .before .before .before .before .args in
+    let edges-at = c .before .before .before .edges-at in
     let g = c .before .loop .inv .1 in
     let h = c .loop-test .taken in
     record {
-      job = c .before .before .before .before .before .pre .0 .1 .job;
-      place = c .before .before .before .edges-at .ensures;
+      job = pre .0 .1 .job;
+      place = edges-at .ensures;
       some = h;
       most = g .most;
-      feeds = gather-edge (spreads (c .before .before .before .before .before .args .rooms) (c .before .before .before .before .before .args .mem .now)) (c .before .before .before .before .before .pre .0 .0) (c .before .before .before .before .before .args .t) (c .before .before .before .before .before .args .mem .now) (c .before .before .before .before .before .pre .0 .1) g h (c .before .before .before .before .before .pre .2);
+      feeds = gather-edge (spreads (args .rooms) (args .mem .now)) (pre .0 .0) (args .t) (args .mem .now) (pre .0 .1) g h (pre .2);
     }
 
 cast-spread : tie.Need-cast-spread Inv-loop μ-loop
@@ -53,54 +59,89 @@ cast-spread c = search needs
 
 spread-requires : tie.Need-spread-requires Inv-loop μ-loop
 spread-requires c κs =
-    let f = gather-edge (spreads (c .before .before .before .before .before .before .before .args .rooms) (c .before .before .before .before .before .before .before .args .mem .now)) (c .before .before .before .before .before .before .before .pre .0 .0) (c .before .before .before .before .before .before .before .args .t) (c .before .before .before .before .before .before .before .args .mem .now) (c .before .before .before .before .before .before .before .pre .0 .1) (c .before .before .before .loop .inv .1) (c .before .before .loop-test .taken) (c .before .before .before .before .before .before .before .pre .2) in
-    (c .before .before .before .before .before .before .before .pre .0 .1 .job, rw (c .before .entering .ensures .row-of, c .before .entering .ensures .volume-of) (feeds-sends (c .before .before .before .before .before .before .before .pre .0 .1) (c .before .before .before .before .before .before .before .pre .0 .2) (c .before .before .before .before .before .before .before .pre .3) f))
+    let args = c .before .before .before .before .before .before .before .args in
+    let pre = c .before .before .before .before .before .before .before .pre in
+    let loop = c .before .before .before .loop in
+    let f = gather-edge (spreads (args .rooms) (args .mem .now)) (pre .0 .0) (args .t) (args .mem .now) (pre .0 .1) (loop .inv .1) (c .before .before .loop-test .taken) (pre .2) in
+    (pre .0 .1 .job, rw (c .before .entering .ensures .row-of, c .before .entering .ensures .volume-of) (feeds-sends (pre .0 .1) (pre .0 .2) (pre .3) f))
 
 loop-less : tie.Need-loop-less Inv-loop μ-loop
 loop-less c =
-    rw (c .before .before .before .entering .ensures .next-of) (gather-falls (spreads (c .before .before .before .before .before .before .before .before .before .args .rooms) (c .before .before .before .before .before .before .before .before .before .args .mem .now)) (c .before .before .before .before .before .before .before .before .before .pre .0 .0) (c .before .before .before .before .before .before .before .before .before .args .t) (c .before .before .before .before .before .before .before .before .before .args .mem .now) (c .before .before .before .before .before .before .before .before .before .pre .0 .1) (c .before .before .before .before .before .loop .inv .1) (c .before .before .before .before .loop-test .taken))
+    let args = c .before .before .before .before .before .before .before .before .before .args in
+    let pre = c .before .before .before .before .before .before .before .before .before .pre in
+    let loop = c .before .before .before .before .before .loop in
+    let loop-test = c .before .before .before .before .loop-test in
+    let entering = c .before .before .before .entering in
+    rw (entering .ensures .next-of) (gather-falls (spreads (args .rooms) (args .mem .now)) (pre .0 .0) (args .t) (args .mem .now) (pre .0 .1) (loop .inv .1) (loop-test .taken))
 
 loop-again : tie.Need-loop-again Inv-loop μ-loop
 loop-again c =
-    let l = c .before .before .before .before .before .loop in
+    let args = c .before .before .before .before .before .before .before .before .before .args in
+    let pre = c .before .before .before .before .before .before .before .before .before .pre in
+    let loop = c .before .before .before .before .before .loop in
+    let loop-test = c .before .before .before .before .loop-test in
+    let entering = c .before .before .before .entering in
+    let l = loop in
     let y = c .before .spread .result in
     let (f, g, h) = top-later (l .x) y (l .inv .0) (c .before .spread .ensures .1) in (
       c .before .spread .ensures .1,
-      rw (c .before .before .before .entering .ensures .next-of) (gather-next (spreads (c .before .before .before .before .before .before .before .before .before .args .rooms) (c .before .before .before .before .before .before .before .before .before .args .mem .now)) (c .before .before .before .before .before .before .before .before .before .pre .0 .0) (c .before .before .before .before .before .before .before .before .before .args .t) (c .before .before .before .before .before .before .before .before .before .args .mem .now) (c .before .before .before .before .before .before .before .before .before .pre .0 .1) (c .before .before .before .before .before .loop .inv .1) (c .before .before .before .before .loop-test .taken) (timeIn y)
-          (h (omega (arith, c .if1 .taken)) ∙ ap (λ (z : Time). later z (timeIn (l .x))) (sym f ∙ rw (c .before .before .before .entering .ensures .row-of, c .before .before .before .entering .ensures .volume-of) at (c .before .spread .ensures .0)))),
+      rw (entering .ensures .next-of) (gather-next (spreads (args .rooms) (args .mem .now)) (pre .0 .0) (args .t) (args .mem .now) (pre .0 .1) (loop .inv .1) (loop-test .taken) (timeIn y)
+          (h (omega (arith, c .if1 .taken)) ∙ ap (λ (z : Time). later z (timeIn (l .x))) (sym f ∙ rw (entering .ensures .row-of, entering .ensures .volume-of) at (c .before .spread .ensures .0)))),
     )
 
 loop-less-2 : tie.Need-loop-less-2 Inv-loop μ-loop
 loop-less-2 c =
-    rw (c .before .before .before .entering .ensures .next-of) (gather-falls (spreads (c .before .before .before .before .before .before .before .before .before .args .rooms) (c .before .before .before .before .before .before .before .before .before .args .mem .now)) (c .before .before .before .before .before .before .before .before .before .pre .0 .0) (c .before .before .before .before .before .before .before .before .before .args .t) (c .before .before .before .before .before .before .before .before .before .args .mem .now) (c .before .before .before .before .before .before .before .before .before .pre .0 .1) (c .before .before .before .before .before .loop .inv .1) (c .before .before .before .before .loop-test .taken))
+    let args = c .before .before .before .before .before .before .before .before .before .args in
+    let pre = c .before .before .before .before .before .before .before .before .before .pre in
+    let loop = c .before .before .before .before .before .loop in
+    let loop-test = c .before .before .before .before .loop-test in
+    let entering = c .before .before .before .entering in
+    rw (entering .ensures .next-of) (gather-falls (spreads (args .rooms) (args .mem .now)) (pre .0 .0) (args .t) (args .mem .now) (pre .0 .1) (loop .inv .1) (loop-test .taken))
 
 loop-again-2 : tie.Need-loop-again-2 Inv-loop μ-loop
 loop-again-2 c =
-    let l = c .before .before .before .before .before .loop in
+    let args = c .before .before .before .before .before .before .before .before .before .args in
+    let pre = c .before .before .before .before .before .before .before .before .before .pre in
+    let loop = c .before .before .before .before .before .loop in
+    let loop-test = c .before .before .before .before .loop-test in
+    let entering = c .before .before .before .entering in
+    let l = loop in
     let y = c .before .spread .result in
     let (f, g, h) = top-later (l .x) y (l .inv .0) (c .before .spread .ensures .1) in (
       l .inv .0,
-      rw (c .before .before .before .entering .ensures .next-of) (gather-next (spreads (c .before .before .before .before .before .before .before .before .before .args .rooms) (c .before .before .before .before .before .before .before .before .before .args .mem .now)) (c .before .before .before .before .before .before .before .before .before .pre .0 .0) (c .before .before .before .before .before .before .before .before .before .args .t) (c .before .before .before .before .before .before .before .before .before .args .mem .now) (c .before .before .before .before .before .before .before .before .before .pre .0 .1) (c .before .before .before .before .before .loop .inv .1) (c .before .before .before .before .loop-test .taken) (timeIn (l .x))
-          (g (omega (arith, c .if1 .left)) ∙ ap (λ (z : Time). later z (timeIn (l .x))) (sym f ∙ rw (c .before .before .before .entering .ensures .row-of, c .before .before .before .entering .ensures .volume-of) at (c .before .spread .ensures .0)))),
+      rw (entering .ensures .next-of) (gather-next (spreads (args .rooms) (args .mem .now)) (pre .0 .0) (args .t) (args .mem .now) (pre .0 .1) (loop .inv .1) (loop-test .taken) (timeIn (l .x))
+          (g (omega (arith, c .if1 .left)) ∙ ap (λ (z : Time). later z (timeIn (l .x))) (sym f ∙ rw (entering .ensures .row-of, entering .ensures .volume-of) at (c .before .spread .ensures .0)))),
     )
 
 shared-slice-read-m : tie.Need-shared-slice-read-m Inv-loop μ-loop
 shared-slice-read-m c = let s = sizes (c .before .before .before .before .before .before .pre .0 .1 .job) in omega (arith, s .size, s .tasks-most, c .before .before .before .before .before .before .pre .1)
 
 returns : tie.Need-returns Inv-loop μ-loop
-returns c = let l = c .before .before .before .loop in (top-one (c .before .before .before .before .before .before .before .pre .0 .0) (c .before .before .before .before .before .before .before .pre .0 .1) (l .inv .1) (omega arith) (l .inv .0) (c .if2 .taken), omega (arith, l .inv .0))
+returns c =
+    let pre = c .before .before .before .before .before .before .before .pre in
+    let loop = c .before .before .before .loop in
+    let l = loop in (top-one (pre .0 .0) (pre .0 .1) (l .inv .1) (omega arith) (l .inv .0) (c .if2 .taken), omega (arith, l .inv .0))
 
 sub-result : tie.Need-sub-result Inv-loop μ-loop
 sub-result c = omega (arith, sizes (c .before .before .before .before .before .before .before .pre .0 .1 .job) .some-processor)
 
 mul-result : tie.Need-mul-result Inv-loop μ-loop
-mul-result c = let l = c .before .before .before .loop in omega (arith, scale-most (c .before .before .before .before .before .before .before .pre .0 .0) (c .before .before .before .before .before .before .before .pre .0 .1) (l .inv .1) (omega arith) (l .inv .0))
+mul-result c =
+    let pre = c .before .before .before .before .before .before .before .pre in
+    let loop = c .before .before .before .loop in
+    let l = loop in omega (arith, scale-most (pre .0 .0) (pre .0 .1) (l .inv .1) (omega arith) (l .inv .0))
 
 mul-result-2 : tie.Need-mul-result-2 Inv-loop μ-loop
-mul-result-2 c = let l = c .before .before .before .loop in omega (arith, top-most (c .before .before .before .before .before .before .before .pre .0 .0) (c .before .before .before .before .before .before .before .pre .0 .1) (l .inv .1) (omega arith) (l .inv .0))
+mul-result-2 c =
+    let pre = c .before .before .before .before .before .before .before .pre in
+    let loop = c .before .before .before .loop in
+    let l = loop in omega (arith, top-most (pre .0 .0) (pre .0 .1) (l .inv .1) (omega arith) (l .inv .0))
 
 returns-2 : tie.Need-returns-2 Inv-loop μ-loop
-returns-2 c = let l = c .before .before .before .loop in (top-scaled (c .before .before .before .before .before .before .before .pre .0 .0) (c .before .before .before .before .before .before .before .pre .0 .1) (l .inv .1) (omega arith) (l .inv .0) (c .if2 .left), top-most (c .before .before .before .before .before .before .before .pre .0 .0) (c .before .before .before .before .before .before .before .pre .0 .1) (l .inv .1) (omega arith) (l .inv .0))
+returns-2 c =
+    let pre = c .before .before .before .before .before .before .before .pre in
+    let loop = c .before .before .before .loop in
+    let l = loop in (top-scaled (pre .0 .0) (pre .0 .1) (l .inv .1) (omega arith) (l .inv .0) (c .if2 .left), top-most (pre .0 .0) (pre .0 .1) (l .inv .1) (omega arith) (l .inv .0))
 
 pub top-level-spec : {M : Type 1} → statement M
 top-level-spec =

@@ -6,7 +6,7 @@ use Rattle.definitions.specs.Lists.{nth}
 use Rattle.ticks.specs.Cells.{neverCell}
 use Rattle.jobs.proofs.Held.{sizes}
 use Rattle.plans.specs.Lines.{rowOf}
-use Rattle.replicas.proofs.TwiceLaws.{part-length, part-on, part-early}
+use Rattle.replicas.proofs.TwiceLaws.{cells-count, cells-on, cells-early}
 use Rattle.rounds.proofs.EndLaws.{cells-of-task}
 use Rattle.rounds.proofs.FirstLaws.{first-seen}
 use Rattle.rounds.proofs.replaying.first_finish.Statement.{statement}
@@ -68,12 +68,15 @@ first-finish-requires c κs = search needs
 
 returns : tie.Need-returns
 returns c =
-    let m = c .before .before .before .before .before .args .mem .now in
-    let (_, b, d) = cells-of-task (c .before .before .before .before .before .pre .0) (c .before .before .before .before .before .args .t) (c .before .before .before .before .before .pre .2) in
-    let r = rowOf (c .before .before .before .before .before .args .rooms) (c .before .before .before .before .before .args .t) m in
-    let small : (i : ℕ) → nth m i ≤ neverCell = λ i. omega (arith, c .before .before .before .before .shared-slice-known .given i) in
-    let e = part-length m r (nth m 3 + 1) (omega (arith, b, d)) in
-    let f = first-seen (c .before .before .before .before .before .pre .0) (c .before .before .before .before .before .pre .1) (c .before .before .before .before .before .args .t) (c .before .before .before .before .before .pre .2) small _ (part-on m r (nth m 3 + 1) (omega (arith, b, d))) (part-early m r (nth m 3 + 1) (omega (arith, b, d))) _ e in
+    let args = c .before .before .before .before .before .args in
+    let pre = c .before .before .before .before .before .pre in
+    let shared-slice-known = c .before .before .before .before .shared-slice-known in
+    let m = args .mem .now in
+    let (_, b, d) = cells-of-task (pre .0) (args .t) (pre .2) in
+    let r = rowOf (args .rooms) (args .t) m in
+    let small : (i : ℕ) → nth m i ≤ neverCell = λ i. omega (arith, shared-slice-known .given i) in
+    let e = cells-count m r (nth m 3 + 1) (omega (arith, b, d)) in
+    let f = first-seen (pre .0) (pre .1) (args .t) (pre .2) small _ (cells-on m r (nth m 3 + 1) (omega (arith, b, d))) (cells-early m r (nth m 3 + 1) (omega (arith, b, d))) _ e in
     rw (c .first-finish .ensures .0, c .first-finish .ensures .1) f
 
 pub first-finish-spec : {M : Type 1} → statement M

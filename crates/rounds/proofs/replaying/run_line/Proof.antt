@@ -26,7 +26,8 @@ runs c = let z = held c in row-below z (nth (c .args .mem .now) (rowAt (c .args 
 abbrev start : tie.In-loop Inv-loop μ-loop → tie.Start Inv-loop μ-loop
 start c = c .before .before .before .before .before .before .before .before .before
 
-step : (c : tie.In-loop Inv-loop μ-loop) → LineStep (start c .args .rooms) (nth (start c .args .mem .now) (rowAt (start c .args .rooms) (start c .args .k))) (nth (c .before .loop .mem) (rowAt (start c .args .rooms) (start c .args .k) + (1 + 3 * c .before .loop .c))) (c .before .loop .after .at) (start c .args .mem .now) (c .before .loop .mem)
+step : (c : tie.In-loop Inv-loop μ-loop) → LineStep (start c .args .rooms) (nth (start c .args .mem .now) (rowAt (start c .args .rooms) (start c .args .k)))
+    (nth (c .before .loop .mem) (rowAt (start c .args .rooms) (start c .args .k) + (1 + 3 * c .before .loop .c))) (c .before .loop .after .at) (start c .args .mem .now) (c .before .loop .mem)
 step c = line-step (start c .args .k) (c .before .loop .c) (c .before .loop .inv .1) (start c .pre .1 .standing) (start c .pre .2) (start c .pre .3) (c .loop-test .taken)
 
 mul-rows : tie.Need-mul-rows Inv-loop μ-loop
@@ -72,7 +73,10 @@ first-data-requires c κs =
     ((_, p .1 .standing), p .0, p .1 .standing .task-of (a .k) (p .2), line-fed-short (a .k) (p .1) (p .2) (p .3))
 
 loop-holds : tie.Need-loop-holds Inv-loop μ-loop
-loop-holds c = (search needs, line-first (c .before .before .before .before .before .before .before .args .k) (c .before .before .before .before .before .before .before .args .stops .now) (c .before .before .before .before .before .before .before .pre .1))
+loop-holds c =
+    let args = c .before .before .before .before .before .before .before .args in
+    let pre = c .before .before .before .before .before .before .before .pre in
+    (search needs, line-first (args .k) (args .stops .now) (pre .1))
 
 mul-p : tie.Need-mul-p Inv-loop μ-loop
 mul-p c = omega (arith, c .loop-test .taken, held (c .before .before .before .before .before .before .before .before .before) .losses-most)
@@ -108,7 +112,11 @@ mul-finish-of-3 : tie.Need-mul-finish-of-3 Inv-loop μ-loop
 mul-finish-of-3 c = omega (arith, step (c .before .before) .run-below)
 
 slice-read-finish-of : tie.Need-slice-read-finish-of Inv-loop μ-loop
-slice-read-finish-of c = let z = held (c .before .before .before .before .before .before .before .before .before .before .before .before) in let y = c .before .before .before .before .loop .inv .1 .retimed .outside .size in omega (arith, step (c .before .before .before) .run-below)
+slice-read-finish-of c =
+    let loop = c .before .before .before .before .loop in
+    let z = held (c .before .before .before .before .before .before .before .before .before .before .before .before) in
+    let y = loop .inv .1 .retimed .outside .size in
+    omega (arith, step (c .before .before .before) .run-below)
 
 finish-of-requires : tie.Need-finish-of-requires Inv-loop μ-loop
 finish-of-requires c κs =
@@ -125,10 +133,14 @@ unless-stopped-requires : tie.Need-unless-stopped-requires Inv-loop μ-loop
 unless-stopped-requires c κs = search needs
 
 mul-mem : tie.Need-mul-mem Inv-loop μ-loop
-mul-mem c = omega (arith, c .before .before .before .before .before .before .loop-test .taken, held (c .before .before .before .before .before .before .before .before .before .before .before .before .before .before .before) .losses-most)
+mul-mem c =
+    let loop-test = c .before .before .before .before .before .before .loop-test in
+    omega (arith, loop-test .taken, held (c .before .before .before .before .before .before .before .before .before .before .before .before .before .before .before) .losses-most)
 
 add-mem : tie.Need-add-mem Inv-loop μ-loop
-add-mem c = omega (arith, c .before .before .before .before .before .before .loop-test .taken, held (c .before .before .before .before .before .before .before .before .before .before .before .before .before .before .before) .losses-most)
+add-mem c =
+    let loop-test = c .before .before .before .before .before .before .loop-test in
+    omega (arith, loop-test .taken, held (c .before .before .before .before .before .before .before .before .before .before .before .before .before .before .before) .losses-most)
 
 add-mem-2 : tie.Need-add-mem-2 Inv-loop μ-loop
 add-mem-2 c = let z = held (c .before .before .before .before .before .before .before .before .before .before .before .before .before .before .before) in omega arith
@@ -137,31 +149,47 @@ mul-mem-2 : tie.Need-mul-mem-2 Inv-loop μ-loop
 mul-mem-2 c = let z = held (c .before .before .before .before .before .before .before .before .before .before .before .before .before .before .before) in omega arith
 
 slice-write-mem : tie.Need-slice-write-mem Inv-loop μ-loop
-slice-write-mem c = let z = held (c .before .before .before .before .before .before .before .before .before .before .before .before .before .before .before) in let y = c .before .before .before .before .before .before .before .loop .inv .1 .retimed .outside .size in omega arith
+slice-write-mem c =
+    let loop = c .before .before .before .before .before .before .before .loop in
+    let z = held (c .before .before .before .before .before .before .before .before .before .before .before .before .before .before .before) in let y = loop .inv .1 .retimed .outside .size in omega arith
 
 advance-requires : tie.Need-advance-requires Inv-loop μ-loop
 advance-requires c κs = search needs
 
 add-c : tie.Need-add-c Inv-loop μ-loop
-add-c c = omega (arith, c .before .before .before .before .before .before .before .loop-test .taken, held (c .before .before .before .before .before .before .before .before .before .before .before .before .before .before .before .before) .losses-most)
+add-c c =
+    let loop-test = c .before .before .before .before .before .before .before .loop-test in
+    omega (arith, loop-test .taken, held (c .before .before .before .before .before .before .before .before .before .before .before .before .before .before .before .before) .losses-most)
 
 loop-less : tie.Need-loop-less Inv-loop μ-loop
 loop-less c = search needs
 
 loop-again : tie.Need-loop-again Inv-loop μ-loop
 loop-again c =
-    let l = c .before .before .before .before .before .before .before .before .loop in
-    let p = c .before .before .before .before .before .before .before .before .before .before .before .before .before .before .before .before .pre in
-    let supplied = nth (c .before .before .before .before .before .before .before .before .before .first-data .result) (nth (l .mem) (rowAt (c .before .before .before .before .before .before .before .before .before .before .before .before .before .before .before .before .args .rooms) (c .before .before .before .before .before .before .before .before .before .before .before .before .before .before .before .before .args .k) + (1 + 3 * l .c))) in (
+    let pre = c .before .before .before .before .before .before .before .before .before .before .before .before .before .before .before .before .pre in
+    let args = c .before .before .before .before .before .before .before .before .before .before .before .before .before .before .before .before .args in
+    let first-data = c .before .before .before .before .before .before .before .before .before .first-data in
+    let loop = c .before .before .before .before .before .before .before .before .loop in
+    let loop-test = c .before .before .before .before .before .before .before .loop-test in
+    let finish-of = c .before .before .before .finish-of in
+    let l = loop in
+    let p = pre in
+    let supplied = nth (first-data .result) (nth (l .mem) (rowAt (args .rooms) (args .k) + (1 + 3 * l .c))) in (
       search needs,
-      rw (c .advance .ensures, lt-ltb _ 16 (step (c .before .before .before .before .before .before .before) .below)) (line-next (c .before .before .before .before .before .before .before .before .before .before .before .before .before .before .before .before .args .k) (l .c) (l .inv .1) (p .1 .standing) (p .2) (p .3) (c .before .before .before .before .before .before .before .loop-test .taken) supplied (c .before .before .before .finish-of .result) (c .before .unless-stopped .result) (c .before .before .before .before .before .before .before .before .before .first-data .ensures .1 _ (step (c .before .before .before .before .before .before .before) .processor) .0) (c .before .before .before .finish-of .ensures .0) (c .before .unless-stopped .ensures .0) (c .before .unless-stopped .ensures .1)),
+      rw (c .advance .ensures, lt-ltb _ 16 (step (c .before .before .before .before .before .before .before) .below))
+          (line-next (args .k) (l .c) (l .inv .1) (p .1 .standing) (p .2) (p .3) (loop-test .taken) supplied (finish-of .result) (c .before .unless-stopped .result)
+          (first-data .ensures .1 _ (step (c .before .before .before .before .before .before .before) .processor) .0) (finish-of .ensures .0) (c .before .unless-stopped .ensures .0)
+          (c .before .unless-stopped .ensures .1)),
     )
 
 same-length : tie.Need-same-length Inv-loop μ-loop
 same-length c = c .before .loop .inv .1 .retimed .outside .size
 
 returns : tie.Need-returns Inv-loop μ-loop
-returns c = let l = c .before .loop in let p = c .before .before .before .before .before .before .before .before .before .pre in line-done (c .before .before .before .before .before .before .before .before .before .args .k) (l .c) (l .inv .1) (p .1 .standing) (p .2) (p .3) (omega arith)
+returns c =
+    let pre = c .before .before .before .before .before .before .before .before .before .pre in
+    let args = c .before .before .before .before .before .before .before .before .before .args in
+    let l = c .before .loop in let p = pre in line-done (args .k) (l .c) (l .inv .1) (p .1 .standing) (p .2) (p .3) (omega arith)
 
 pub run-line-spec : {M : Type 1} → statement M
 run-line-spec =

@@ -40,14 +40,19 @@ loop-less c = search needs
 
 loop-again : tie.Need-loop-again Inv-loop μ-loop
 loop-again c =
-    let l = c .before .before .before .before .before .before .loop in
-    (search needs, round-next (l .k) (l .inv .1) (c .before .before .before .before .before .before .before .before .before .before .before .before .before .pre .0) (c .before .before .before .before .before .before .before .before .before .before .before .before .before .pre .1) (c .before .before .before .before .before .loop-test .taken) (c .before .before .run-line .ensures .0) (c .before .before .run-line .ensures .1))
+    let pre = c .before .before .before .before .before .before .before .before .before .before .before .before .before .pre in
+    let loop = c .before .before .before .before .before .before .loop in
+    let loop-test = c .before .before .before .before .before .loop-test in
+    let l = loop in
+    (search needs, round-next (l .k) (l .inv .1) (pre .0) (pre .1) (loop-test .taken) (c .before .before .run-line .ensures .0) (c .before .before .run-line .ensures .1))
 
 same-length : tie.Need-same-length Inv-loop μ-loop
 same-length c = c .before .loop .inv .1 .retimed .outside .size
 
 returns : tie.Need-returns Inv-loop μ-loop
-returns c = let l = c .before .loop in round-done (l .k) (l .inv .1) (c .before .before .before .before .before .before .before .before .pre .0) (c .before .before .before .before .before .before .before .before .pre .1) (omega arith)
+returns c =
+    let pre = c .before .before .before .before .before .before .before .before .pre in
+    let l = c .before .loop in round-done (l .k) (l .inv .1) (pre .0) (pre .1) (omega arith)
 
 pub run-round-spec : {M : Type 1} → statement M
 run-round-spec =

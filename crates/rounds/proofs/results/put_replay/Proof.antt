@@ -24,15 +24,24 @@ slice-aggregate-run-round : tie.Need-slice-aggregate-run-round
 slice-aggregate-run-round c = search needs
 
 run-round-requires : tie.Need-run-round-requires
-run-round-requires c κs = (c .before .before .before .before .before .before .before .before .before .before .before .pre .0 .standing, c .before .before .before .before .before .before .before .before .before .before .before .pre .0 .facts .ordered, c .before .before .before .before .before .load-stops .kept .1 .1 .0)
+run-round-requires c κs =
+    let pre = c .before .before .before .before .before .before .before .before .before .before .before .pre in
+    let load-stops = c .before .before .before .before .before .load-stops in
+    (pre .0 .standing, pre .0 .facts .ordered, load-stops .kept .1 .1 .0)
 
 replay-fits-requires : tie.Need-replay-fits-requires
-replay-fits-requires c κs = run-asked (c .before .before .before .before .before .before .before .before .before .before .before .before .before .before .before .pre .0) (c .before .before .before .run-round .ensures) (c .before .before .before .before .before .before .before .before .before .before .before .before .before .before .before .pre .1)
+replay-fits-requires c κs =
+    let pre = c .before .before .before .before .before .before .before .before .before .before .before .before .before .before .before .pre in
+    let run-round = c .before .before .before .run-round in
+    run-asked (pre .0) (run-round .ensures) (pre .1)
 
 write-replay-requires : tie.Need-write-replay-requires
 write-replay-requires c κs =
-    let a = run-asked (c .before .before .before .before .before .before .before .before .before .before .before .before .before .before .before .before .before .before .before .pre .0) (c .before .before .before .before .before .before .before .run-round .ensures) (c .before .before .before .before .before .before .before .before .before .before .before .before .before .before .before .before .before .before .before .pre .1) in
-    (a .0, a .1, a .2, leb-true _ _ (sym (c .before .before .before .replay-fits .ensures) ∙ c .before .before .if1 .taken))
+    let pre = c .before .before .before .before .before .before .before .before .before .before .before .before .before .before .before .before .before .before .before .pre in
+    let run-round = c .before .before .before .before .before .before .before .run-round in
+    let replay-fits = c .before .before .before .replay-fits in
+    let a = run-asked (pre .0) (run-round .ensures) (pre .1) in
+    (a .0, a .1, a .2, leb-true _ _ (sym (replay-fits .ensures) ∙ c .before .before .if1 .taken))
 
 same-length : tie.Need-same-length
 same-length c = search needs
@@ -42,9 +51,16 @@ same-length-2 c = search needs
 
 returns : tie.Need-returns
 returns c =
-    let d = c .before .before .before .before .before .before .before .before .before .before .before .before .before .before .before .before .before .before .before .before .before .before .args .mem .now in let w = c .before .before .write-replay in
-    run-done (c .before .before .before .before .before .before .before .before .before .before .before .before .before .before .before .before .before .before .before .before .before .before .pre .0) (c .before .before .before .before .before .before .before .before .before .before .run-round .ensures) (c .before .before .before .before .before .before .before .before .before .before .before .before .before .before .before .before .before .before .before .before .before .before .args .stops .now) (c .before .before .before .before .before .before .before .before .before .before .before .before .before .before .before .before .before .before .before .before .before .before .args .out .now) _ _ (c .before .before .before .before .before .before .before .before .before .before .before .before .before .before .before .before .load-stops .kept .1 .1 .0)
-    (rw (c .before .before .before .before .before .before .before .before .before .before .before .before .before .enum-told .given .1) at (c .before .before .before .before .before .before .before .before .before .before .before .before .before .before .before .before .load-stops .ensures (jobIn d) (processors-in d))) refl (leb-true _ _ (sym (c .before .before .before .before .before .before .replay-fits .ensures) ∙ c .before .before .before .before .before .if1 .taken))
+    let args = c .before .before .before .before .before .before .before .before .before .before .before .before .before .before .before .before .before .before .before .before .before .before .args in
+    let pre = c .before .before .before .before .before .before .before .before .before .before .before .before .before .before .before .before .before .before .before .before .before .before .pre in
+    let load-stops = c .before .before .before .before .before .before .before .before .before .before .before .before .before .before .before .before .load-stops in
+    let enum-told = c .before .before .before .before .before .before .before .before .before .before .before .before .before .enum-told in
+    let run-round = c .before .before .before .before .before .before .before .before .before .before .run-round in
+    let replay-fits = c .before .before .before .before .before .before .replay-fits in
+    let if1 = c .before .before .before .before .before .if1 in
+    let d = args .mem .now in let w = c .before .before .write-replay in
+    run-done (pre .0) (run-round .ensures) (args .stops .now) (args .out .now) _ _ (load-stops .kept .1 .1 .0)
+    (rw (enum-told .given .1) at (load-stops .ensures (jobIn d) (processors-in d))) refl (leb-true _ _ (sym (replay-fits .ensures) ∙ if1 .taken))
     (w .result) (w .last .0) (w .ensures .0) (w .ensures .1)
 
 enum-known-x : tie.Need-enum-known-x
@@ -55,14 +71,22 @@ same-length-3 c = search needs
 
 returns-2 : tie.Need-returns-2
 returns-2 c =
-    let d = c .before .before .before .before .before .before .before .before .before .before .before .before .before .before .before .before .before .args .mem .now in
-    run-short (c .before .before .before .before .before .before .before .before .before .before .before .before .before .before .before .before .before .pre .0) (c .before .before .before .before .before .run-round .ensures) (c .before .before .before .before .before .before .before .before .before .before .before .before .before .before .before .before .before .args .stops .now) (c .before .before .before .before .before .before .before .before .before .before .before .before .before .before .before .before .before .args .out .now) _ _ (c .before .before .before .before .before .before .before .before .before .before .before .load-stops .kept .1 .1 .0)
-    (rw (c .before .before .before .before .before .before .before .before .enum-told .given .1) at (c .before .before .before .before .before .before .before .before .before .before .before .load-stops .ensures (jobIn d) (processors-in d))) refl (leb-false _ _ (sym (c .before .replay-fits .ensures) ∙ c .if1 .left))
+    let args = c .before .before .before .before .before .before .before .before .before .before .before .before .before .before .before .before .before .args in
+    let pre = c .before .before .before .before .before .before .before .before .before .before .before .before .before .before .before .before .before .pre in
+    let load-stops = c .before .before .before .before .before .before .before .before .before .before .before .load-stops in
+    let enum-told = c .before .before .before .before .before .before .before .before .enum-told in
+    let run-round = c .before .before .before .before .before .run-round in
+    let d = args .mem .now in
+    run-short (pre .0) (run-round .ensures) (args .stops .now) (args .out .now) _ _ (load-stops .kept .1 .1 .0)
+    (rw (enum-told .given .1) at (load-stops .ensures (jobIn d) (processors-in d))) refl (leb-false _ _ (sym (c .before .replay-fits .ensures) ∙ c .if1 .left))
 
 returns-3 : tie.Need-returns-3
 returns-3 c =
-    let d = c .before .before .before .before .before .before .before .before .before .before .args .mem .now in
-    run-refused (c .before .before .before .before .before .before .before .before .before .before .args .rooms) d (c .before .before .before .before .load-stops .last .1 .1 .0) (c .before .before .before .before .before .before .before .before .before .before .args .stops .now) (c .before .before .before .before .before .before .before .before .before .before .args .out .now) _ (c .before .before .before .before .before .before .before .before .before .before .pre .0 .standing .job) (rw (c .before .x .given .1) at (c .before .before .before .before .load-stops .ensures (jobIn d) (processors-in d)))
+    let args = c .before .before .before .before .before .before .before .before .before .before .args in
+    let pre = c .before .before .before .before .before .before .before .before .before .before .pre in
+    let load-stops = c .before .before .before .before .load-stops in
+    let d = args .mem .now in
+    run-refused (args .rooms) d (load-stops .last .1 .1 .0) (args .stops .now) (args .out .now) _ (pre .0 .standing .job) (rw (c .before .x .given .1) at (load-stops .ensures (jobIn d) (processors-in d)))
 
 pub put-replay-spec : {M : Type 1} → statement M
 put-replay-spec =

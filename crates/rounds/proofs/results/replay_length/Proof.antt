@@ -54,7 +54,10 @@ end-length-requires : tie.Need-end-length-requires Inv-loop μ-loop
 end-length-requires c κs = search needs
 
 add-result : tie.Need-add-result Inv-loop μ-loop
-add-result c = omega (arith, c .before .before .before .loop .inv .0, c .before .before .before .loop .inv .1, c .end-length .ensures .1, sizes (c .before .before .before .before .before .before .pre .0 .job) .tasks-most .0)
+add-result c =
+    let pre = c .before .before .before .before .before .before .pre in
+    let loop = c .before .before .before .loop in
+    omega (arith, loop .inv .0, loop .inv .1, c .end-length .ensures .1, sizes (pre .0 .job) .tasks-most .0)
 
 returns : tie.Need-returns Inv-loop μ-loop
 returns c =

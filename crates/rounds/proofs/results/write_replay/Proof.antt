@@ -9,20 +9,29 @@ use Rattle.rounds.proofs.results.write_replay.Statement.{statement}
 use Rattle.rounds.proofs.results.write_replay.Tie as tie
 
 write-tasks-requires : tie.Need-write-tasks-requires
-write-tasks-requires c κs = (c .before .before .before .pre .0, c .before .before .before .pre .1, omega (arith, c .before .before .before .pre .3, tasks-within (c .before .before .before .args .rooms) (c .before .before .before .args .mem .now)))
+write-tasks-requires c κs =
+    let pre = c .before .before .before .pre in
+    let args = c .before .before .before .args in
+    (pre .0, pre .1, omega (arith, pre .3, tasks-within (args .rooms) (args .mem .now)))
 
 end-of-requires : tie.Need-end-of-requires
 end-of-requires c κs = (c .before .before .before .before .before .before .pre .0, c .before .before .before .before .before .before .pre .2)
 
 sub-write-end : tie.Need-sub-write-end
 sub-write-end c =
-    let w = c .before .before .before .write-tasks in
-    omega (arith, end-room (c .before .before .before .before .before .before .before .args .rooms) (c .before .before .before .before .before .before .before .args .mem .now) (c .end-of .result) (c .end-of .ensures) (c .before .before .before .before .before .before .before .args .out .now) (w .last .0) (w .result) (c .before .before .before .before .before .before .before .pre .3) (w .ensures .0) (w .ensures .1))
+    let args = c .before .before .before .before .before .before .before .args in
+    let pre = c .before .before .before .before .before .before .before .pre in
+    let write-tasks = c .before .before .before .write-tasks in
+    let w = write-tasks in
+    omega (arith, end-room (args .rooms) (args .mem .now) (c .end-of .result) (c .end-of .ensures) (args .out .now) (w .last .0) (w .result) (pre .3) (w .ensures .0) (w .ensures .1))
 
 part-write-end-start : tie.Need-part-write-end-start
 part-write-end-start c =
-    let w = c .before .before .before .write-tasks in
-    omega (arith, end-room (c .before .before .before .before .before .before .before .args .rooms) (c .before .before .before .before .before .before .before .args .mem .now) (c .end-of .result) (c .end-of .ensures) (c .before .before .before .before .before .before .before .args .out .now) (w .last .0) (w .result) (c .before .before .before .before .before .before .before .pre .3) (w .ensures .0) (w .ensures .1))
+    let args = c .before .before .before .before .before .before .before .args in
+    let pre = c .before .before .before .before .before .before .before .pre in
+    let write-tasks = c .before .before .before .write-tasks in
+    let w = write-tasks in
+    omega (arith, end-room (args .rooms) (args .mem .now) (c .end-of .result) (c .end-of .ensures) (args .out .now) (w .last .0) (w .result) (pre .3) (w .ensures .0) (w .ensures .1))
 
 part-write-end-end : tie.Need-part-write-end-end
 part-write-end-end c = search needs
@@ -32,10 +41,14 @@ write-end-requires c κs = search needs
 
 add-result : tie.Need-add-result
 add-result c =
-    let w = c .before .before .before .before .before .before .before .write-tasks in
+    let args = c .before .before .before .before .before .before .before .before .before .before .before .args in
+    let pre = c .before .before .before .before .before .before .before .before .before .before .before .pre in
+    let write-tasks = c .before .before .before .before .before .before .before .write-tasks in
+    let end-of = c .before .before .before .before .end-of in
+    let w = write-tasks in
     let e = c .before .before .write-end in
-    let r = end-room (c .before .before .before .before .before .before .before .before .before .before .before .args .rooms) (c .before .before .before .before .before .before .before .before .before .before .before .args .mem .now) (c .before .before .before .before .end-of .result) (c .before .before .before .before .end-of .ensures) (c .before .before .before .before .before .before .before .before .before .before .before .args .out .now) (w .last .0) (w .result) (c .before .before .before .before .before .before .before .before .before .before .before .pre .3) (w .ensures .0) (w .ensures .1) in
-    let p = part-written (w .last .0) (w .result) (endLine document01 (timeIn (c .before .before .before .before .end-of .result))) r (e .result) (e .last .0) (e .ensures .0) (e .ensures .1) .0 in
+    let r = end-room (args .rooms) (args .mem .now) (end-of .result) (end-of .ensures) (args .out .now) (w .last .0) (w .result) (pre .3) (w .ensures .0) (w .ensures .1) in
+    let p = part-written (w .last .0) (w .result) (endLine document01 (timeIn (end-of .result))) r (e .result) (e .last .0) (e .ensures .0) (e .ensures .1) .0 in
     omega (arith, p, r, w .kept .0)
 
 same-length : tie.Need-same-length
@@ -43,12 +56,19 @@ same-length c = search needs
 
 returns : tie.Need-returns
 returns c =
-    let a = c .before .before .before .before .before .before .before .before .before .before .before .args in
-    let w = c .before .before .before .before .before .before .before .write-tasks in
+    let args = c .before .before .before .before .before .before .before .before .before .before .before .args in
+    let pre = c .before .before .before .before .before .before .before .before .before .before .before .pre in
+    let write-tasks = c .before .before .before .before .before .before .before .write-tasks in
+    let end-of = c .before .before .before .before .end-of in
+    let a = args in
+    let w = write-tasks in
     let e = c .before .before .write-end in
-    let r = end-room (a .rooms) (a .mem .now) (c .before .before .before .before .end-of .result) (c .before .before .before .before .end-of .ensures) (a .out .now) (w .last .0) (w .result) (c .before .before .before .before .before .before .before .before .before .before .before .pre .3) (w .ensures .0) (w .ensures .1) in
-    let (p, y) = part-written (w .last .0) (w .result) (endLine document01 (timeIn (c .before .before .before .before .end-of .result))) r (e .result) (e .last .0) (e .ensures .0) (e .ensures .1) in
-    (omega (arith, p, w .ensures .0, replay-size (a .rooms) (a .mem .now) (c .before .before .before .before .end-of .result) (c .before .before .before .before .end-of .ensures)), replay-whole (a .rooms) (a .mem .now) (c .before .before .before .before .end-of .result) (c .before .before .before .before .end-of .ensures) (a .out .now) (w .last .0) (w .result) (c .before .before .before .before .before .before .before .before .before .before .before .pre .3) (w .ensures .0) (w .ensures .1) _ y)
+    let r = end-room (a .rooms) (a .mem .now) (end-of .result) (end-of .ensures) (a .out .now) (w .last .0) (w .result) (pre .3) (w .ensures .0) (w .ensures .1) in
+    let (p, y) = part-written (w .last .0) (w .result) (endLine document01 (timeIn (end-of .result))) r (e .result) (e .last .0) (e .ensures .0) (e .ensures .1) in (
+      omega (arith, p, w .ensures .0, replay-size (a .rooms) (a .mem .now) (end-of .result) (end-of .ensures)),
+      replay-whole (a .rooms) (a .mem .now) (end-of .result) (end-of .ensures)
+          (a .out .now) (w .last .0) (w .result) (pre .3) (w .ensures .0) (w .ensures .1) _ y,
+    )
 
 pub write-replay-spec : {M : Type 1} → statement M
 write-replay-spec =

@@ -30,10 +30,17 @@ loop-holds c =
 
 write-task-requires : tie.Need-write-task-requires Inv-loop μ-loop
 write-task-requires c κs =
-    let a = c .before .before .before .before .before .before .args in
+    let args = c .before .before .before .before .before .before .args in
+    let pre = c .before .before .before .before .before .before .pre in
+    let a = args in
     let m = a .mem .now in
-    let l = c .before .before .loop in
-    (c .before .before .before .before .before .before .pre .0, c .before .before .before .before .before .before .pre .1, c .before .loop-test .taken, line-room (λ i. taskLines (a .rooms) i m) (λ i. taskLine (a .rooms) i m) (nth m 0) (tasks-next (a .rooms) m) (a .out .now) 0 (omega (arith, c .before .before .before .before .before .before .pre .2)) (l .t) (c .before .loop-test .taken) (l .out) (l .at) (l .inv .1) (l .inv .2))
+    let l = c .before .before .loop in (
+      pre .0,
+      pre .1,
+      c .before .loop-test .taken,
+      line-room (λ i. taskLines (a .rooms) i m) (λ i. taskLine (a .rooms) i m) (nth m 0) (tasks-next (a .rooms) m) (a .out .now) 0
+          (omega (arith, pre .2)) (l .t) (c .before .loop-test .taken) (l .out) (l .at) (l .inv .1) (l .inv .2),
+    )
 
 add-t : tie.Need-add-t Inv-loop μ-loop
 add-t c = omega (arith, c .before .before .before .before .loop-test .taken, sizes (c .before .before .before .before .before .before .before .before .before .pre .0 .job) .tasks-most .0)
@@ -43,23 +50,32 @@ loop-less c = omega (arith, c .before .before .before .before .loop-test .taken)
 
 loop-again : tie.Need-loop-again Inv-loop μ-loop
 loop-again c =
-    let a = c .before .before .before .before .before .before .before .before .before .args in
+    let args = c .before .before .before .before .before .before .before .before .before .args in
+    let pre = c .before .before .before .before .before .before .before .before .before .pre in
+    let loop = c .before .before .before .before .before .loop in
+    let loop-test = c .before .before .before .before .loop-test in
+    let a = args in
     let m = a .mem .now in
-    let l = c .before .before .before .before .before .loop in
+    let l = loop in
     let w = c .before .before .write-task in
-    let r : 0 + length (taskLines (a .rooms) (nth m 0) m) ≤ length (a .out .now) = omega (arith, c .before .before .before .before .before .before .before .before .before .pre .2) in (
-      omega (arith, c .before .before .before .before .loop-test .taken),
-      line-place (λ i. taskLines (a .rooms) i m) (λ i. taskLine (a .rooms) i m) (nth m 0) (tasks-next (a .rooms) m) (a .out .now) 0 r (l .t) (c .before .before .before .before .loop-test .taken) (l .out) (l .at) (l .inv .1) (l .inv .2) (w .result) (w .ensures .0),
-      line-whole (λ i. taskLines (a .rooms) i m) (λ i. taskLine (a .rooms) i m) (nth m 0) (tasks-next (a .rooms) m) (a .out .now) 0 r (l .t) (c .before .before .before .before .loop-test .taken) (l .out) (l .at) (l .inv .1) (l .inv .2) (w .last .0) (w .ensures .1),
+    let r : 0 + length (taskLines (a .rooms) (nth m 0) m) ≤ length (a .out .now) = omega (arith, pre .2) in (
+      omega (arith, loop-test .taken),
+      line-place (λ i. taskLines (a .rooms) i m) (λ i. taskLine (a .rooms) i m) (nth m 0) (tasks-next (a .rooms) m) (a .out .now) 0 r (l .t) (loop-test .taken) (l .out) (l .at) (l .inv .1)
+          (l .inv .2) (w .result) (w .ensures .0),
+      line-whole (λ i. taskLines (a .rooms) i m) (λ i. taskLine (a .rooms) i m) (nth m 0) (tasks-next (a .rooms) m) (a .out .now) 0 r (l .t) (loop-test .taken) (l .out) (l .at) (l .inv .1)
+          (l .inv .2) (w .last .0) (w .ensures .1),
     )
 
 same-length : tie.Need-same-length Inv-loop μ-loop
 same-length c =
-    let a = c .before .before .before .before .before .args in
+    let args = c .before .before .before .before .before .args in
+    let pre = c .before .before .before .before .before .pre in
+    let a = args in
     let m = a .mem .now in
     let l = c .before .loop in
     let e : l .t ≡ nth m 0 = omega (arith, l .inv .0, c .loop-test .left) in
-    text-kept (λ i. taskLines (a .rooms) i m) (λ i. taskLine (a .rooms) i m) (nth m 0) (tasks-next (a .rooms) m) (a .out .now) 0 (omega (arith, c .before .before .before .before .before .pre .2)) (l .out) (l .inv .2 ∙ ap (λ (i : ℕ). over (a .out .now) 0 (taskLines (a .rooms) i m)) e)
+    text-kept (λ i. taskLines (a .rooms) i m) (λ i. taskLine (a .rooms) i m) (nth m 0) (tasks-next (a .rooms) m) (a .out .now) 0 (omega (arith, pre .2)) (l .out)
+    (l .inv .2 ∙ ap (λ (i : ℕ). over (a .out .now) 0 (taskLines (a .rooms) i m)) e)
 
 returns : tie.Need-returns Inv-loop μ-loop
 returns c =

@@ -31,33 +31,54 @@ loop-holds c = both-first (c .before .before .before .pre .0 .0) (c .before .bef
 
 entering-requires : tie.Need-entering-requires Inv-loop μ-loop
 entering-requires c κs =
+    let pre = c .before .before .before .before .before .pre in
+    let args = c .before .before .before .before .before .args in
+    let edges-at = c .before .before .before .edges-at in
     let g = c .before .loop .inv in
     let h = c .loop-test .taken in
     record {
-      job = c .before .before .before .before .before .pre .0 .1 .job;
-      place = c .before .before .before .edges-at .ensures;
+      job = pre .0 .1 .job;
+      place = edges-at .ensures;
       some = h;
       most = g .most;
-      feeds = both-edge (c .before .before .before .before .before .pre .0 .0) (c .before .before .before .before .before .args .t) (c .before .before .before .before .before .args .mem .now) (c .before .before .before .before .before .pre .0 .1) g h (c .before .before .before .before .before .pre .3) .0;
+      feeds = both-edge (pre .0 .0) (args .t) (args .mem .now) (pre .0 .1) g h (pre .3) .0;
     }
 
 both-arrivals-requires : tie.Need-both-arrivals-requires Inv-loop μ-loop
 both-arrivals-requires c κs =
-    let g = c .before .before .before .before .loop .inv in
+    let pre = c .before .before .before .before .before .before .before .before .pre in
+    let args = c .before .before .before .before .before .before .before .before .args in
+    let loop = c .before .before .before .before .loop in
+    let loop-test = c .before .before .before .loop-test in
+    let g = loop .inv in
     let e = c .before .before .entering .ensures in
-    let (f, b) = both-edge (c .before .before .before .before .before .before .before .before .pre .0 .0) (c .before .before .before .before .before .before .before .before .args .t) (c .before .before .before .before .before .before .before .before .args .mem .now) (c .before .before .before .before .before .before .before .before .pre .0 .1) g (c .before .before .before .loop-test .taken) (c .before .before .before .before .before .before .before .before .pre .3) in
-    ((_, c .before .before .before .before .before .before .before .before .pre .0 .1 .job), c .before .before .before .before .before .before .before .before .pre .1, rw (e .row-of) (f .row), omega (arith, e .within, sizes (c .before .before .before .before .before .before .before .before .pre .0 .1 .job) .size), rw (e .volume-of) (f .volume-most), rw (e .row-of) b, g .early-size, g .late-size)
+    let (f, b) = both-edge (pre .0 .0) (args .t) (args .mem .now) (pre .0 .1) g (loop-test .taken) (pre .3) in
+    ((_, pre .0 .1 .job), pre .1, rw (e .row-of) (f .row), omega (arith, e .within, sizes (pre .0 .1 .job) .size), rw (e .volume-of) (f .volume-most), rw (e .row-of) b, g .early-size, g .late-size)
 
 loop-less : tie.Need-loop-less Inv-loop μ-loop
-loop-less c = rw (c .before .before .before .entering .ensures .next-of) (both-falls (c .before .before .before .before .before .before .before .before .before .pre .0 .0) (c .before .before .before .before .before .before .before .before .before .args .t) (c .before .before .before .before .before .before .before .before .before .args .mem .now) (c .before .before .before .before .before .before .before .before .before .pre .0 .1) (c .before .before .before .before .before .loop .inv) (c .before .before .before .before .loop-test .taken))
+loop-less c =
+    let pre = c .before .before .before .before .before .before .before .before .before .pre in
+    let args = c .before .before .before .before .before .before .before .before .before .args in
+    let loop = c .before .before .before .before .before .loop in
+    let loop-test = c .before .before .before .before .loop-test in
+    let entering = c .before .before .before .entering in
+    rw (entering .ensures .next-of) (both-falls (pre .0 .0) (args .t) (args .mem .now) (pre .0 .1) (loop .inv) (loop-test .taken))
 
 loop-again : tie.Need-loop-again Inv-loop μ-loop
 loop-again c =
-    let e = c .before .before .before .entering .ensures in
-    rw (e .next-of) (both-next (c .before .before .before .before .before .before .before .before .before .pre .0 .0) (c .before .before .before .before .before .before .before .before .before .args .t) (c .before .before .before .before .before .before .before .before .before .args .mem .now) (c .before .before .before .before .before .before .before .before .before .pre .0 .1) (c .before .before .before .before .before .loop .inv) (c .before .before .before .before .loop-test .taken) _ _ (rw (e .row-of, e .volume-of) at (c .both-arrivals .ensures)))
+    let pre = c .before .before .before .before .before .before .before .before .before .pre in
+    let args = c .before .before .before .before .before .before .before .before .before .args in
+    let loop = c .before .before .before .before .before .loop in
+    let loop-test = c .before .before .before .before .loop-test in
+    let entering = c .before .before .before .entering in
+    let e = entering .ensures in
+    rw (e .next-of) (both-next (pre .0 .0) (args .t) (args .mem .now) (pre .0 .1) (loop .inv) (loop-test .taken) _ _ (rw (e .row-of, e .volume-of) at (c .both-arrivals .ensures)))
 
 returns : tie.Need-returns Inv-loop μ-loop
-returns c = both-done (c .before .before .before .before .before .pre .0 .0) (c .before .before .before .before .before .args .t) (c .before .before .before .before .before .args .mem .now) (c .before .before .before .before .before .pre .0 .1) (c .before .loop .inv) (omega arith)
+returns c =
+    let pre = c .before .before .before .before .before .pre in
+    let args = c .before .before .before .before .before .args in
+    both-done (pre .0 .0) (args .t) (args .mem .now) (pre .0 .1) (c .before .loop .inv) (omega arith)
 
 pub both-data-spec : {M : Type 1} → statement M
 both-data-spec =

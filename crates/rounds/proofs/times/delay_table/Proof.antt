@@ -60,7 +60,10 @@ shared-slice-read-delays : tie.Need-shared-slice-read-delays Inv-loop μ-loop
 shared-slice-read-delays c = let s = c .before .before .before .loop .inv .2 .1 in omega (arith, s .size, cell s (c .before .before .before .loop .i) (c .before .before .loop-test .taken) (c .before .if1 .taken))
 
 cast-delays : tie.Need-cast-delays Inv-loop μ-loop
-cast-delays c = let l = c .before .before .before .loop in omega (arith, delay-cell (c .before .before .before .before .before .before .pre .1) (l .i / 16) (l .i % 16) (omega (arith, c .before .before .loop-test .taken)) (c .before .if1 .taken))
+cast-delays c =
+    let pre = c .before .before .before .before .before .before .pre in
+    let loop = c .before .before .before .loop in
+    let l = loop in omega (arith, delay-cell (pre .1) (l .i / 16) (l .i % 16) (omega (arith, c .before .before .loop-test .taken)) (c .before .if1 .taken))
 
 mul-delays-3 : tie.Need-mul-delays-3 Inv-loop μ-loop
 mul-delays-3 c = search needs
@@ -76,9 +79,12 @@ loop-less c = search needs
 
 loop-again : tie.Need-loop-again Inv-loop μ-loop
 loop-again c =
-    let l = c .before .before .before .loop in
-    let d = c .before .before .before .before .before .before .args .mem .now in
-    (search needs, search needs, l .inv .2, filled-set (l .inv .3) (nth d (4 + (nth d 0 + l .i / 16) * (nth d 1 + 1) + (l .i % 16 + 1))) (omega arith) (delay-stored (c .before .before .before .before .before .before .pre .1) (l .i) (omega arith) (c .before .if1 .taken)))
+    let args = c .before .before .before .before .before .before .args in
+    let pre = c .before .before .before .before .before .before .pre in
+    let loop = c .before .before .before .loop in
+    let l = loop in
+    let d = args .mem .now in
+    (search needs, search needs, l .inv .2, filled-set (l .inv .3) (nth d (4 + (nth d 0 + l .i / 16) * (nth d 1 + 1) + (l .i % 16 + 1))) (omega arith) (delay-stored (pre .1) (l .i) (omega arith) (c .before .if1 .taken)))
 
 sub-i : tie.Need-sub-i Inv-loop μ-loop
 sub-i c = search needs

@@ -18,7 +18,8 @@ put-off-requires c κs =
 returns : tie.Need-returns
 returns c =
     let a = c .before .before .args in let h = c .before .before .pre .2 in
-    let s = small-one 5000000000 (c .before .chosen-of .result) (a .ready) (a .supplied) (c .before .chosen-of .ensures .1) (small-wider 4294967295 5000000000 (a .ready) (omega arith) (c .before .before .pre .0)) (c .before .before .pre .1) in
+    let s = small-one 5000000000 (c .before .chosen-of .result) (a .ready) (a .supplied) (c .before .chosen-of .ensures .1)
+    (small-wider 4294967295 5000000000 (a .ready) (omega arith) (c .before .before .pre .0)) (c .before .before .pre .1) in
     (c .put-off .ensures .0 ∙ rw (c .before .chosen-of .ensures .0), small-wider (5000000000 + a .n) 6000000000 (c .put-off .result) (omega arith) (c .put-off .ensures .1 5000000000 s))
 
 pub finish-of-spec : {M : Type 1} → statement M

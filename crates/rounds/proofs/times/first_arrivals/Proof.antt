@@ -19,7 +19,8 @@ use Rattle.rounds.proofs.times.first_arrivals.Statement.{statement}
 use Rattle.rounds.proofs.times.first_arrivals.Tie as tie
 
 abbrev Inv-loop : tie.InvT-loop
-Inv-loop mem delays a volume w low₀ c₀ low c = (c ≤ w) × (length low ≡ 16) × ((rooms : ℕ) × Sizes rooms mem) × ((p : ℕ) → p < nth mem 1 → shortIn (nth low p) ≡ chosenBy false (λ q. volume * delay (jobIn mem) q p) a c mem)
+Inv-loop mem delays a volume w low₀ c₀ low c =
+    (c ≤ w) × (length low ≡ 16) × ((rooms : ℕ) × Sizes rooms mem) × ((p : ℕ) → p < nth mem 1 → shortIn (nth low p) ≡ chosenBy false (λ q. volume * delay (jobIn mem) q p) a c mem)
 
 abbrev μ-loop : tie.MeasureT-loop
 μ-loop mem delays a volume w low₀ c₀ low c = w - c
@@ -66,7 +67,12 @@ shared-slice-read-q : tie.Need-shared-slice-read-q Inv-loop μ-loop
 shared-slice-read-q c = search needs
 
 cast-offer-sooner : tie.Need-cast-offer-sooner Inv-loop μ-loop
-cast-offer-sooner c = omega (arith, small-tick 4200000000 (nth (c .before .before .before .before .before .before .before .before .args .mem .now) (c .before .before .before .before .before .before .before .before .args .a + (2 + 3 * c .before .before .before .before .before .loop .c))) (c .before .before .if1 .taken) (c .before .before .before .before .before .before .before .before .pre .5 (c .before .before .before .before .before .loop .c) (c .before .before .before .before .loop-test .taken)))
+cast-offer-sooner c =
+    let args = c .before .before .before .before .before .before .before .before .args in
+    let pre = c .before .before .before .before .before .before .before .before .pre in
+    let loop = c .before .before .before .before .before .loop in
+    let loop-test = c .before .before .before .before .loop-test in
+    omega (arith, small-tick 4200000000 (nth (args .mem .now) (args .a + (2 + 3 * loop .c))) (c .before .before .if1 .taken) (pre .5 (loop .c) (loop-test .taken)))
 
 offer-sooner-requires : tie.Need-offer-sooner-requires Inv-loop μ-loop
 offer-sooner-requires c κs = search needs
@@ -79,20 +85,25 @@ loop-less c = search needs
 
 loop-again : tie.Need-loop-again Inv-loop μ-loop
 loop-again c =
-    let a = c .before .before .before .before .before .before .args in let l = c .before .before .before .loop in let d = a .mem .now in let s = l .inv .2 .1 in let k = c .before .before .loop-test .taken in
+    let args = c .before .before .before .before .before .before .args in
+    let pre = c .before .before .before .before .before .before .pre in
+    let loop = c .before .before .before .loop in
+    let a = args in let l = loop in let d = a .mem .now in let s = l .inv .2 .1 in let k = c .before .before .loop-test .taken in
     let x = nth d (a .a + (2 + 3 * l .c)) in
     let q = nth d (a .a + (1 + 3 * l .c)) in
     let from : ℕ → ℕ = λ p. q * 16 + p in
-    let g = c .before .before .before .before .before .before .pre .2 .processor-of (l .c) k in
-    let o = sooner-lanes (a .delays .now) q (a .volume) x (c .before .before .before .before .before .before .pre .1 .most) (omega (arith, g, s .processors-most)) (c .before .before .before .before .before .before .pre .4) in (
+    let g = pre .2 .processor-of (l .c) k in
+    let o = sooner-lanes (a .delays .now) q (a .volume) x (pre .1 .most) (omega (arith, g, s .processors-most)) (pre .4) in (
       search needs,
-      ⊎-elim (λ w. rw (w .4) (o (small-tick 4200000000 x (w .0 .taken) (c .before .before .before .before .before .before .pre .5 (l .c) k)) (l .low) _ (w .3 .ensures) (l .inv .1) .0)) (λ w. rw (w .1) (l .inv .1)) (c .if1 .came),
+      ⊎-elim (λ w. rw (w .4) (o (small-tick 4200000000 x (w .0 .taken) (pre .5 (l .c) k)) (l .low) _ (w .3 .ensures) (l .inv .1) .0)) (λ w. rw (w .1) (l .inv .1)) (c .if1 .came),
       l .inv .2,
       λ p h.
           ⊎-elim
           (λ w.
-          let z = small-tick 4200000000 x (w .0 .taken) (c .before .before .before .before .before .before .pre .5 (l .c) k) in
-          rw (w .4, o z (l .low) _ (w .3 .ensures) (l .inv .1) .1 p (omega arith)) (offered-next (λ q. a .volume * delay (jobIn d) q p) (a .a) (l .c) d (nth (l .low) p) (l .inv .3 p h) (a .volume * nth (a .delays .now) (from p)) z (message-most (a .volume) (nth (a .delays .now) (from p)) (c .before .before .before .before .before .before .pre .4) (c .before .before .before .before .before .before .pre .1 .most (from p))) (ap (a .volume *_) (c .before .before .before .before .before .before .pre .1 .cell q p g h))))
+          let z = small-tick 4200000000 x (w .0 .taken) (pre .5 (l .c) k) in
+          rw (w .4, o z (l .low) _ (w .3 .ensures) (l .inv .1) .1 p (omega arith))
+          (offered-next (λ q. a .volume * delay (jobIn d) q p) (a .a) (l .c) d (nth (l .low) p) (l .inv .3 p h) (a .volume * nth (a .delays .now) (from p)) z
+          (message-most (a .volume) (nth (a .delays .now) (from p)) (pre .4) (pre .1 .most (from p))) (ap (a .volume *_) (pre .1 .cell q p g h))))
           (λ w. rw (w .1) (offered-never (λ q. a .volume * delay (jobIn d) q p) (a .a) (l .c) d (nth (l .low) p) (l .inv .3 p h) (w .0 .left)))
           (c .if1 .came),
     )

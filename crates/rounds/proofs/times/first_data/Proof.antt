@@ -47,58 +47,76 @@ shared-slice-read-k c = let s = sizes (c .before .before .before .pre .0 .1 .job
 
 loop-holds : tie.Need-loop-holds Inv-loop μ-loop
 loop-holds c =
-    let few = sizes (c .before .before .before .pre .0 .1 .job) .processors-most in (
+    let pre = c .before .before .before .pre in
+    let args = c .before .before .before .args in
+    let few = sizes (pre .0 .1 .job) .processors-most in (
       refl,
       λ p h. rw (getD-replicate {A = ℕ} 16 p 0 0 h) (omega arith),
-      λ p h. rw (getD-replicate {A = ℕ} 16 p 0 0 (omega (arith, few, h))) (gather-first (arrives (c .before .before .before .args .rooms) false p (c .before .before .before .args .mem .now)) (c .before .before .before .pre .0 .0) (c .before .before .before .args .t) (c .before .before .before .args .mem .now) (c .before .before .before .pre .0 .1) (c .before .before .before .pre .2)),
+      λ p h. rw (getD-replicate {A = ℕ} 16 p 0 0 (omega (arith, few, h))) (gather-first (arrives (args .rooms) false p (args .mem .now)) (pre .0 .0) (args .t) (args .mem .now) (pre .0 .1) (pre .2)),
     )
 
 entering-requires : tie.Need-entering-requires Inv-loop μ-loop
 entering-requires c κs =
-    let s = c .before .before .before .before .before .pre .0 .1 in
+    let pre = c .before .before .before .before .before .pre in
+    let args = c .before .before .before .before .before .args in
+    let edges-at = c .before .before .before .edges-at in
+    let s = pre .0 .1 in
     let h = c .loop-test .taken in
     let g = c .before .loop .inv .2 0 (sizes (s .job) .some-processor) in
     record {
       job = s .job;
-      place = c .before .before .before .edges-at .ensures;
+      place = edges-at .ensures;
       some = h;
       most = g .most;
-      feeds = gather-edge (arrives (c .before .before .before .before .before .args .rooms) false 0 (c .before .before .before .before .before .args .mem .now)) (c .before .before .before .before .before .pre .0 .0) (c .before .before .before .before .before .args .t) (c .before .before .before .before .before .args .mem .now) s g h (λ e i. c .before .before .before .before .before .pre .3 e i .0);
+      feeds = gather-edge (arrives (args .rooms) false 0 (args .mem .now)) (pre .0 .0) (args .t) (args .mem .now) s g h (λ e i. pre .3 e i .0);
     }
 
 first-arrivals-requires : tie.Need-first-arrivals-requires Inv-loop μ-loop
 first-arrivals-requires c κs =
-    let s = c .before .before .before .before .before .before .pre .0 .1 in
+    let pre = c .before .before .before .before .before .before .pre in
+    let args = c .before .before .before .before .before .before .args in
+    let s = pre .0 .1 in
     let h = c .before .loop-test .taken in
     let g = c .before .before .loop .inv .2 0 (sizes (s .job) .some-processor) in
     let e = c .entering .ensures in
-    let f = gather-edge (arrives (c .before .before .before .before .before .before .args .rooms) false 0 (c .before .before .before .before .before .before .args .mem .now)) (c .before .before .before .before .before .before .pre .0 .0) (c .before .before .before .before .before .before .args .t) (c .before .before .before .before .before .before .args .mem .now) s g h (λ e i. c .before .before .before .before .before .before .pre .3 e i .0) in
-    let i = gather-enters (arrives (c .before .before .before .before .before .before .args .rooms) false 0 (c .before .before .before .before .before .before .args .mem .now)) (c .before .before .before .before .before .before .pre .0 .0) (c .before .before .before .before .before .before .args .t) (c .before .before .before .before .before .before .args .mem .now) s g h in
-    ((_, s .job), c .before .before .before .before .before .before .pre .1, rw (e .row-of) (f .row), omega (arith, e .within, sizes (s .job) .size), rw (e .volume-of) (f .volume-most), rw (e .row-of) (c .before .before .before .before .before .before .pre .3 (edgeOf (c .before .before .loop .k) (c .before .before .before .before .before .before .args .mem .now)) i .1))
+    let f = gather-edge (arrives (args .rooms) false 0 (args .mem .now)) (pre .0 .0) (args .t) (args .mem .now) s g h (λ e i. pre .3 e i .0) in
+    let i = gather-enters (arrives (args .rooms) false 0 (args .mem .now)) (pre .0 .0) (args .t) (args .mem .now) s g h in
+    ((_, s .job), pre .1, rw (e .row-of) (f .row), omega (arith, e .within, sizes (s .job) .size), rw (e .volume-of) (f .volume-most), rw (e .row-of) (pre .3 (edgeOf (c .before .before .loop .k) (args .mem .now)) i .1))
 
 raise-requires : tie.Need-raise-requires Inv-loop μ-loop
 raise-requires c κs = search needs
 
 loop-less : tie.Need-loop-less Inv-loop μ-loop
 loop-less c =
-    let s = c .before .before .before .before .before .before .before .before .before .before .pre .0 .1 in
-    rw (c .before .before .before .before .entering .ensures .next-of) (gather-falls (arrives (c .before .before .before .before .before .before .before .before .before .before .args .rooms) false 0 (c .before .before .before .before .before .before .before .before .before .before .args .mem .now)) (c .before .before .before .before .before .before .before .before .before .before .pre .0 .0) (c .before .before .before .before .before .before .before .before .before .before .args .t) (c .before .before .before .before .before .before .before .before .before .before .args .mem .now) s (c .before .before .before .before .before .before .loop .inv .2 0 (sizes (s .job) .some-processor)) (c .before .before .before .before .before .loop-test .taken))
+    let pre = c .before .before .before .before .before .before .before .before .before .before .pre in
+    let args = c .before .before .before .before .before .before .before .before .before .before .args in
+    let loop = c .before .before .before .before .before .before .loop in
+    let loop-test = c .before .before .before .before .before .loop-test in
+    let entering = c .before .before .before .before .entering in
+    let s = pre .0 .1 in
+    rw (entering .ensures .next-of) (gather-falls (arrives (args .rooms) false 0 (args .mem .now)) (pre .0 .0) (args .t) (args .mem .now) s (loop .inv .2 0 (sizes (s .job) .some-processor)) (loop-test .taken))
 
 loop-again : tie.Need-loop-again Inv-loop μ-loop
 loop-again c =
-    let l = c .before .before .before .before .before .before .loop in
-    let low = c .before .before .before .first-arrivals .result in
-    let few = sizes (c .before .before .before .before .before .before .before .before .before .before .pre .0 .1 .job) .processors-most in
-    let e = c .before .before .before .before .entering .ensures in
+    let pre = c .before .before .before .before .before .before .before .before .before .before .pre in
+    let args = c .before .before .before .before .before .before .before .before .before .before .args in
+    let loop = c .before .before .before .before .before .before .loop in
+    let loop-test = c .before .before .before .before .before .loop-test in
+    let entering = c .before .before .before .before .entering in
+    let first-arrivals = c .before .before .before .first-arrivals in
+    let l = loop in
+    let low = first-arrivals .result in
+    let few = sizes (pre .0 .1 .job) .processors-most in
+    let e = entering .ensures in
     let most : (p : ℕ) → nth low p ≤ shortNever = λ p. let f : Fits w32 (nth low p) = search needs in omega (arith, f) in
     let (n, each) = lanes-each (λ p z. max z (nth low p)) (l .high) (c .raise .last .0) (c .raise .ensures) (l .inv .0) in (
       n,
       λ p h. rw (each p h) (omega (arith, l .inv .1 p h, most p)),
       λ p h.
           let b : p < 16 = omega (arith, few, h) in
-          rw (e .next-of) (gather-next (arrives (c .before .before .before .before .before .before .before .before .before .before .args .rooms) false p (c .before .before .before .before .before .before .before .before .before .before .args .mem .now)) (c .before .before .before .before .before .before .before .before .before .before .pre .0 .0) (c .before .before .before .before .before .before .before .before .before .before .args .t) (c .before .before .before .before .before .before .before .before .before .before .args .mem .now) (c .before .before .before .before .before .before .before .before .before .before .pre .0 .1) (l .inv .2 p h) (c .before .before .before .before .before .loop-test .taken) (shortIn (nth (c .raise .last .0) p))
+          rw (e .next-of) (gather-next (arrives (args .rooms) false p (args .mem .now)) (pre .0 .0) (args .t) (args .mem .now) (pre .0 .1) (l .inv .2 p h) (loop-test .taken) (shortIn (nth (c .raise .last .0) p))
           (rw (each p b) (short-later (nth (l .high) p) (nth low p) (l .inv .1 p b) (most p) ∙ later-comm (shortIn (nth (l .high) p)) (shortIn (nth low p))
-          ∙ ap (λ (z : Time). later z (shortIn (nth (l .high) p))) (rw (e .row-of, e .volume-of) at (c .before .before .before .first-arrivals .ensures .1 p h))))),
+          ∙ ap (λ (z : Time). later z (shortIn (nth (l .high) p))) (rw (e .row-of, e .volume-of) at (first-arrivals .ensures .1 p h))))),
     )
 
 widened-requires : tie.Need-widened-requires Inv-loop μ-loop
@@ -107,14 +125,17 @@ widened-requires c κs = search needs
 returns : tie.Need-returns Inv-loop μ-loop
 unfolding dataIn
 returns c =
-    let l = c .before .before .before .loop in
-    let few = sizes (c .before .before .before .before .before .before .before .pre .0 .1 .job) .processors-most in
+    let pre = c .before .before .before .before .before .before .before .pre in
+    let args = c .before .before .before .before .before .before .before .args in
+    let loop = c .before .before .before .loop in
+    let l = loop in
+    let few = sizes (pre .0 .1 .job) .processors-most in
     let (n, each) = lanes-each (λ p z. widenedTick (nth (l .high) p)) (replicate 16 neverCell) (c .widened .result) (c .widened .ensures) (length-replicate {A = ℕ} 16 neverCell) in (
       n,
       λ p h.
           let b : p < 16 = omega (arith, few, h) in
           let (u, v) = wide-cell (nth (l .high) p) (l .inv .1 p b) in
-          rw (each p b) (u ∙ gather-done (arrives (c .before .before .before .before .before .before .before .args .rooms) false p (c .before .before .before .before .before .before .before .args .mem .now)) (c .before .before .before .before .before .before .before .pre .0 .0) (c .before .before .before .before .before .before .before .args .t) (c .before .before .before .before .before .before .before .args .mem .now) (c .before .before .before .before .before .before .before .pre .0 .1) (l .inv .2 p h) (omega arith), v),
+          rw (each p b) (u ∙ gather-done (arrives (args .rooms) false p (args .mem .now)) (pre .0 .0) (args .t) (args .mem .now) (pre .0 .1) (l .inv .2 p h) (omega arith), v),
     )
 
 pub first-data-spec : {M : Type 1} → statement M

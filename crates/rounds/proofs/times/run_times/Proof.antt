@@ -73,13 +73,15 @@ loop-less c = search needs
 
 loop-again : tie.Need-loop-again Inv-loop μ-loop
 loop-again c =
-    let a = c .before .before .before .before .args in
+    let args = c .before .before .before .before .args in
+    let a = args in
     let l = c .before .before .loop in
     let h = c .before .loop-test .taken in (
       omega (arith, h),
       simp length-set (l .inv .1),
       l .inv .2,
-      each-more (λ q z. (z ≡ nth (a .mem .now) (4 + a .t * (nth (a .mem .now) 1 + 1) + (q + 1))) × (z ≤ 1000000)) (l .runs) (l .p) _ (omega (arith, h, l .inv .1, l .inv .2)) (l .inv .3) (refl, run (c .before .before .before .before) (l .p) h),
+      each-more (λ q z. (z ≡ nth (a .mem .now) (4 + a .t * (nth (a .mem .now) 1 + 1) + (q + 1))) × (z ≤ 1000000)) (l .runs) (l .p) _ (omega (arith, h, l .inv .1, l .inv .2)) (l .inv .3)
+          (refl, run (c .before .before .before .before) (l .p) h),
     )
 
 returns : tie.Need-returns Inv-loop μ-loop

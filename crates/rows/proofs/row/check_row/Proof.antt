@@ -19,7 +19,9 @@ returns : tie.Need-returns
 returns c seen l = out-of-turn seen (c .before .before .before .before .args .row .now) (c .before .before .before .before .args .i) l (c .before .before .before .before .args .kind) (c .if1 .taken)
 
 returns-2 : tie.Need-returns-2
-returns-2 c seen l = out-of-range seen (c .before .before .before .before .before .args .row .now) (c .before .before .before .before .before .args .i) l (c .before .if1 .left) (c .before .before .before .before .before .args .kind) (sym (c .if2 .taken) ∙ c .before .before .off-range .ensures)
+returns-2 c seen l =
+    let args = c .before .before .before .before .before .args in
+    out-of-range seen (args .row .now) (args .i) l (c .before .if1 .left) (args .kind) (sym (c .if2 .taken) ∙ c .before .before .off-range .ensures)
 
 enum-told : tie.Need-enum-told
 enum-told c = search needs
@@ -37,13 +39,27 @@ shared-slice-read-if3 : tie.Need-shared-slice-read-if3
 shared-slice-read-if3 c = omega (arith, c .before .before .before .before .before .before .before .before .pre .1 (c .before .enum-told2 .given .1))
 
 returns-3 : tie.Need-returns-3
-returns-3 c seen l = rw (c .before .before .enum-told2 .given .1) (delay-self seen (c .before .before .before .before .before .before .before .before .before .args .row .now) (c .before .before .before .before .before .before .before .before .before .args .i) l (c .before .before .before .before .before .if1 .left) (sym (c .before .before .before .before .if2 .left) ∙ c .before .before .before .before .before .before .off-range .ensures ∙ rw (c .before .before .enum-told2 .given .1) refl) (c .if3 .taken))
+returns-3 c seen l =
+    let args = c .before .before .before .before .before .before .before .before .before .args in
+    let off-range = c .before .before .before .before .before .before .off-range in
+    let if1 = c .before .before .before .before .before .if1 in
+    let if2 = c .before .before .before .before .if2 in
+    rw (c .before .before .enum-told2 .given .1) (delay-self seen (args .row .now) (args .i) l (if1 .left) (sym (if2 .left) ∙ off-range .ensures ∙ rw (c .before .before .enum-told2 .given .1) refl) (c .if3 .taken))
 
 returns-4 : tie.Need-returns-4
-returns-4 c seen l = rw (c .enum-told .given .1) (run-good seen (c .before .before .before .before .before .before .before .args .row .now) (c .before .before .before .before .before .before .before .args .i) l (c .before .before .before .if1 .left) (sym (c .before .before .if2 .left) ∙ c .before .before .before .before .off-range .ensures ∙ rw (c .enum-told .given .1) refl))
+returns-4 c seen l =
+    let args = c .before .before .before .before .before .before .before .args in
+    let off-range = c .before .before .before .before .off-range in
+    let if1 = c .before .before .before .if1 in
+    rw (c .enum-told .given .1) (run-good seen (args .row .now) (args .i) l (if1 .left) (sym (c .before .before .if2 .left) ∙ off-range .ensures ∙ rw (c .enum-told .given .1) refl))
 
 returns-5 : tie.Need-returns-5
-returns-5 c seen l = rw (c .before .before .enum-told2 .given .1) (delay-good seen (c .before .before .before .before .before .before .before .before .before .args .row .now) (c .before .before .before .before .before .before .before .before .before .args .i) l (c .before .before .before .before .before .if1 .left) (sym (c .before .before .before .before .if2 .left) ∙ c .before .before .before .before .before .before .off-range .ensures ∙ rw (c .before .before .enum-told2 .given .1) refl) (c .if3 .left))
+returns-5 c seen l =
+    let args = c .before .before .before .before .before .before .before .before .before .args in
+    let off-range = c .before .before .before .before .before .before .off-range in
+    let if1 = c .before .before .before .before .before .if1 in
+    let if2 = c .before .before .before .before .if2 in
+    rw (c .before .before .enum-told2 .given .1) (delay-good seen (args .row .now) (args .i) l (if1 .left) (sym (if2 .left) ∙ off-range .ensures ∙ rw (c .before .before .enum-told2 .given .1) refl) (c .if3 .left))
 
 pub check-row-spec : {M : Type 1} → statement M
 check-row-spec =

@@ -28,7 +28,10 @@ abbrev μ-loop : tie.MeasureT-loop
 
 -- The row that is read ends within the memory.
 ends : (c : tie.In-loop Inv-loop μ-loop) → c .before .loop .i * c .before .before .before .before .before .args .k + c .before .before .before .before .before .args .k ≤ length (c .before .loop .mem)
-ends c = let l = c .before .loop in let a = c .before .before .before .before .before .args in omega (arith, row-ends (l .i) (a .n) (a .k) (c .loop-test .taken), l .inv .1, c .before .before .before .before .before .pre .1)
+ends c =
+    let args = c .before .before .before .before .before .args in
+    let pre = c .before .before .before .before .before .pre in
+    let l = c .before .loop in let a = args in omega (arith, row-ends (l .i) (a .n) (a .k) (c .loop-test .taken), l .inv .1, pre .1)
 
 loop-holds : tie.Need-loop-holds Inv-loop μ-loop
 unfolding rows
@@ -51,7 +54,8 @@ part-read-row-end c = search needs
 
 read-row-requires : tie.Need-read-row-requires Inv-loop μ-loop
 read-row-requires c κs =
-    (c .before .before .before .before .before .before .pre .0, simp (length-take, length-drop) (omega (arith, ends (c .before))), λ e. omega (arith, c .before .loop-test .taken, c .before .before .before .before .before .before .pre .2 e))
+    let pre = c .before .before .before .before .before .before .pre in
+    (pre .0, simp (length-take, length-drop) (omega (arith, ends (c .before))), λ e. omega (arith, c .before .loop-test .taken, pre .2 e))
 
 enum-known-next : tie.Need-enum-known-next Inv-loop μ-loop
 enum-known-next c = search needs
@@ -64,10 +68,14 @@ same-length c = search needs
 
 returns : tie.Need-returns Inv-loop μ-loop
 returns c =
-    let a = c .before .before .before .before .before .before .before .before .before .before .before .before .args in
-    let l = c .before .before .before .before .before .before .before .before .loop in
-    let e = sym (c .before .before .before .before .before .read-row .ensures (rows (a .k) (l .i) (l .mem)) (length-rows (a .k) (l .i) (l .mem))) ∙ ap (told (a .s .now) (take (a .k) (c .before .before .before .before .before .read-row .last .1 .1 .1 .1 .1 .1 .0))) (c .before .x .given .1) in
-    lines-no (line document01 (a .opening .now) (a .k)) (ruleOf (a .kind)) (a .n) (l .i) (rows (a .k) (l .i) (l .mem)) (drop (l .p) (a .s .now)) (c .before .before .before .before .before .before .before .loop-test .taken) _ e ∙ l .inv .2
+    let args = c .before .before .before .before .before .before .before .before .before .before .before .before .args in
+    let loop = c .before .before .before .before .before .before .before .before .loop in
+    let loop-test = c .before .before .before .before .before .before .before .loop-test in
+    let read-row = c .before .before .before .before .before .read-row in
+    let a = args in
+    let l = loop in
+    let e = sym (read-row .ensures (rows (a .k) (l .i) (l .mem)) (length-rows (a .k) (l .i) (l .mem))) ∙ ap (told (a .s .now) (take (a .k) (read-row .last .1 .1 .1 .1 .1 .1 .0))) (c .before .x .given .1) in
+    lines-no (line document01 (a .opening .now) (a .k)) (ruleOf (a .kind)) (a .n) (l .i) (rows (a .k) (l .i) (l .mem)) (drop (l .p) (a .s .now)) (loop-test .taken) _ e ∙ l .inv .2
 
 add-i : tie.Need-add-i Inv-loop μ-loop
 add-i c = search needs
@@ -77,13 +85,18 @@ loop-less c = search needs
 
 loop-again : tie.Need-loop-again Inv-loop μ-loop
 loop-again c =
-    let a = c .before .before .before .before .before .before .before .before .before .before .before .before .args in
-    let l = c .before .before .before .before .before .before .before .before .loop in
-    let ys = c .before .before .before .before .before .read-row .last .1 .1 .1 .1 .1 .1 .0 in
-    let e = sym (c .before .before .before .before .before .read-row .ensures (rows (a .k) (l .i) (l .mem)) (length-rows (a .k) (l .i) (l .mem))) ∙ ap (told (a .s .now) (take (a .k) ys)) (c .before .next .given .1) in (
-      omega (arith, c .before .before .before .before .before .before .before .loop-test .taken),
-      same-len-mid (l .i * a .k) (length (l .mem) - l .i * a .k) (l .mem) ys (c .before .before .before .before .before .read-row .kept .1 .1 .1 .1 .1 .1 .0) ∙ l .inv .1,
-      rw (lent-more (a .k) (l .i) (l .mem) ys (omega (arith, ends (c .before .before .before .before .before .before .before)))) (lines-next (line document01 (a .opening .now) (a .k)) (ruleOf (a .kind)) (a .n) (l .i) (rows (a .k) (l .i) (l .mem)) (drop (l .p) (a .s .now)) (c .before .before .before .before .before .before .before .loop-test .taken) (take (a .k) ys) _ e ∙ l .inv .2),
+    let args = c .before .before .before .before .before .before .before .before .before .before .before .before .args in
+    let loop = c .before .before .before .before .before .before .before .before .loop in
+    let loop-test = c .before .before .before .before .before .before .before .loop-test in
+    let read-row = c .before .before .before .before .before .read-row in
+    let a = args in
+    let l = loop in
+    let ys = read-row .last .1 .1 .1 .1 .1 .1 .0 in
+    let e = sym (read-row .ensures (rows (a .k) (l .i) (l .mem)) (length-rows (a .k) (l .i) (l .mem))) ∙ ap (told (a .s .now) (take (a .k) ys)) (c .before .next .given .1) in (
+      omega (arith, loop-test .taken),
+      same-len-mid (l .i * a .k) (length (l .mem) - l .i * a .k) (l .mem) ys (read-row .kept .1 .1 .1 .1 .1 .1 .0) ∙ l .inv .1,
+      rw (lent-more (a .k) (l .i) (l .mem) ys (omega (arith, ends (c .before .before .before .before .before .before .before))))
+          (lines-next (line document01 (a .opening .now) (a .k)) (ruleOf (a .kind)) (a .n) (l .i) (rows (a .k) (l .i) (l .mem)) (drop (l .p) (a .s .now)) (loop-test .taken) (take (a .k) ys) _ e ∙ l .inv .2),
     )
 
 same-length-2 : tie.Need-same-length-2 Inv-loop μ-loop

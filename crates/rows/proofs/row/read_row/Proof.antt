@@ -22,22 +22,33 @@ slice-reshare-prefix-check-row : tie.Need-slice-reshare-prefix-check-row
 slice-reshare-prefix-check-row c = omega (arith, c .before .before .before .before .before .before .before .before .before .before .pre .1, c .before .before .before .before .before .read-line .kept .1 .1 .1 .1 .0)
 
 slice-aggregate-check-row : tie.Need-slice-aggregate-check-row
-slice-aggregate-check-row c = sym (length-take-le (c .before .before .before .before .before .before .before .before .before .before .before .args .k) (c .before .before .before .before .before .before .read-line .last .1 .1 .1 .1 .0) (omega (arith, c .before .before .before .before .before .before .before .before .before .before .before .pre .1, c .before .before .before .before .before .before .read-line .kept .1 .1 .1 .1 .0)))
+slice-aggregate-check-row c =
+    let args = c .before .before .before .before .before .before .before .before .before .before .before .args in
+    let pre = c .before .before .before .before .before .before .before .before .before .before .before .pre in
+    let read-line = c .before .before .before .before .before .before .read-line in
+    sym (length-take-le (args .k) (read-line .last .1 .1 .1 .1 .0) (omega (arith, pre .1, read-line .kept .1 .1 .1 .1 .0)))
 
 check-row-requires : tie.Need-check-row-requires
 check-row-requires c κs =
-    let l = length-take-le (c .before .before .before .before .before .before .before .before .before .before .before .args .k) (c .before .before .before .before .before .before .read-line .last .1 .1 .1 .1 .0) (omega (arith, c .before .before .before .before .before .before .before .before .before .before .before .pre .1, c .before .before .before .before .before .before .read-line .kept .1 .1 .1 .1 .0)) in
-    (omega (arith, l, c .before .before .before .before .before .before .before .before .before .before .before .pre .0), λ e. omega (arith, l, c .before .before .before .before .before .before .before .before .before .before .before .pre .2 e))
+    let args = c .before .before .before .before .before .before .before .before .before .before .before .args in
+    let pre = c .before .before .before .before .before .before .before .before .before .before .before .pre in
+    let read-line = c .before .before .before .before .before .before .read-line in
+    let l = length-take-le (args .k) (read-line .last .1 .1 .1 .1 .0) (omega (arith, pre .1, read-line .kept .1 .1 .1 .1 .0)) in
+    (omega (arith, l, pre .0), λ e. omega (arith, l, pre .2 e))
 
 same-length : tie.Need-same-length
 same-length c = search needs
 
 returns : tie.Need-returns
 returns c =
+    let args = c .before .before .before .before .before .before .before .before .before .before .before .before .before .args in
+    let pre = c .before .before .before .before .before .before .before .before .before .before .before .before .before .pre in
+    let read-line = c .before .before .before .before .before .before .before .before .read-line in
+    let p = c .before .before .before .before .p in
     λ seen l.
-    let a = c .before .before .before .before .before .before .before .before .before .before .before .before .before .args in
-    let ys = c .before .before .before .before .before .before .before .before .read-line .last .1 .1 .1 .1 .0 in
-    let e = sym (c .before .before .before .before .before .before .before .before .read-line .ensures .0 ∙ line-fits _ _ _ _ (c .before .before .before .before .before .before .before .before .before .before .before .before .before .pre .1)) ∙ ap (told (a .s .now) (take (a .k) ys)) (c .before .before .before .before .p .given .1) in
+    let a = args in
+    let ys = read-line .last .1 .1 .1 .1 .0 in
+    let e = sym (read-line .ensures .0 ∙ line-fits _ _ _ _ (pre .1)) ∙ ap (told (a .s .now) (take (a .k) ys)) (p .given .1) in
     ruled-no (line document01 (a .opening .now) (a .k)) (ruleOf (a .kind)) seen (drop (a .at) (a .s .now)) (take (a .k) ys) _ e _ (c .before .check-row .ensures seen l) (c .if1 .taken)
 
 enum-known-x : tie.Need-enum-known-x
@@ -48,10 +59,14 @@ same-length-2 c = search needs
 
 returns-2 : tie.Need-returns-2
 returns-2 c =
+    let args = c .before .before .before .before .before .before .before .before .before .before .before .before .before .args in
+    let pre = c .before .before .before .before .before .before .before .before .before .before .before .before .before .pre in
+    let read-line = c .before .before .before .before .before .before .before .before .read-line in
+    let p = c .before .before .before .before .p in
     λ seen l.
-    let a = c .before .before .before .before .before .before .before .before .before .before .before .before .before .args in
-    let ys = c .before .before .before .before .before .before .before .before .read-line .last .1 .1 .1 .1 .0 in
-    let e = sym (c .before .before .before .before .before .before .before .before .read-line .ensures .0 ∙ line-fits _ _ _ _ (c .before .before .before .before .before .before .before .before .before .before .before .before .before .pre .1)) ∙ ap (told (a .s .now) (take (a .k) ys)) (c .before .before .before .before .p .given .1) in
+    let a = args in
+    let ys = read-line .last .1 .1 .1 .1 .0 in
+    let e = sym (read-line .ensures .0 ∙ line-fits _ _ _ _ (pre .1)) ∙ ap (told (a .s .now) (take (a .k) ys)) (p .given .1) in
     ruled-yes (line document01 (a .opening .now) (a .k)) (ruleOf (a .kind)) seen (drop (a .at) (a .s .now)) (take (a .k) ys) _ e _ (c .before .check-row .ensures seen l) (c .if1 .left)
 
 same-length-3 : tie.Need-same-length-3
@@ -59,10 +74,13 @@ same-length-3 c = search needs
 
 returns-3 : tie.Need-returns-3
 returns-3 c =
+    let args = c .before .before .before .before .before .before .before .before .before .before .args in
+    let pre = c .before .before .before .before .before .before .before .before .before .before .pre in
+    let read-line = c .before .before .before .before .before .read-line in
     λ seen l.
-    let a = c .before .before .before .before .before .before .before .before .before .before .args in
-    let ys = c .before .before .before .before .before .read-line .last .1 .1 .1 .1 .0 in
-    let e = sym (c .before .before .before .before .before .read-line .ensures .0 ∙ line-fits _ _ _ _ (c .before .before .before .before .before .before .before .before .before .before .pre .1)) ∙ ap (told (a .s .now) (take (a .k) ys)) (c .before .x .given .1) in
+    let a = args in
+    let ys = read-line .last .1 .1 .1 .1 .0 in
+    let e = sym (read-line .ensures .0 ∙ line-fits _ _ _ _ (pre .1)) ∙ ap (told (a .s .now) (take (a .k) ys)) (c .before .x .given .1) in
     ruled-bad (line document01 (a .opening .now) (a .k)) (ruleOf (a .kind)) seen (drop (a .at) (a .s .now)) _ e
 
 pub read-row-spec : {M : Type 1} → statement M

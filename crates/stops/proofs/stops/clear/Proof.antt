@@ -32,7 +32,8 @@ loop-less : tie.Need-loop-less Inv-loop μ-loop
 loop-less c = search needs
 
 loop-again : tie.Need-loop-again Inv-loop μ-loop
-loop-again c = (omega (arith, c .loop-test .taken, c .before .loop .inv .1), simp length-set (c .before .loop .inv .1), never-more (c .before .loop .stops) (c .before .loop .i) (c .loop-test .taken) (c .before .loop .inv .2))
+loop-again c =
+    (omega (arith, c .loop-test .taken, c .before .loop .inv .1), simp length-set (c .before .loop .inv .1), never-more (c .before .loop .stops) (c .before .loop .i) (c .loop-test .taken) (c .before .loop .inv .2))
 
 same-length : tie.Need-same-length Inv-loop μ-loop
 same-length c = search needs

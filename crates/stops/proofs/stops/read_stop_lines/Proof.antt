@@ -34,7 +34,13 @@ same-length : tie.Need-same-length Inv-loop μ-loop
 same-length c = search needs
 
 returns : tie.Need-returns Inv-loop μ-loop
-returns c = stops-bad (c .before .before .before .before .before .before .before .before .loop .inv .2) (c .before .before .before .before .before .before .before .loop-test .taken) _ (sym (c .before .before .before .before .read-line .ensures .0 ∙ line-fits (length (c .before .before .before .before .before .before .before .before .loop .line)) _ 2 _ (omega (arith, c .before .before .before .before .before .before .before .before .loop .inv .0))) ∙ ap (told (c .before .before .before .before .before .before .before .before .before .before .before .args .s .now) (take 2 (c .before .before .before .before .read-line .last .1 .1 .1 .1 .0))) (c .before .x .given .1))
+returns c =
+    let args = c .before .before .before .before .before .before .before .before .before .before .before .args in
+    let loop = c .before .before .before .before .before .before .before .before .loop in
+    let loop-test = c .before .before .before .before .before .before .before .loop-test in
+    let read-line = c .before .before .before .before .read-line in
+    stops-bad (loop .inv .2) (loop-test .taken) _ (sym (read-line .ensures .0 ∙ line-fits (length (loop .line)) _ 2 _ (omega (arith, loop .inv .0)))
+    ∙ ap (told (args .s .now) (take 2 (read-line .last .1 .1 .1 .1 .0))) (c .before .x .given .1))
 
 enum-known-next : tie.Need-enum-known-next Inv-loop μ-loop
 enum-known-next c = search needs
@@ -53,32 +59,50 @@ same-length-2 c = search needs
 
 returns-2 : tie.Need-returns-2 Inv-loop μ-loop
 returns-2 c =
-    let ys = c .before .before .before .before .before .before .read-line .last .1 .1 .1 .1 .0 in
-    let b = sym (c .before .before .before .before .before .before .read-line .ensures .0 ∙ line-fits (length (c .before .before .before .before .before .before .before .before .before .before .loop .line)) _ 2 _ (omega (arith, c .before .before .before .before .before .before .before .before .before .before .loop .inv .0))) ∙ ap (told (c .before .before .before .before .before .before .before .before .before .before .before .before .before .args .s .now) (take 2 ys)) (c .before .before .before .next .given .1) in
-    stops-no (c .before .before .before .before .before .before .before .before .before .before .loop .inv .2) (c .before .before .before .before .before .before .before .before .before .loop-test .taken) ys (c .before .before .before .next .given .0 .0) b _ (c .if1 .taken) (c .before .check-stop .ensures .0)
+    let args = c .before .before .before .before .before .before .before .before .before .before .before .before .before .args in
+    let loop = c .before .before .before .before .before .before .before .before .before .before .loop in
+    let loop-test = c .before .before .before .before .before .before .before .before .before .loop-test in
+    let read-line = c .before .before .before .before .before .before .read-line in
+    let next = c .before .before .before .next in
+    let ys = read-line .last .1 .1 .1 .1 .0 in
+    let b = sym (read-line .ensures .0 ∙ line-fits (length (loop .line)) _ 2 _ (omega (arith, loop .inv .0))) ∙ ap (told (args .s .now) (take 2 ys)) (next .given .1) in
+    stops-no (loop .inv .2) (loop-test .taken) ys (next .given .0 .0) b _ (c .if1 .taken) (c .before .check-stop .ensures .0)
 
 mul-stops : tie.Need-mul-stops Inv-loop μ-loop
 mul-stops c = omega (arith, c .before .check-stop .ensures .1 (omega arith), c .before .before .before .before .before .before .before .before .before .before .before .before .before .pre .0)
 
 slice-write-stops : tie.Need-slice-write-stops Inv-loop μ-loop
-slice-write-stops c = omega (arith, c .before .check-stop .ensures .1 (omega arith), c .before .before .before .before .before .before .before .before .before .before .before .before .before .pre .0, c .before .before .before .before .before .before .before .before .before .before .loop .inv .2 .size)
+slice-write-stops c =
+    let pre = c .before .before .before .before .before .before .before .before .before .before .before .before .before .pre in
+    let loop = c .before .before .before .before .before .before .before .before .before .before .loop in
+    omega (arith, c .before .check-stop .ensures .1 (omega arith), pre .0, loop .inv .2 .size)
 
 add-least : tie.Need-add-least Inv-loop μ-loop
 add-least c = omega (arith, c .before .check-stop .ensures .1 (omega arith), c .before .before .before .before .before .before .before .before .before .before .before .before .before .pre .0)
 
 loop-less : tie.Need-loop-less Inv-loop μ-loop
 loop-less c =
-    let ys = c .before .before .before .before .before .before .read-line .last .1 .1 .1 .1 .0 in
-    let b = sym (c .before .before .before .before .before .before .read-line .ensures .0 ∙ line-fits (length (c .before .before .before .before .before .before .before .before .before .before .loop .line)) _ 2 _ (omega (arith, c .before .before .before .before .before .before .before .before .before .before .loop .inv .0))) ∙ ap (told (c .before .before .before .before .before .before .before .before .before .before .before .before .before .args .s .now) (take 2 ys)) (c .before .before .before .next .given .1) in
-    stops-shorter (c .before .before .before .before .before .before .before .before .before .before .loop .inv .2) (c .before .before .before .before .before .before .before .before .before .loop-test .taken) ys (c .before .before .before .next .given .0 .0) b
+    let args = c .before .before .before .before .before .before .before .before .before .before .before .before .before .args in
+    let loop = c .before .before .before .before .before .before .before .before .before .before .loop in
+    let loop-test = c .before .before .before .before .before .before .before .before .before .loop-test in
+    let read-line = c .before .before .before .before .before .before .read-line in
+    let next = c .before .before .before .next in
+    let ys = read-line .last .1 .1 .1 .1 .0 in
+    let b = sym (read-line .ensures .0 ∙ line-fits (length (loop .line)) _ 2 _ (omega (arith, loop .inv .0))) ∙ ap (told (args .s .now) (take 2 ys)) (next .given .1) in
+    stops-shorter (loop .inv .2) (loop-test .taken) ys (next .given .0 .0) b
 
 loop-again : tie.Need-loop-again Inv-loop μ-loop
 loop-again c =
-    let ys = c .before .before .before .before .before .before .read-line .last .1 .1 .1 .1 .0 in
-    let b = sym (c .before .before .before .before .before .before .read-line .ensures .0 ∙ line-fits (length (c .before .before .before .before .before .before .before .before .before .before .loop .line)) _ 2 _ (omega (arith, c .before .before .before .before .before .before .before .before .before .before .loop .inv .0))) ∙ ap (told (c .before .before .before .before .before .before .before .before .before .before .before .before .before .args .s .now) (take 2 ys)) (c .before .before .before .next .given .1) in
+    let args = c .before .before .before .before .before .before .before .before .before .before .before .before .before .args in
+    let loop = c .before .before .before .before .before .before .before .before .before .before .loop in
+    let loop-test = c .before .before .before .before .before .before .before .before .before .loop-test in
+    let read-line = c .before .before .before .before .before .before .read-line in
+    let next = c .before .before .before .next in
+    let ys = read-line .last .1 .1 .1 .1 .0 in
+    let b = sym (read-line .ensures .0 ∙ line-fits (length (loop .line)) _ 2 _ (omega (arith, loop .inv .0))) ∙ ap (told (args .s .now) (take 2 ys)) (next .given .1) in
     let z : c .before .check-stop .result ≡ 0 = omega arith in
     let k = c .before .check-stop .ensures .1 z in
-    (search needs, simp length-set (c .before .before .before .before .before .before .before .before .before .before .loop .inv .1), stops-next (c .before .before .before .before .before .before .before .before .before .before .loop .inv .2) (c .before .before .before .before .before .before .before .before .before .loop-test .taken) ys (c .before .before .before .next .given .0 .0) b (k .0) (k .1) (k .2) (λ j seen e f. sym z ∙ c .before .check-stop .ensures .0 j seen e f))
+    (search needs, simp length-set (loop .inv .1), stops-next (loop .inv .2) (loop-test .taken) ys (next .given .0 .0) b (k .0) (k .1) (k .2) (λ j seen e f. sym z ∙ c .before .check-stop .ensures .0 j seen e f))
 
 same-length-3 : tie.Need-same-length-3 Inv-loop μ-loop
 same-length-3 c = search needs

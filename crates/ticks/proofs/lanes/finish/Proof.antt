@@ -75,11 +75,13 @@ loop-less : tie.Need-loop-less Inv-loop μ-loop
 loop-less c = omega (arith, c .before .before .before .before .before .before .loop-test .taken)
 
 loop-again : tie.Need-loop-again Inv-loop μ-loop
-loop-again c = (
-  omega arith,
-  lanes-next _ _ (c .before .before .before .before .before .before .before .loop .p) (c .before .before .before .finish-tick .result) (c .before .before .before .before .before .before .before .loop .inv .1) (c .before .before .before .finish-tick .ensures),
-  lanes-next _ _ (c .before .before .before .before .before .before .before .loop .p) (c .finish-tick2 .result) (c .before .before .before .before .before .before .before .loop .inv .2) (c .finish-tick2 .ensures),
-)
+loop-again c =
+    let loop = c .before .before .before .before .before .before .before .loop in
+    let finish-tick = c .before .before .before .finish-tick in (
+      omega arith,
+      lanes-next _ _ (loop .p) (finish-tick .result) (loop .inv .1) (finish-tick .ensures),
+      lanes-next _ _ (loop .p) (c .finish-tick2 .result) (loop .inv .2) (c .finish-tick2 .ensures),
+    )
 
 returns : tie.Need-returns Inv-loop μ-loop
 returns c = (lanes-all _ _ (c .before .loop .p) (c .before .loop .inv .1) (omega arith), lanes-all _ _ (c .before .loop .p) (c .before .loop .inv .2) (omega arith))

@@ -75,11 +75,14 @@ loop-less : tie.Need-loop-less Inv-loop μ-loop
 loop-less c = omega (arith, c .before .before .before .before .before .before .before .loop-test .taken)
 
 loop-again : tie.Need-loop-again Inv-loop μ-loop
-loop-again c = (
-  omega arith,
-  lanes-next _ _ (c .before .before .before .before .before .before .before .before .loop .p) (c .before .before .sooner-tick .result) (c .before .before .before .before .before .before .before .before .loop .inv .1) (omega (arith, c .before .before .sooner-tick .ensures, c .before .before .before .before .before .arrival .ensures)),
-  lanes-next _ _ (c .before .before .before .before .before .before .before .before .loop .p) (c .later-tick .result) (c .before .before .before .before .before .before .before .before .loop .inv .2) (omega (arith, c .later-tick .ensures, c .before .before .before .before .arrival2 .ensures)),
-)
+loop-again c =
+    let loop = c .before .before .before .before .before .before .before .before .loop in
+    let arrival = c .before .before .before .before .before .arrival in
+    let arrival2 = c .before .before .before .before .arrival2 in (
+      omega arith,
+      lanes-next _ _ (loop .p) (c .before .before .sooner-tick .result) (loop .inv .1) (omega (arith, c .before .before .sooner-tick .ensures, arrival .ensures)),
+      lanes-next _ _ (loop .p) (c .later-tick .result) (loop .inv .2) (omega (arith, c .later-tick .ensures, arrival2 .ensures)),
+    )
 
 returns : tie.Need-returns Inv-loop μ-loop
 returns c = (lanes-all _ _ (c .before .loop .p) (c .before .loop .inv .1) (omega arith), lanes-all _ _ (c .before .loop .p) (c .before .loop .inv .2) (omega arith))

@@ -55,7 +55,9 @@ loop-less : tie.Need-loop-less Inv-loop μ-loop
 loop-less c = omega (arith, c .before .before .before .before .loop-test .taken)
 
 loop-again : tie.Need-loop-again Inv-loop μ-loop
-loop-again c = (omega arith, lanes-next _ _ (c .before .before .before .before .before .loop .p) (c .sooner-tick .result) (c .before .before .before .before .before .loop .inv .1) (omega (arith, c .sooner-tick .ensures, c .before .before .arrival .ensures)))
+loop-again c =
+    let loop = c .before .before .before .before .before .loop in
+    (omega arith, lanes-next _ _ (loop .p) (c .sooner-tick .result) (loop .inv .1) (omega (arith, c .sooner-tick .ensures, c .before .before .arrival .ensures)))
 
 returns : tie.Need-returns Inv-loop μ-loop
 returns c = lanes-all _ _ (c .before .loop .p) (c .before .loop .inv .1) (omega arith)

@@ -37,7 +37,10 @@ loop-less : tie.Need-loop-less Inv-loop μ-loop
 loop-less c = search needs
 
 loop-again : tie.Need-loop-again Inv-loop μ-loop
-loop-again c = (omega arith, total-more (c .before .before .before .before .before .args .cells .now) (c .before .before .before .loop .q) (c .before .before .before .loop .x) (c .wrapping-add-u64 .result) (c .before .before .loop-test .taken) (c .before .before .before .loop .inv .1) (c .wrapping-add-u64 .ensures))
+loop-again c =
+    let args = c .before .before .before .before .before .args in
+    let loop = c .before .before .before .loop in
+    (omega arith, total-more (args .cells .now) (loop .q) (loop .x) (c .wrapping-add-u64 .result) (c .before .before .loop-test .taken) (loop .inv .1) (c .wrapping-add-u64 .ensures))
 
 returns : tie.Need-returns Inv-loop μ-loop
 returns c = c .before .loop .inv .1 ∙ ap (λ (l : List ℕ). sum l % 2 ^ 64) (take-all (c .before .loop .q) (c .before .before .before .args .cells .now) (omega arith))
