@@ -14,7 +14,7 @@ unfoldable pub twins : ℕ → List ℕ → Bool
 twins zero cells = false
 twins (suc c) cells = twins c cells || eqb (nth cells (3 * c)) (nth cells (3 * c + 3))
 
--- Two neighbouring replicas are on one processor.
+-- Two neighbouring replicas are on one processor: where processors do not descend, "two copies on one box" (12).
 abbrev pub twice : List ℕ → Bool
 twice cells = twins (length cells / 3 - 1) cells
 
@@ -34,7 +34,7 @@ abbrev pub doubledIn : Doubling → List ℕ
 doubledIn Single = []
 doubledIn (Twice t) = t ∷ []
 
--- The least early time of the first n replicas.
+-- The least early time of the first n replicas: a first finish, if early times are those of a replay.
 unfoldable pub leastEarly : ℕ → List ℕ → ℕ
 leastEarly zero cells = neverCell
 leastEarly (suc c) cells = if ltb (nth cells (3 * c + 1)) (leastEarly c cells) then nth cells (3 * c + 1) else leastEarly c cells

@@ -40,42 +40,36 @@ same-length c = search needs
 
 returns : tie.Need-returns
 returns c =
-    let args = c .before .before .before .before .before .before .before .before .before .before .before .args in
+    let a = c .before .before .before .before .before .before .before .before .before .before .before .args in
     let pre = c .before .before .before .before .before .before .before .before .before .before .before .pre in
-    let check = c .before .before .before .before .before .before .before .check in
+    let k = c .before .before .before .before .before .before .before .check in
     let enum-told = c .before .before .before .before .before .enum-told in
-    let a = args in
-    let k = check in
     let w = c .before .before .write-fixed in
-    shown (verdict document01 (a .job .now) (a .plan .now)) ([]) (a .out .now) (w .last .0) (w .result) (rw (enum-told .given .1) at (k .ensures .0)) (omega arith) (pre) (w .ensures .0) (w .ensures .1)
+    shown (verdict document01 (a .job .now) (a .plan .now)) ([]) (a .out .now) (w .last .0) (w .result) (rw (enum-told .given .1) at (k .ensures .0)) (omega arith) pre (w .ensures .0) (w .ensures .1)
 
 same-length-2 : tie.Need-same-length-2
 same-length-2 c = search needs
 
 returns-2 : tie.Need-returns-2
 returns-2 c =
-    let args = c .before .before .before .before .before .before .before .before .before .before .before .args in
+    let a = c .before .before .before .before .before .before .before .before .before .before .before .args in
     let pre = c .before .before .before .before .before .before .before .before .before .before .before .pre in
-    let check = c .before .before .before .before .before .before .before .check in
+    let k = c .before .before .before .before .before .before .before .check in
     let t = c .before .before .before .before .before .t in
-    let a = args in
-    let k = check in
     let w = c .before .before .write-doubled in
-    shown (verdict document01 (a .job .now) (a .plan .now)) (12 ∷ t .given .0 .0 ∷ []) (a .out .now) (w .last .0) (w .result) (rw (t .given .1) at (k .ensures .0)) (omega arith) (pre) (w .ensures .0) (w .ensures .1)
+    shown (verdict document01 (a .job .now) (a .plan .now)) (12 ∷ t .given .0 .0 ∷ []) (a .out .now) (w .last .0) (w .result) (rw (t .given .1) at (k .ensures .0)) (omega arith) pre (w .ensures .0) (w .ensures .1)
 
 same-length-3 : tie.Need-same-length-3
 same-length-3 c = search needs
 
 returns-3 : tie.Need-returns-3
 returns-3 c =
-    let args = c .before .before .before .before .before .before .before .before .before .before .before .args in
+    let a = c .before .before .before .before .before .before .before .before .before .before .before .args in
     let pre = c .before .before .before .before .before .before .before .before .before .before .before .pre in
-    let check = c .before .before .before .before .before .before .before .check in
+    let k = c .before .before .before .before .before .before .before .check in
     let x = c .before .before .before .before .before .x in
-    let a = args in
-    let k = check in
     let w = c .before .before .write-refusal in
-    shown (verdict document01 (a .job .now) (a .plan .now)) (x .given .0 .0 ∷ []) (a .out .now) (w .last .0) (w .result) (rw (x .given .1) at (k .ensures .0)) (omega arith) (pre) (w .ensures .0) (w .ensures .1)
+    shown (verdict document01 (a .job .now) (a .plan .now)) (x .given .0 .0 ∷ []) (a .out .now) (w .last .0) (w .result) (rw (x .given .1) at (k .ensures .0)) (omega arith) pre (w .ensures .0) (w .ensures .1)
 
 pub answer-spec : {M : Type 1} → statement M
 answer-spec =

@@ -24,11 +24,10 @@ same-length c = search needs
 
 returns : tie.Need-returns
 returns c =
-    let args = c .before .before .before .before .before .before .before .before .before .before .before .args in
+    let a = c .before .before .before .before .before .before .before .before .before .before .before .args in
     let fits2 = c .before .before .before .before .before .before .before .before .fits2 in
     let if1 = c .before .before .before .before .before .before .before .if1 in
     let fill-edges = c .before .before .before .fill-edges in
-    let a = args in
     fill-edges .ensures ∙ sym (edges-fit (length (a .mem .now)) (a .v) (a .n) (drop (a .at) (a .s .now)) (sym (fits2 .ensures) ∙ if1 .taken))
 
 slice-aggregate-fill-edges-2 : tie.Need-slice-aggregate-fill-edges-2
@@ -45,11 +44,10 @@ same-length-2 c = search needs
 
 returns-2 : tie.Need-returns-2
 returns-2 c =
-    let args = c .before .before .before .before .before .before .before .before .before .before .before .args in
+    let a = c .before .before .before .before .before .before .before .before .before .before .before .args in
     let fits2 = c .before .before .before .before .before .before .before .before .fits2 in
     let if1 = c .before .before .before .before .before .before .before .if1 in
     let fill-edges2 = c .before .before .before .fill-edges2 in
-    let a = args in
     fill-edges2 .ensures ∙ sym (edges-fit (length (a .mem .now)) (a .v) (a .n) (drop (a .at) (a .s .now)) (sym (fits2 .ensures) ∙ if1 .taken))
 
 returns-3 : tie.Need-returns-3

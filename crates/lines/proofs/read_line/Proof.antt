@@ -19,9 +19,8 @@ same-length c = search needs
 
 returns-2 : tie.Need-returns-2
 returns-2 c =
-    let args = c .before .before .before .before .before .before .before .before .args in
+    let a = c .before .before .before .before .before .before .before .before .args in
     let if1 = c .before .before .before .before .if1 in
-    let a = args in
     (rw (le-ltb (length (a .vals .now)) (a .k) (if1 .left)) (c .before .before .line-of .ensures .0), (c .before .before .line-of .ensures .1, λ h. absurd (omega (arith, h, if1 .left))))
 
 pub read-line-spec : {M : Type 1} → statement M

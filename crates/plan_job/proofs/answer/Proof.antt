@@ -25,30 +25,25 @@ same-length c = search needs
 
 returns : tie.Need-returns
 returns c =
-    let args = c .before .before .before .before .before .before .before .before .before .args in
+    let a = c .before .before .before .before .before .before .before .before .before .args in
     let pre = c .before .before .before .before .before .before .before .before .before .pre in
-    let plan = c .before .before .before .before .before .plan in
-    let a = args in
-    let w = plan in
+    let w = c .before .before .before .before .before .plan in
     let k = c .before .k in
     shown-done (said (a .job .now)) (planPrinted (a .job .now)) (a .out .now) (w .last .1 .0) (k .given .0 .0) (plan-printed (a .job .now)) (omega (arith, printed-most (a .job .now), pre))
-    (rw (k .given .1, all-fits (a .job .now) (length (a .out .now)) (pre)) at (w .ensures))
+    (rw (k .given .1, all-fits (a .job .now) (length (a .out .now)) pre) at (w .ensures))
 
 same-length-2 : tie.Need-same-length-2
 same-length-2 c = search needs
 
 returns-2 : tie.Need-returns-2
 returns-2 c =
-    let args = c .before .before .before .before .before .before .before .before .before .before .before .before .before .args in
+    let a = c .before .before .before .before .before .before .before .before .before .before .before .before .before .args in
     let pre = c .before .before .before .before .before .before .before .before .before .before .before .before .before .pre in
-    let plan = c .before .before .before .before .before .before .before .before .before .plan in
-    let x-at = c .before .before .before .before .before .x in
-    let a = args in
-    let w = plan in
-    let x = x-at in
+    let w = c .before .before .before .before .before .before .before .before .before .plan in
+    let x = c .before .before .before .before .before .x in
     let z = c .before .before .write-refusal in
     shown-refusal (said (a .job .now)) (planPrinted (a .job .now)) (a .out .now) (w .last .1 .0) (x .given .0 .0) (plan-printed (a .job .now))
-    (omega (arith, printed-most (a .job .now), pre)) (rw (x .given .1, all-fits (a .job .now) (length (a .out .now)) (pre)) at (w .ensures)) (z .last .0) (z .result) (z .ensures .0) (z .ensures .1)
+    (omega (arith, printed-most (a .job .now), pre)) (rw (x .given .1, all-fits (a .job .now) (length (a .out .now)) pre) at (w .ensures)) (z .last .0) (z .result) (z .ensures .0) (z .ensures .1)
 
 pub answer-spec : {M : Type 1} → statement M
 answer-spec =

@@ -15,9 +15,8 @@ enum-told c = search needs
 
 load-plan-requires : tie.Need-load-plan-requires
 load-plan-requires c κs =
-    let args = c .before .before .before .before .before .before .before .before .before .before .args in
+    let a = c .before .before .before .before .before .before .before .before .before .before .args in
     let load-job = c .before .before .before .before .before .load-job in
-    let a = args in
     job-standing (a .rooms) (jobFrom (a .rooms) (length (a .mem .now)) (headOf (a .head)) (drop (a .at) (a .job .now))) (a .plan .now) (load-job .last .1 .1 .1 .0) _
     (rw (c .before .enum-told .given .1) at (load-job .ensures))
 
@@ -29,10 +28,9 @@ same-length c = search needs
 
 returns : tie.Need-returns
 returns c =
-    let args = c .before .before .before .before .before .before .before .before .before .before .before .before .before .args in
+    let a = c .before .before .before .before .before .before .before .before .before .before .before .before .before .args in
     let load-job = c .before .before .before .before .before .before .before .before .load-job in
     let enum-told = c .before .before .before .before .enum-told in
-    let a = args in
     both-loaded (a .rooms) (jobFrom (a .rooms) (length (a .mem .now)) (headOf (a .head)) (drop (a .at) (a .job .now))) (a .plan .now) (load-job .last .1 .1 .1 .0) _
     (rw (enum-told .given .1) at (load-job .ensures)) _ _ (c .before .before .load-plan .ensures .0) (c .before .before .load-plan .ensures .1)
 
@@ -41,9 +39,8 @@ same-length-2 c = search needs
 
 returns-2 : tie.Need-returns-2
 returns-2 c =
-    let args = c .before .before .before .before .before .before .before .before .before .before .args in
+    let a = c .before .before .before .before .before .before .before .before .before .before .args in
     let load-job = c .before .before .before .before .before .load-job in
-    let a = args in
     no-job (a .rooms) (jobFrom (a .rooms) (length (a .mem .now)) (headOf (a .head)) (drop (a .at) (a .job .now))) (a .plan .now) (load-job .last .1 .1 .1 .0) _ (rw (c .before .x .given .1) at (load-job .ensures))
 
 pub load-both-spec : {M : Type 1} → statement M

@@ -20,10 +20,9 @@ same-length c = search needs
 
 returns : tie.Need-returns
 returns c =
-    let args = c .before .before .before .before .before .before .before .before .before .args in
+    let a = c .before .before .before .before .before .before .before .before .before .args in
     let line-fits = c .before .before .before .before .before .line-fits in
     let if1 = c .before .before .before .before .if1 in
-    let a = args in
     let t = lineText document01 (a .opening .now) (a .vals .now) in
     front-fits (a .out .now) t (leb-true (length t) (length (a .out .now)) (sym (line-fits .ensures) ∙ if1 .taken)) _ _ (c .before .before .put-line .ensures .0) (c .before .before .put-line .ensures .1)
 

@@ -17,9 +17,8 @@ enum-told c = search needs
 
 judge-requires : tie.Need-judge-requires
 judge-requires c κs =
-    let args = c .before .before .before .before .before .before .before .before .before .before .args in
+    let a = c .before .before .before .before .before .before .before .before .before .before .args in
     let load-both = c .before .before .before .before .before .load-both in
-    let a = args in
     let x = jobFrom (a .rooms) (length (a .mem .now)) (headOf (a .head)) (drop (a .at) (a .job .now)) in
     both-held (a .rooms) x (a .plan .now) (load-both .last .1 .1 .1 .1 .0) _ (rw (c .before .enum-told .given .1) at (load-both .ensures))
 
@@ -31,9 +30,8 @@ same-length c = search needs
 
 returns : tie.Need-returns
 returns c =
-    let args = c .before .before .before .before .before .before .before .before .before .before .before .args in
+    let a = c .before .before .before .before .before .before .before .before .before .before .before .args in
     let load-both = c .before .before .before .before .before .before .load-both in
-    let a = args in
     let x = withPlan (jobFrom (a .rooms) (length (a .mem .now)) (headOf (a .head)) (drop (a .at) (a .job .now))) (a .plan .now) in
     plan-judged (a .rooms) x (load-both .last .1 .1 .1 .1 .0) _ (rw (c .before .before .enum-told .given .1) at (load-both .ensures)) (c .judge .result) (c .judge .ensures)
 

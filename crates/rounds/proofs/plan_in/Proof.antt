@@ -16,9 +16,8 @@ enum-told c = search needs
 
 put-plan-requires : tie.Need-put-plan-requires
 put-plan-requires c κs =
-    let args = c .before .before .before .before .before .before .before .before .before .before .before .args in
+    let a = c .before .before .before .before .before .before .before .before .before .before .before .args in
     let load-job = c .before .before .before .before .before .before .load-job in
-    let a = args in
     let x = jobFrom (a .rooms) (length (a .mem .now)) (headOf (a .head)) (drop (a .at) (a .job .now)) in
     let l = loaded-job (a .rooms) x (load-job .last .1 .1 .1 .0) _ (rw (c .before .before .enum-told .given .1) at (load-job .ensures)) in
     (l .1, l .2, l .3)
@@ -34,11 +33,10 @@ same-length-2 c = search needs
 
 returns : tie.Need-returns
 returns c =
-    let args = c .before .before .before .before .before .before .before .before .before .before .before .before .before .before .before .before .args in
+    let a = c .before .before .before .before .before .before .before .before .before .before .before .before .before .before .before .before .args in
     let load-job = c .before .before .before .before .before .before .before .before .before .before .before .load-job in
     let enum-told = c .before .before .before .before .before .before .before .enum-told in
     let put-plan = c .before .before .before .before .put-plan in
-    let a = args in
     let x = jobFrom (a .rooms) (length (a .mem .now)) (headOf (a .head)) (drop (a .at) (a .job .now)) in
     plan-put (a .rooms) x (load-job .last .1 .1 .1 .0) (a .out .now) _ (rw (enum-told .given .1) at (load-job .ensures)) (put-plan .last .1 .1 .0) (put-plan .result) (put-plan .ensures)
 

@@ -17,9 +17,8 @@ enum-told c = search needs
 
 put-replay-requires : tie.Need-put-replay-requires
 put-replay-requires c κs =
-    let args = c .before .before .before .before .before .before .before .before .before .before .before .before .before .args in
+    let a = c .before .before .before .before .before .before .before .before .before .before .before .before .before .args in
     let load-both = c .before .before .before .before .before .before .load-both in
-    let a = args in
     let x = jobFrom (a .rooms) (length (a .mem .now)) (headOf (a .head)) (drop (a .at) (a .job .now)) in
     both-held (a .rooms) x (a .plan .now) (load-both .last .1 .1 .1 .1 .0) _ (rw (c .before .before .enum-told .given .1) at (load-both .ensures))
 
@@ -34,11 +33,10 @@ same-length-2 c = search needs
 
 returns : tie.Need-returns
 returns c =
-    let args = c .before .before .before .before .before .before .before .before .before .before .before .before .before .before .before .before .before .before .args in
+    let a = c .before .before .before .before .before .before .before .before .before .before .before .before .before .before .before .before .before .before .args in
     let load-both = c .before .before .before .before .before .before .before .before .before .before .before .load-both in
     let enum-told = c .before .before .before .before .before .before .before .enum-told in
     let put-replay = c .before .before .before .before .put-replay in
-    let a = args in
     let x = withPlan (jobFrom (a .rooms) (length (a .mem .now)) (headOf (a .head)) (drop (a .at) (a .job .now))) (a .plan .now) in
     replay-put (a .rooms) x (load-both .last .1 .1 .1 .1 .0) (a .stops .now) (a .out .now) _ (rw (enum-told .given .1) at (load-both .ensures)) (put-replay .last .1 .1 .1 .0) (put-replay .result) (put-replay .ensures)
 
@@ -47,9 +45,8 @@ same-length-3 c = search needs
 
 returns-2 : tie.Need-returns-2
 returns-2 c =
-    let args = c .before .before .before .before .before .before .before .before .before .before .before .before .args in
+    let a = c .before .before .before .before .before .before .before .before .before .before .before .before .args in
     let load-both = c .before .before .before .before .before .load-both in
-    let a = args in
     let x = withPlan (jobFrom (a .rooms) (length (a .mem .now)) (headOf (a .head)) (drop (a .at) (a .job .now))) (a .plan .now) in
     replay-refused (a .rooms) x (load-both .last .1 .1 .1 .1 .0) (a .stops .now) (a .out .now) _ (rw (c .before .x .given .1) at (load-both .ensures))
 

@@ -26,11 +26,10 @@ same-length c = search needs
 
 returns : tie.Need-returns
 returns c =
-    let args = c .before .before .before .before .before .before .before .before .before .before .args in
+    let a = c .before .before .before .before .before .before .before .before .before .before .args in
     let is-wide = c .before .before .before .before .before .before .is-wide in
     let if1 = c .before .before .before .before .before .if1 in
     let if2 = c .before .before .before .before .if2 in
-    let a = args in
     let w = sym (is-wide .ensures) ∙ if1 .taken in
     let z = some-number (a .k) (a .n) (a .kind) w in
     c .before .before .fill-rows .ensures ∙ sym (rows-fit (length (a .mem .now)) (a .kind) (a .opening .now) (a .k) (a .n) (drop (a .at) (a .s .now)) w (rows-within (length (a .mem .now)) (a .k) (a .n) z (if2 .taken)))

@@ -35,12 +35,11 @@ returns-5 c =
 
 returns-6 : tie.Need-returns-6
 returns-6 c =
-    let args = c .before .before .before .before .before .before .before .args in
+    let a = c .before .before .before .before .before .before .before .args in
     let pre = c .before .before .before .before .before .before .before .pre in
     let if1 = c .before .before .before .before .before .if1 in
     let if2 = c .before .before .before .before .if2 in
     let if3 = c .before .before .before .if3 in
-    let a = args in
     let z : pairBit (a .pairs .now) (a .from) (a .to) ≡ 0 = omega (arith, eqb-false (pairBit (a .pairs .now) (a .from) (a .to)) 1 (sym (c .before .has-pair .ensures) ∙ c .if5 .left)) in
     (λ seen p. edge-new _ _ _ (if1 .left) (if2 .left) (if3 .left) _ p (pre .0) (c .before .before .if4 .left) z, λ e. (if1 .left, if2 .left, if3 .left, z))
 

@@ -65,12 +65,10 @@ same-length-2 c = search needs
 
 returns : tie.Need-returns Inv-loop μ-loop
 returns c =
-    let args = c .before .before .before .before .before .before .before .before .before .before .before .before .before .before .before .args in
-    let loop = c .before .before .before .before .before .before .before .before .before .before .before .loop in
+    let a = c .before .before .before .before .before .before .before .before .before .before .before .before .before .before .before .args in
+    let l = c .before .before .before .before .before .before .before .before .before .before .before .loop in
     let loop-test = c .before .before .before .before .before .before .before .before .before .before .loop-test in
     let read-edge = c .before .before .before .before .before .before .before .read-edge in
-    let a = args in
-    let l = loop in
     let e = sym (read-edge .ensures (map edgeIn (take (l .i) (l .mem))) (l .inv .2) .answer) ∙ ap (told (a .s .now) (edgeIn (nth (read-edge .last .1 .1 .1 .0) 0))) (c .before .x .given .1) in
     lines-no (edgeLine document01) (edgeRule document01 (a .v)) (a .n) (l .i) (map edgeIn (take (l .i) (l .mem))) (drop (l .p) (a .s .now)) (loop-test .taken) _ e ∙ l .inv .3
 
@@ -82,13 +80,11 @@ loop-less c = search needs
 
 loop-again : tie.Need-loop-again Inv-loop μ-loop
 loop-again c =
-    let args = c .before .before .before .before .before .before .before .before .before .before .before .before .before .before .before .args in
+    let a = c .before .before .before .before .before .before .before .before .before .before .before .before .before .before .before .args in
     let pre = c .before .before .before .before .before .before .before .before .before .before .before .before .before .before .before .pre in
-    let loop = c .before .before .before .before .before .before .before .before .before .before .before .loop in
+    let l = c .before .before .before .before .before .before .before .before .before .before .before .loop in
     let loop-test = c .before .before .before .before .before .before .before .before .before .before .loop-test in
     let read-edge = c .before .before .before .before .before .before .before .read-edge in
-    let a = args in
-    let l = loop in
     let seen = map edgeIn (take (l .i) (l .mem)) in
     let ys = read-edge .last .1 .1 .1 .0 in
     let r = read-edge .ensures seen (l .inv .2) in

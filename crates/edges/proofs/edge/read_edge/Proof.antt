@@ -43,12 +43,11 @@ same-length-2 c = search needs
 
 returns : tie.Need-returns
 returns c =
-    let args = c .before .before .before .before .before .before .before .before .before .before .before .before .before .before .before .before .before .args in
+    let a = c .before .before .before .before .before .before .before .before .before .before .before .before .before .before .before .before .before .args in
     let pre = c .before .before .before .before .before .before .before .before .before .before .before .before .before .before .before .before .before .pre in
     let read-line = c .before .before .before .before .before .before .before .before .before .before .before .read-line in
     let p = c .before .before .before .before .before .before .before .p in
     λ seen q.
-    let a = args in
     let ys = read-line .last .1 .1 .1 .1 .0 in
     let e = sym (read-line .ensures .0 ∙ line-fits _ _ _ _ (pre .1)) ∙ ap (told (a .s .now) (take 3 ys)) (p .given .1) in
     record {
@@ -81,7 +80,7 @@ same-length-4 c = search needs
 
 returns-2 : tie.Need-returns-2
 returns-2 c =
-    let args = c .before .before .before .before .before .before .before .before .before .before .before .before .before .before .before .before .before .before .before .before .before .before .args in
+    let a = c .before .before .before .before .before .before .before .before .before .before .before .before .before .before .before .before .before .before .before .before .before .before .args in
     let pre = c .before .before .before .before .before .before .before .before .before .before .before .before .before .before .before .before .before .before .before .before .before .before .pre in
     let read-line = c .before .before .before .before .before .before .before .before .before .before .before .before .before .before .before .before .read-line in
     let p = c .before .before .before .before .before .before .before .before .before .before .before .before .p in
@@ -89,7 +88,6 @@ returns-2 c =
     let if1 = c .before .before .before .before .before .if1 in
     let cell-of = c .before .before .before .before .cell-of in
     λ seen q.
-    let a = args in
     let ys = read-line .last .1 .1 .1 .1 .0 in
     let e = sym (read-line .ensures .0 ∙ line-fits _ _ _ _ (pre .1)) ∙ ap (told (a .s .now) (take 3 ys)) (p .given .1) in
     let h = check-edge .ensures .1 (omega (arith, if1 .left)) in
@@ -104,11 +102,10 @@ same-length-5 c = search needs
 
 returns-3 : tie.Need-returns-3
 returns-3 c =
-    let args = c .before .before .before .before .before .before .before .before .before .before .before .args in
+    let a = c .before .before .before .before .before .before .before .before .before .before .before .args in
     let pre = c .before .before .before .before .before .before .before .before .before .before .before .pre in
     let read-line = c .before .before .before .before .before .read-line in
     λ seen q.
-    let a = args in
     let ys = read-line .last .1 .1 .1 .1 .0 in
     let e = sym (read-line .ensures .0 ∙ line-fits _ _ _ _ (pre .1)) ∙ ap (told (a .s .now) (take 3 ys)) (c .before .x .given .1) in
     record {

@@ -60,8 +60,8 @@ load-edges-requires c κs =
     let d = args .mem .now in
     let a = delaysAt (jobHeadOf d) in
     let ys = read-rows .last .1 .1 .1 .1 .1 .1 .0 in
-    let r = runs-most d (pre) in
-    lent-headed d (putMid a (length d - a) d ys) ys a refl (read-rows .kept .1 .1 .1 .1 .1 .1 .0) (omega arith) (omega arith) (pre)
+    let r = runs-most d pre in
+    lent-headed d (putMid a (length d - a) d ys) ys a refl (read-rows .kept .1 .1 .1 .1 .1 .1 .0) (omega arith) (omega arith) pre
 
 enum-known-n : tie.Need-enum-known-n
 enum-known-n c = search needs
@@ -72,13 +72,12 @@ same-length c = search needs
 returns : tie.Need-returns
 returns c runs q =
     let args = c .before .before .before .before .before .before .before .before .before .before .before .before .before .before .before .before .args in
-    let pre = c .before .before .before .before .before .before .before .before .before .before .before .before .before .before .before .before .pre in
+    let w = c .before .before .before .before .before .before .before .before .before .before .before .before .before .before .before .before .pre in
     let read-rows = c .before .before .before .before .before .before .before .before .before .read-rows in
     let p = c .before .before .before .before .before .p in
     let s = args .s .now in
     let d = args .mem .now in
     let at = args .at in
-    let w = pre in
     let a = delaysAt (jobHeadOf d) in
     let ys = read-rows .last .1 .1 .1 .1 .1 .1 .0 in
     let x = putMid a (length d - a) d ys in

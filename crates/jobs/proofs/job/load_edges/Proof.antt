@@ -56,13 +56,13 @@ add-end : tie.Need-add-end
 add-end c =
     let args = c .before .before .before .before .before .before .before .before .before .before .before .before .args in
     let pre = c .before .before .before .before .before .before .before .before .before .before .before .before .pre in
-    omega (arith, rows-most (args .mem .now) (pre), pre .edges-most)
+    omega (arith, rows-most (args .mem .now) pre, pre .edges-most)
 
 mul-close : tie.Need-mul-close
 mul-close c =
     let args = c .before .before .before .before .before .before .before .before .before .before .before .before .args in
     let pre = c .before .before .before .before .before .before .before .before .before .before .before .before .pre in
-    omega (arith, rows-most (args .mem .now) (pre))
+    omega (arith, rows-most (args .mem .now) pre)
 
 sub-close : tie.Need-sub-close
 sub-close c = search needs
@@ -75,23 +75,22 @@ part-close-end c =
     let args = c .before .before .before .before .before .before .before .before .before .before .before .before .before .args in
     let pre = c .before .before .before .before .before .before .before .before .before .before .before .before .before .pre in
     let read-edges = c .before .before .before .before .before .before .read-edges in
-    edges-fit (args .mem .now) _ (read-edges .last .1 .1 .1 .1 .0) (pre) refl (read-edges .kept .1 .1 .1 .1 .0)
+    edges-fit (args .mem .now) _ (read-edges .last .1 .1 .1 .1 .0) pre refl (read-edges .kept .1 .1 .1 .1 .0)
 
 close-requires : tie.Need-close-requires
 close-requires c κs =
     let args = c .before .before .before .before .before .before .before .before .before .before .before .before .before .before .args in
-    let pre = c .before .before .before .before .before .before .before .before .before .before .before .before .before .before .pre in
+    let w = c .before .before .before .before .before .before .before .before .before .before .before .before .before .before .pre in
     let read-edges = c .before .before .before .before .before .before .before .read-edges in
     let p = c .before .before .before .p in
     let s = args .s .now in
     let d = args .mem .now in
     let ys = read-edges .last .1 .1 .1 .1 .0 in
     let es = map edgeIn (take (nth d 2) ys) in
-    let w = pre in
     let q = edges-part d _ ys w refl (read-edges .kept .1 .1 .1 .1 .0) in (
       w .tasks-most,
       rw q (omega (arith, length-take (nth d 2) ys, w .edges-most)),
-      rw q (edges-within (nth d 0) (nth d 2) _ es _ (sym (read-edges .ensures ∙ edges-read d (pre) (drop (args .at) s)) ∙ ap (told s es) (p .given .1))),
+      rw q (edges-within (nth d 0) (nth d 2) _ es _ (sym (read-edges .ensures ∙ edges-read d w (drop (args .at) s)) ∙ ap (told s es) (p .given .1))),
     )
 
 enum-known-n : tie.Need-enum-known-n
@@ -111,9 +110,9 @@ returns c runs delays q =
     let ys = read-edges .last .1 .1 .1 .1 .0 in
     let l = read-edges .kept .1 .1 .1 .1 .0 in
     let es = map edgeIn (take (nth d 2) ys) in
-    rw (c .close .ensures, edges-part d _ ys (pre) refl l)
-    (edges-closed (jobHeadOf d) runs delays (drop (args .at) s) _ es s (p .given .0 .0) (sym (read-edges .ensures ∙ edges-read d (pre) (drop (args .at) s)) ∙ ap (told s es) (p .given .1))
-    _ (edges-fit d _ ys (pre) refl l) (edges-in d _ ys (pre) refl l runs delays q))
+    rw (c .close .ensures, edges-part d _ ys pre refl l)
+    (edges-closed (jobHeadOf d) runs delays (drop (args .at) s) _ es s (p .given .0 .0) (sym (read-edges .ensures ∙ edges-read d pre (drop (args .at) s)) ∙ ap (told s es) (p .given .1))
+    _ (edges-fit d _ ys pre refl l) (edges-in d _ ys pre refl l runs delays q))
 
 same-length-2 : tie.Need-same-length-2
 same-length-2 c = search needs
@@ -126,7 +125,7 @@ returns-2 c runs delays q =
     let s = args .s .now in
     let d = args .mem .now in
     let es = map edgeIn (take (nth d 2) (read-edges .last .1 .1 .1 .1 .0)) in
-    edges-no (jobHeadOf d) runs delays (drop (args .at) s) _ _ (sym (read-edges .ensures ∙ edges-read d (pre) (drop (args .at) s)) ∙ ap (told s es) (c .before .n .given .1))
+    edges-no (jobHeadOf d) runs delays (drop (args .at) s) _ _ (sym (read-edges .ensures ∙ edges-read d pre (drop (args .at) s)) ∙ ap (told s es) (c .before .n .given .1))
 
 pub load-edges-spec : {M : Type 1} → statement M
 load-edges-spec =

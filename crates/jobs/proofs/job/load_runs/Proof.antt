@@ -49,7 +49,7 @@ load-delays-requires c κs =
     let read-rows = c .before .before .before .before .before .before .read-rows in
     let d = args .mem .now in
     let ys = read-rows .last .1 .1 .1 .1 .1 .1 .0 in
-    lent-headed d (putMid 4 (length d - 4) d ys) ys 4 refl (read-rows .kept .1 .1 .1 .1 .1 .1 .0) (omega arith) (omega arith) (pre)
+    lent-headed d (putMid 4 (length d - 4) d ys) ys 4 refl (read-rows .kept .1 .1 .1 .1 .1 .1 .0) (omega arith) (omega arith) pre
 
 enum-known-n : tie.Need-enum-known-n
 enum-known-n c = search needs
@@ -60,13 +60,12 @@ same-length c = search needs
 returns : tie.Need-returns
 returns c =
     let args = c .before .before .before .before .before .before .before .before .before .before .before .before .before .before .before .before .args in
-    let pre = c .before .before .before .before .before .before .before .before .before .before .before .before .before .before .before .before .pre in
+    let w = c .before .before .before .before .before .before .before .before .before .before .before .before .before .before .before .before .pre in
     let read-rows = c .before .before .before .before .before .before .before .before .before .read-rows in
     let p = c .before .before .before .before .before .p in
     let s = args .s .now in
     let d = args .mem .now in
     let at = args .at in
-    let w = pre in
     let ys = read-rows .last .1 .1 .1 .1 .1 .1 .0 in
     let x = putMid 4 (length d - 4) d ys in
     let rs = rows (1 + nth d 1) (nth d 0) ys in

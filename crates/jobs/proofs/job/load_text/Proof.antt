@@ -16,7 +16,7 @@ load-rest-requires : tie.Need-load-rest-requires
 load-rest-requires c κs =
     let pre = c .before .before .before .before .before .before .before .pre in
     let read-head = c .before .before .before .before .read-head in
-    let h = rw (c .before .before .head .given .1) at (read-head .ensures) in (h .0, omega (arith, fits-most _ (h .0), (pre)))
+    let h = rw (c .before .before .head .given .1) at (read-head .ensures) in (h .0, omega (arith, fits-most _ (h .0), pre))
 
 enum-known-x : tie.Need-enum-known-x
 enum-known-x c = search needs

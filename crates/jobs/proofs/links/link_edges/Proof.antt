@@ -26,13 +26,13 @@ edges-at-requires c κs =
     let args = c .before .before .before .before .before .before .before .args in
     let pre = c .before .before .before .before .before .before .before .pre in
     let clear-heads = c .before .before .before .before .clear-heads in
-    (args .rooms, held-kept (pre) (clear-heads .ensures .0) (omega arith))
+    (args .rooms, held-kept pre (clear-heads .ensures .0) (omega arith))
 
 loop-holds : tie.Need-loop-holds Inv-loop μ-loop
 loop-holds c =
     let pre = c .before .before .before .before .before .before .before .before .pre in
     let clear-heads = c .before .before .before .before .before .clear-heads in
-    (omega arith, held-kept (pre) (clear-heads .ensures .0) (omega arith), laying-none _ (clear-heads .ensures .1))
+    (omega arith, held-kept pre (clear-heads .ensures .0) (omega arith), laying-none _ (clear-heads .ensures .1))
 
 add-c : tie.Need-add-c Inv-loop μ-loop
 add-c c = search needs
@@ -59,8 +59,7 @@ put-in-front-requires : tie.Need-put-in-front-requires Inv-loop μ-loop
 put-in-front-requires c κs =
     let clear-heads = c .before .before .before .before .before .before .before .before .before .clear-heads in
     let edges-at = c .before .before .before .before .edges-at in
-    let loop = c .before .before .before .loop in
-    let l = loop in
+    let l = c .before .before .before .loop in
     let p = places (l .inv .1) (l .i) _ (c .before .before .loop-test .taken) (cell (clear-heads .last .0) (l .mem) (edges-at .result) (l .i) (edges-at .ensures)) (l .inv .2) in
     (p .in-head, p .in-next, p .few)
 
@@ -80,10 +79,9 @@ put-in-front-requires-2 : tie.Need-put-in-front-requires-2 Inv-loop μ-loop
 put-in-front-requires-2 c κs =
     let clear-heads = c .before .before .before .before .before .before .before .before .before .before .before .before .before .clear-heads in
     let edges-at = c .before .before .before .before .before .before .before .before .edges-at in
-    let loop = c .before .before .before .before .before .before .before .loop in
+    let l = c .before .before .before .before .before .before .before .loop in
     let loop-test = c .before .before .before .before .before .before .loop-test in
     let put-in-front = c .before .before .before .put-in-front in
-    let l = loop in
     let p = places (l .inv .1) (l .i) _ (loop-test .taken) (cell (clear-heads .last .0) (l .mem) (edges-at .result) (l .i) (edges-at .ensures)) (l .inv .2) in
     (omega (arith, p .out-head, put-in-front .kept .0), omega (arith, p .out-next, put-in-front .kept .0), p .few)
 

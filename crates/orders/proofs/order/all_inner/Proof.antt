@@ -31,9 +31,8 @@ returns c = let l = c .before .before .before .loop in
 returns-2 : tie.Need-returns-2 Inv-loop μ-loop
 returns-2 c =
     let args = c .before .before .before .before .before .args in
-    let loop = c .before .before .before .before .loop in
+    let l = c .before .before .before .before .loop in
     let loop-test = c .before .before .before .loop-test in
-    let l = loop in
     sym (all-drop (inner (args .v)) (args .edges .now) (l .i) 0 (loop-test .taken) ∙ rw (lt-ltb _ _ (c .before .if1 .left), le-ltb _ _ (c .if2 .taken))) ∙ l .inv .1
 
 add-i : tie.Need-add-i Inv-loop μ-loop
@@ -45,9 +44,8 @@ loop-less c = search needs
 loop-again : tie.Need-loop-again Inv-loop μ-loop
 loop-again c =
     let args = c .before .before .before .before .before .args in
-    let loop = c .before .before .before .before .loop in
+    let l = c .before .before .before .before .loop in
     let loop-test = c .before .before .before .loop-test in
-    let l = loop in
     (search needs, sym (all-drop (inner (args .v)) (args .edges .now) (l .i) 0 (loop-test .taken) ∙ rw (lt-ltb _ _ (c .before .if1 .left), lt-ltb _ _ (c .if2 .left))) ∙ l .inv .1)
 
 returns-3 : tie.Need-returns-3 Inv-loop μ-loop

@@ -65,8 +65,7 @@ add-blocked : tie.Need-add-blocked Inv-loop μ-loop
 add-blocked c =
     let args = c .before .before .before .before .before .args in
     let pre = c .before .before .before .before .before .pre in
-    let loop = c .before .before .before .before .loop in
-    let l = loop in
+    let l = c .before .before .before .before .loop in
     omega (arith, counted-most (args .edges .now) (l .blocked) (l .i) (l .inv .5) (toOf (args .edges .now) (l .i)) (mod-lt _ (omega arith)), l .inv .0, pre .0)
 
 element-write-blocked : tie.Need-element-write-blocked Inv-loop μ-loop
@@ -82,9 +81,8 @@ loop-again : tie.Need-loop-again Inv-loop μ-loop
 loop-again c =
     let args = c .before .before .before .before .before .args in
     let pre = c .before .before .before .before .before .pre in
-    let loop = c .before .before .before .before .loop in
+    let l = c .before .before .before .before .loop in
     let loop-test = c .before .before .before .loop-test in
-    let l = loop in
     let s = args .edges .now in (
       search needs,
       simp length-set (l .inv .1),

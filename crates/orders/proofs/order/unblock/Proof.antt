@@ -110,9 +110,8 @@ loop-again : tie.Need-loop-again Inv-loop μ-loop
 loop-again c =
     let args = c .before .before .before .before .before .before .before .before .args in
     let pre = c .before .before .before .before .before .before .before .before .pre in
-    let loop = c .before .before .before .before .before .loop in
+    let l = c .before .before .before .before .before .loop in
     let loop-test = c .before .before .before .before .loop-test in
-    let l = loop in
     let some = loop-test .taken in
     let h = l .k - 1 in
     let e : l .k ≡ suc h = omega arith in

@@ -71,11 +71,10 @@ same-length c = search needs
 
 returns : tie.Need-returns
 returns c =
-    let args = c .before .before .before .before .before .before .before .before .before .before .before .before .before .before .args in
+    let a = c .before .before .before .before .before .before .before .before .before .before .before .before .before .before .args in
     let pre = c .before .before .before .before .before .before .before .before .before .before .before .before .before .before .pre in
     let read-line = c .before .before .before .before .before .before .before .before .read-line in
     let p = c .before .before .before .before .p in
-    let a = args in
     let n = 4 + 3 * nth (a .mem .now) 3 in
     let ys = read-line .last .1 .1 .1 .1 .0 in
     let l = read-line .kept .1 .1 .1 .1 .0 in
@@ -124,11 +123,10 @@ same-length-2 c = search needs
 
 returns-2 : tie.Need-returns-2
 returns-2 c =
-    let args = c .before .before .before .before .before .before .before .before .before .before .before .before .before .before .before .args in
+    let a = c .before .before .before .before .before .before .before .before .before .before .before .before .before .before .before .args in
     let pre = c .before .before .before .before .before .before .before .before .before .before .before .before .before .before .before .pre in
     let read-line = c .before .before .before .before .before .before .before .before .before .read-line in
     let p = c .before .before .before .before .before .p in
-    let a = args in
     let n = 4 + 3 * nth (a .mem .now) 3 in
     let ys = read-line .last .1 .1 .1 .1 .0 in
     let l = read-line .kept .1 .1 .1 .1 .0 in
@@ -142,10 +140,9 @@ same-length-3 c = search needs
 
 returns-3 : tie.Need-returns-3
 returns-3 c =
-    let args = c .before .before .before .before .before .before .before .before .before .before .before .args in
+    let a = c .before .before .before .before .before .before .before .before .before .before .before .args in
     let pre = c .before .before .before .before .before .before .before .before .before .before .before .pre in
     let read-line = c .before .before .before .before .before .read-line in
-    let a = args in
     let n = 4 + 3 * nth (a .mem .now) 3 in
     let ys = read-line .last .1 .1 .1 .1 .0 in
     let l = read-line .kept .1 .1 .1 .1 .0 in

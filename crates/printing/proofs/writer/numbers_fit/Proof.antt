@@ -32,10 +32,9 @@ width-of-requires c κs = search needs
 returns : tie.Need-returns Inv-loop μ-loop
 returns c =
     let args = c .before .before .before .before .before .before .args in
-    let loop = c .before .before .before .before .loop in
+    let l = c .before .before .before .before .loop in
     let loop-test = c .before .before .before .loop-test in
     let s = args .vals .now in
-    let l = loop in
     sym (lt-leb (length (textOf s)) (args .room) (omega (arith, l .inv .2, c .before .width-of .ensures, c .if1 .taken, length-next s (l .i) (loop-test .taken))))
 
 add-left : tie.Need-add-left Inv-loop μ-loop
@@ -53,10 +52,9 @@ loop-less c = search needs
 loop-again : tie.Need-loop-again Inv-loop μ-loop
 loop-again c =
     let args = c .before .before .before .before .before .before .args in
-    let loop = c .before .before .before .before .loop in
+    let l = c .before .before .before .before .loop in
     let loop-test = c .before .before .before .loop-test in
     let s = args .vals .now in
-    let l = loop in
     (omega (arith, loop-test .taken), omega (arith, l .inv .1), omega (arith, l .inv .2, c .before .width-of .ensures, c .if1 .left, length-next s (l .i) (loop-test .taken)))
 
 returns-2 : tie.Need-returns-2 Inv-loop μ-loop

@@ -21,8 +21,8 @@ returns c =
     let pre = c .before .before .before .before .before .before .before .before .before .before .before .pre in
     let write-fixed = c .before .before .before .before .before .before .write-fixed in
     let a = args in let w = write-fixed in let n = c .before .before .write-numbers in (
-      line-place (a .out .now) (a .opening .now) (a .vals .now) (pre) (w .last .0) (w .result) (w .ensures .1) (w .ensures .0) (n .result) (n .ensures .0),
-      line-whole (a .out .now) (a .opening .now) (a .vals .now) (pre) (w .last .0) (w .result) (w .ensures .1) (w .ensures .0) (n .last .0) (n .ensures .1),
+      line-place (a .out .now) (a .opening .now) (a .vals .now) pre (w .last .0) (w .result) (w .ensures .1) (w .ensures .0) (n .result) (n .ensures .0),
+      line-whole (a .out .now) (a .opening .now) (a .vals .now) pre (w .last .0) (w .result) (w .ensures .1) (w .ensures .0) (n .last .0) (n .ensures .1),
     )
 
 pub put-line-spec : {M : Type 1} → statement M

@@ -56,10 +56,9 @@ shared-slice-read-t18 c = search needs
 
 returns : tie.Need-returns Inv-loop μ-loop
 returns c =
-    let args = c .before .before .before .before .before .before .before .args in
+    let a = c .before .before .before .before .before .before .before .args in
     let loop = c .before .before .before .before .before .loop in
     let loop-test = c .before .before .before .before .loop-test in
-    let a = args in
     first-here (a .w) (a .lines .now) (loop .k) _ (loop-test .taken) (loop .inv .1) (part-cells (a .w) (a .lines .now) (loop .k) (sym (c .before .if1 .taken) ∙ c .before .before .has-twins .ensures))
 
 add-k : tie.Need-add-k Inv-loop μ-loop
@@ -70,10 +69,9 @@ loop-less c = search needs
 
 loop-again : tie.Need-loop-again Inv-loop μ-loop
 loop-again c =
-    let args = c .before .before .before .before .before .before .args in
+    let a = c .before .before .before .before .before .before .args in
     let loop = c .before .before .before .before .loop in
     let loop-test = c .before .before .before .loop-test in
-    let a = args in
     (omega (arith, loop-test .taken), first-next (a .w) (a .lines .now) (loop .k) (loop .inv .1) (part-cells (a .w) (a .lines .now) (loop .k) (sym (c .if1 .left) ∙ c .before .has-twins .ensures)))
 
 returns-2 : tie.Need-returns-2 Inv-loop μ-loop

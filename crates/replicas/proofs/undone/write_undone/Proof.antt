@@ -39,10 +39,8 @@ returns-2 c =
     let args = c .before .before .before .before .before .before .before .before .before .before .before .before .before .before .before .before .before .args in
     let width-of = c .before .before .before .before .before .before .before .before .before .before .before .before .before .before .before .width-of in
     let if1 = c .before .before .before .before .before .before .before .before .before .before .before .before .before .before .if1 in
-    let write-fixed = c .before .before .before .before .before .before .before .before .before .before .before .write-fixed in
-    let write-number = c .before .before .before .before .before .before .before .write-number in
-    let u = write-fixed in
-    let v = write-number in
+    let u = c .before .before .before .before .before .before .before .before .before .before .before .write-fixed in
+    let v = c .before .before .before .before .before .before .before .write-number in
     let w = c .before .before .write-fixed2 in
     undone-whole (args .t) (args .out .now) (u .last .0) (v .last .0) (w .last .0) (u .result) (v .result) (w .result) (omega (arith, if1 .left, width-of .ensures))
     (u .ensures .1)

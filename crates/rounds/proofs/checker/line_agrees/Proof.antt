@@ -173,10 +173,9 @@ loop-again c =
     let pre = c .before .before .before .before .before .before .before .before .before .before .before .before .before .pre in
     let args = c .before .before .before .before .before .before .before .before .before .before .before .before .before .args in
     let finishes = c .before .before .before .before .before .before .before .before .before .finishes in
-    let loop = c .before .before .before .before .before .before .before .before .loop in
+    let l = c .before .before .before .before .before .before .before .before .loop in
     let loop-test = c .before .before .before .before .before .before .before .loop-test in
     let if1 = c .before .before .before .if1 in
-    let l = loop in
     (omega arith, agrees-next (pre .0) (args .k) (pre .2) (l .c) (loop-test .taken) (args .clocks) (pre .4) (finishes .result .early) (finishes .result .late) (finishes .ensures) (if1 .left) (c .if2 .left) (l .inv .1))
 
 returns-3 : tie.Need-returns-3 Inv-loop μ-loop

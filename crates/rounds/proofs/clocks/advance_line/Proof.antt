@@ -91,10 +91,9 @@ loop-less c = search needs
 loop-again : tie.Need-loop-again Inv-loop μ-loop
 loop-again c =
     let pre = c .before .before .before .before .before .before .before .before .pre in
-    let loop = c .before .before .before .before .before .loop in
+    let l = c .before .before .before .before .before .loop in
     let loop-test = c .before .before .before .before .loop-test in
-    let l = loop in
-    (omega arith, λ es ls s. clocks-next (pre) (l .after) _ (l .c) (loop-test .taken) (c .advance .ensures .0) (c .advance .ensures .1) es ls (l .inv .1 es ls s))
+    (omega arith, λ es ls s. clocks-next pre (l .after) _ (l .c) (loop-test .taken) (c .advance .ensures .0) (c .advance .ensures .1) es ls (l .inv .1 es ls s))
 
 returns : tie.Need-returns Inv-loop μ-loop
 returns c = let e : c .before .loop .c ≡ nth (c .before .before .before .before .args .mem .now) 3 + 1 = omega arith in rw e at (c .before .loop .inv .1)

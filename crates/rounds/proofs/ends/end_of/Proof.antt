@@ -33,9 +33,8 @@ loop-less c = search needs
 
 loop-again : tie.Need-loop-again Inv-loop μ-loop
 loop-again c =
-    let args = c .before .before .before .before .before .before .args in
+    let a = c .before .before .before .before .before .before .args in
     let loop = c .before .before .before .loop in
-    let a = args in
     let l = loop in (
       search needs,
       ending-next (a .rooms) (a .late) (a .mem .now) (l .acc) (l .t) (c .before .exit-time .result) (c .chosen-of .result) (c .before .before .loop-test .taken)

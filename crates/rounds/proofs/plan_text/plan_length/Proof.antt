@@ -38,7 +38,7 @@ loop-holds c =
     let args = c .before .before .before .before .before .before .args in
     let pre = c .before .before .before .before .before .before .pre in
     let (e, m) = head-counted (args .rooms) (args .mem .now) (c .before .before .plan-head .result) (c .line-length .result) (c .before .before .plan-head .ensures) (c .line-length .ensures) in
-    (omega arith, omega (arith, m), omega (arith, e, ap length (rows-none (sizes (pre)))))
+    (omega arith, omega (arith, m), omega (arith, e, ap length (rows-none (sizes pre))))
 
 row-length-requires : tie.Need-row-length-requires Inv-loop μ-loop
 row-length-requires c κs = (c .before .before .before .before .before .before .before .before .pre, c .loop-test .taken)
@@ -54,11 +54,10 @@ loop-less c = omega (arith, c .before .loop-test .taken)
 
 loop-again : tie.Need-loop-again Inv-loop μ-loop
 loop-again c =
-    let args = c .before .before .before .before .before .before .before .before .before .args in
+    let a = c .before .before .before .before .before .before .before .before .before .args in
     let pre = c .before .before .before .before .before .before .before .before .before .pre in
-    let a = args in
     let l = c .before .before .loop in
-    let n = length-next (λ i. rowLines (a .rooms) i (a .mem .now)) (λ i. rowLine (a .rooms) i (a .mem .now)) (nth (a .mem .now) 0) (rows-next (sizes (pre))) (l .k) (c .before .loop-test .taken) in
+    let n = length-next (λ i. rowLines (a .rooms) i (a .mem .now)) (λ i. rowLine (a .rooms) i (a .mem .now)) (nth (a .mem .now) 0) (rows-next (sizes pre)) (l .k) (c .before .loop-test .taken) in
     (omega (arith, c .before .loop-test .taken), omega (arith, l .inv .1, c .row-length .ensures .1), omega (arith, l .inv .2, c .row-length .ensures .0, n))
 
 returns : tie.Need-returns Inv-loop μ-loop

@@ -18,12 +18,10 @@ write-line-requires c κs = search needs
 
 write-rows-requires : tie.Need-write-rows-requires
 write-rows-requires c κs =
-    let args = c .before .before .before .before .before .before .before .before .before .before .args in
+    let a = c .before .before .before .before .before .before .before .before .before .before .args in
     let pre = c .before .before .before .before .before .before .before .before .before .before .pre in
     let plan-head = c .before .before .before .before .before .plan-head in
-    let write-line = c .before .before .before .write-line in
-    let a = args in
-    let w = write-line in
+    let w = c .before .before .before .write-line in
     let q = head-part (a .rooms) (a .mem .now) (plan-head .result) (plan-head .ensures) in
     (pre .0, rows-room (a .rooms) (a .mem .now) (a .out .now) (w .last .0) (w .result) (pre .1) (rw q at (w .ensures .0)) (rw q at (w .ensures .1)))
 
@@ -32,12 +30,10 @@ same-length c = search needs
 
 returns : tie.Need-returns
 returns c =
-    let args = c .before .before .before .before .before .before .before .before .before .before .before .before .before .args in
+    let a = c .before .before .before .before .before .before .before .before .before .before .before .before .before .args in
     let pre = c .before .before .before .before .before .before .before .before .before .before .before .before .before .pre in
     let plan-head = c .before .before .before .before .before .before .before .before .plan-head in
-    let write-line = c .before .before .before .before .before .before .write-line in
-    let a = args in
-    let w = write-line in
+    let w = c .before .before .before .before .before .before .write-line in
     let r = c .before .before .write-rows in
     let q = head-part (a .rooms) (a .mem .now) (plan-head .result) (plan-head .ensures) in
     let e = rw q at (w .ensures .0) in

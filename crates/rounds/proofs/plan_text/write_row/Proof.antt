@@ -61,9 +61,8 @@ write-line-requires c κs = search needs
 
 add-result : tie.Need-add-result
 add-result c =
-    let args = c .before .before .before .before .before .before .before .before .before .args in
+    let a = c .before .before .before .before .before .before .before .before .before .args in
     let pre = c .before .before .before .before .before .before .before .before .before .pre in
-    let a = args in
     let w = c .before .before .write-line in
     let q = row-part (a .rooms) (a .k) (a .mem .now) in
     omega (arith, pre .2, part-written (a .out .now) (a .at) (rowLine (a .rooms) (a .k) (a .mem .now)) (pre .2) (w .result) (w .last .0) (rw q at (w .ensures .0)) (rw q at (w .ensures .1)) .0)
@@ -73,9 +72,8 @@ same-length c = search needs
 
 returns : tie.Need-returns
 returns c =
-    let args = c .before .before .before .before .before .before .before .before .before .args in
+    let a = c .before .before .before .before .before .before .before .before .before .args in
     let pre = c .before .before .before .before .before .before .before .before .before .pre in
-    let a = args in
     let w = c .before .before .write-line in
     let q = row-part (a .rooms) (a .k) (a .mem .now) in
     part-written (a .out .now) (a .at) (rowLine (a .rooms) (a .k) (a .mem .now)) (pre .2) (w .result) (w .last .0) (rw q at (w .ensures .0)) (rw q at (w .ensures .1))

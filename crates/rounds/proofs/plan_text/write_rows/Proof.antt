@@ -23,18 +23,16 @@ shared-slice-read-v c = omega (arith, sizes (c .before .before .before .pre .0) 
 
 loop-holds : tie.Need-loop-holds Inv-loop μ-loop
 loop-holds c =
-    let args = c .before .before .before .args in
+    let a = c .before .before .before .args in
     let pre = c .before .before .before .pre in
-    let a = args in
     let m = a .mem .now in
     let (e, f) = text-start (λ i. rowLines (a .rooms) i m) (λ i. rowLine (a .rooms) i m) (nth m 0) (rows-next (sizes (pre .0))) (rows-none (sizes (pre .0))) (a .out .now) (a .from) in
     (omega arith, e, f)
 
 write-row-requires : tie.Need-write-row-requires Inv-loop μ-loop
 write-row-requires c κs =
-    let args = c .before .before .before .before .before .before .args in
+    let a = c .before .before .before .before .before .before .args in
     let pre = c .before .before .before .before .before .before .pre in
-    let a = args in
     let m = a .mem .now in
     let l = c .before .before .loop in (
       pre .0,
@@ -51,13 +49,11 @@ loop-less c = omega (arith, c .before .before .before .before .loop-test .taken)
 
 loop-again : tie.Need-loop-again Inv-loop μ-loop
 loop-again c =
-    let args = c .before .before .before .before .before .before .before .before .before .args in
+    let a = c .before .before .before .before .before .before .before .before .before .args in
     let pre = c .before .before .before .before .before .before .before .before .before .pre in
-    let loop = c .before .before .before .before .before .loop in
+    let l = c .before .before .before .before .before .loop in
     let loop-test = c .before .before .before .before .loop-test in
-    let a = args in
     let m = a .mem .now in
-    let l = loop in
     let w = c .before .before .write-row in (
       omega (arith, loop-test .taken),
       line-place (λ i. rowLines (a .rooms) i m) (λ i. rowLine (a .rooms) i m) (nth m 0) (rows-next (sizes (pre .0))) (a .out .now) (a .from) (pre .1) (l .k) (loop-test .taken) (l .out)
@@ -68,9 +64,8 @@ loop-again c =
 
 same-length : tie.Need-same-length Inv-loop μ-loop
 same-length c =
-    let args = c .before .before .before .before .before .args in
+    let a = c .before .before .before .before .before .args in
     let pre = c .before .before .before .before .before .pre in
-    let a = args in
     let m = a .mem .now in
     let l = c .before .loop in
     let e : l .k ≡ nth m 0 = omega (arith, l .inv .0, c .loop-test .left) in

@@ -70,25 +70,23 @@ put-replica-requires : tie.Need-put-replica-requires Inv-loop μ-loop
 put-replica-requires c κs =
     let args = c .before .before .before .before .before .before .before .before .before .args in
     let pre = c .before .before .before .before .before .before .before .before .before .pre in
-    let loop = c .before .before .before .before .before .loop in
+    let l = c .before .before .before .before .before .loop in
     let loop-test = c .before .before .before .before .loop-test in
-    let e = sym (c .before .before .is-chosen .ensures ∙ among (nth (args .mem .now) 1) (loop .p) (isChosen (args .t5) (nth (args .mem .now) 1) (nth (args .mem .now) 3 + 1) (loop .p))
+    let e = sym (c .before .before .is-chosen .ensures ∙ among (nth (args .mem .now) 1) (l .p) (isChosen (args .t5) (nth (args .mem .now) 1) (nth (args .mem .now) 3 + 1) (l .p))
     (held (c .before .before .before .before .before .before .before .before .before) .processors-most) (loop-test .taken)) in
-    let l = loop in
-    box-within (pre) (loop-test .taken) (l .inv .1) (l .inv .2) (e ∙ c .before .if1 .taken)
+    box-within pre (loop-test .taken) (l .inv .1) (l .inv .2) (e ∙ c .before .if1 .taken)
 
 add-c : tie.Need-add-c Inv-loop μ-loop
 add-c c =
     let args = c .before .before .before .before .before .before .before .before .before .before .before .before .args in
     let pre = c .before .before .before .before .before .before .before .before .before .before .before .before .pre in
-    let loop = c .before .before .before .before .before .before .before .before .loop in
+    let l = c .before .before .before .before .before .before .before .before .loop in
     let loop-test = c .before .before .before .before .before .before .before .loop-test in
     let is-chosen = c .before .before .before .before .before .is-chosen in
     let if1 = c .before .before .before .before .if1 in
-    let e = sym (is-chosen .ensures ∙ among (nth (args .mem .now) 1) (loop .p) (isChosen (args .t5) (nth (args .mem .now) 1) (nth (args .mem .now) 3 + 1) (loop .p))
+    let e = sym (is-chosen .ensures ∙ among (nth (args .mem .now) 1) (l .p) (isChosen (args .t5) (nth (args .mem .now) 1) (nth (args .mem .now) 3 + 1) (l .p))
     (held (c .before .before .before .before .before .before .before .before .before .before .before .before) .processors-most) (loop-test .taken)) in
-    let l = loop in
-    omega (arith, box-room (pre) (loop-test .taken) (l .inv .1) (l .inv .2) (e ∙ if1 .taken))
+    omega (arith, box-room pre (loop-test .taken) (l .inv .1) (l .inv .2) (e ∙ if1 .taken))
 
 add-p : tie.Need-add-p Inv-loop μ-loop
 add-p c = omega (arith, held (c .before .before .before .before .before .before .before .before))
@@ -98,21 +96,19 @@ loop-less c = search needs
 
 loop-again : tie.Need-loop-again Inv-loop μ-loop
 loop-again c =
-    let args = c .before .before .before .before .before .before .before .before .args in
+    let a = c .before .before .before .before .before .before .before .before .args in
     let pre = c .before .before .before .before .before .before .before .before .pre in
-    let loop = c .before .before .before .before .loop in
+    let l = c .before .before .before .before .loop in
     let loop-test = c .before .before .before .loop-test in
-    let l = loop in
     let h = loop-test .taken in
-    let e = sym (c .before .is-chosen .ensures ∙ among (nth (args .mem .now) 1) (loop .p) (isChosen (args .t5) (nth (args .mem .now) 1) (nth (args .mem .now) 3 + 1) (loop .p))
+    let e = sym (c .before .is-chosen .ensures ∙ among (nth (a .mem .now) 1) (l .p) (isChosen (a .t5) (nth (a .mem .now) 1) (nth (a .mem .now) 3 + 1) (l .p))
     (held (c .before .before .before .before .before .before .before .before) .processors-most) (loop-test .taken)) in
-    let a = args in
     let d = a .mem .now in
     let ps = keep (isChosen (a .t5) (nth d 1) (nth d 3 + 1)) (below (l .p + 1)) in
-    let b : (c .if1 .c ≡ length ps) × Begun (args .rooms) (a .k) (a .t) ps d (c .if1 .mem) =
+    let b : (c .if1 .c ≡ length ps) × Begun (a .rooms) (a .k) (a .t) ps d (c .if1 .mem) =
     ⊎-elim
-    (λ w. rw (w .5, w .6) (take-box (pre) h (l .inv .1) (l .inv .2) (e ∙ w .0 .taken) (w .2 .ensures)))
-    (λ w. rw (w .1, w .2) (pass-box (pre) h (l .inv .1) (l .inv .2) (e ∙ w .0 .left)))
+    (λ w. rw (w .5, w .6) (take-box pre h (l .inv .1) (l .inv .2) (e ∙ w .0 .taken) (w .2 .ensures)))
+    (λ w. rw (w .1, w .2) (pass-box pre h (l .inv .1) (l .inv .2) (e ∙ w .0 .left)))
     (c .if1 .came) in
     (search needs, b .0, b .1)
 

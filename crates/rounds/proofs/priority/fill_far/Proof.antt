@@ -97,7 +97,7 @@ loop-again c =
       search needs,
       search needs,
       kept-set (farAt (args .rooms) + l .p) (x .result) (l .inv .3) (omega arith) (omega arith),
-      table-more (largestDelay (jobIn d)) (l .mem) (farAt (args .rooms)) (l .p) (x .result) (l .inv .4) (omega arith) (far-kept (pre) (l .inv .3) (l .p) (x .result) h (x .ensures)),
+      table-more (largestDelay (jobIn d)) (l .mem) (farAt (args .rooms)) (l .p) (x .result) (l .inv .4) (omega arith) (far-kept pre (l .inv .3) (l .p) (x .result) h (x .ensures)),
     )
 
 same-length : tie.Need-same-length Inv-loop μ-loop

@@ -78,14 +78,13 @@ loop-again : tie.Need-loop-again Inv-loop μ-loop
 loop-again c =
     let args = c .before .before .before .before .before .before .before .before .before .args in
     let pre = c .before .before .before .before .before .before .before .before .before .pre in
-    let loop = c .before .before .before .before .before .loop in
+    let l = c .before .before .before .before .before .loop in
     let loop-test = c .before .before .before .before .loop-test in
     let entering = c .before .before .before .entering in
-    let l = loop in
     let y = c .before .spread .result in
     let (f, g, h) = top-later (l .x) y (l .inv .0) (c .before .spread .ensures .1) in (
       c .before .spread .ensures .1,
-      rw (entering .ensures .next-of) (gather-next (spreads (args .rooms) (args .mem .now)) (pre .0 .0) (args .t) (args .mem .now) (pre .0 .1) (loop .inv .1) (loop-test .taken) (timeIn y)
+      rw (entering .ensures .next-of) (gather-next (spreads (args .rooms) (args .mem .now)) (pre .0 .0) (args .t) (args .mem .now) (pre .0 .1) (l .inv .1) (loop-test .taken) (timeIn y)
           (h (omega (arith, c .if1 .taken)) ∙ ap (λ (z : Time). later z (timeIn (l .x))) (sym f ∙ rw (entering .ensures .row-of, entering .ensures .volume-of) at (c .before .spread .ensures .0)))),
     )
 
@@ -102,14 +101,13 @@ loop-again-2 : tie.Need-loop-again-2 Inv-loop μ-loop
 loop-again-2 c =
     let args = c .before .before .before .before .before .before .before .before .before .args in
     let pre = c .before .before .before .before .before .before .before .before .before .pre in
-    let loop = c .before .before .before .before .before .loop in
+    let l = c .before .before .before .before .before .loop in
     let loop-test = c .before .before .before .before .loop-test in
     let entering = c .before .before .before .entering in
-    let l = loop in
     let y = c .before .spread .result in
     let (f, g, h) = top-later (l .x) y (l .inv .0) (c .before .spread .ensures .1) in (
       l .inv .0,
-      rw (entering .ensures .next-of) (gather-next (spreads (args .rooms) (args .mem .now)) (pre .0 .0) (args .t) (args .mem .now) (pre .0 .1) (loop .inv .1) (loop-test .taken) (timeIn (l .x))
+      rw (entering .ensures .next-of) (gather-next (spreads (args .rooms) (args .mem .now)) (pre .0 .0) (args .t) (args .mem .now) (pre .0 .1) (l .inv .1) (loop-test .taken) (timeIn (l .x))
           (g (omega (arith, c .if1 .left)) ∙ ap (λ (z : Time). later z (timeIn (l .x))) (sym f ∙ rw (entering .ensures .row-of, entering .ensures .volume-of) at (c .before .spread .ensures .0)))),
     )
 

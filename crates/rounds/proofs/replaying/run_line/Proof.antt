@@ -166,14 +166,12 @@ loop-less c = search needs
 
 loop-again : tie.Need-loop-again Inv-loop μ-loop
 loop-again c =
-    let pre = c .before .before .before .before .before .before .before .before .before .before .before .before .before .before .before .before .pre in
+    let p = c .before .before .before .before .before .before .before .before .before .before .before .before .before .before .before .before .pre in
     let args = c .before .before .before .before .before .before .before .before .before .before .before .before .before .before .before .before .args in
     let first-data = c .before .before .before .before .before .before .before .before .before .first-data in
-    let loop = c .before .before .before .before .before .before .before .before .loop in
+    let l = c .before .before .before .before .before .before .before .before .loop in
     let loop-test = c .before .before .before .before .before .before .before .loop-test in
     let finish-of = c .before .before .before .finish-of in
-    let l = loop in
-    let p = pre in
     let supplied = nth (first-data .result) (nth (l .mem) (rowAt (args .rooms) (args .k) + (1 + 3 * l .c))) in (
       search needs,
       rw (c .advance .ensures, lt-ltb _ 16 (step (c .before .before .before .before .before .before .before) .below))

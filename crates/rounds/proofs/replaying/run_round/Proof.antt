@@ -41,9 +41,8 @@ loop-less c = search needs
 loop-again : tie.Need-loop-again Inv-loop μ-loop
 loop-again c =
     let pre = c .before .before .before .before .before .before .before .before .before .before .before .before .before .pre in
-    let loop = c .before .before .before .before .before .before .loop in
+    let l = c .before .before .before .before .before .before .loop in
     let loop-test = c .before .before .before .before .before .loop-test in
-    let l = loop in
     (search needs, round-next (l .k) (l .inv .1) (pre .0) (pre .1) (loop-test .taken) (c .before .before .run-line .ensures .0) (c .before .before .run-line .ensures .1))
 
 same-length : tie.Need-same-length Inv-loop μ-loop

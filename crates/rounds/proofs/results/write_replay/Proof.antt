@@ -21,16 +21,14 @@ sub-write-end : tie.Need-sub-write-end
 sub-write-end c =
     let args = c .before .before .before .before .before .before .before .args in
     let pre = c .before .before .before .before .before .before .before .pre in
-    let write-tasks = c .before .before .before .write-tasks in
-    let w = write-tasks in
+    let w = c .before .before .before .write-tasks in
     omega (arith, end-room (args .rooms) (args .mem .now) (c .end-of .result) (c .end-of .ensures) (args .out .now) (w .last .0) (w .result) (pre .3) (w .ensures .0) (w .ensures .1))
 
 part-write-end-start : tie.Need-part-write-end-start
 part-write-end-start c =
     let args = c .before .before .before .before .before .before .before .args in
     let pre = c .before .before .before .before .before .before .before .pre in
-    let write-tasks = c .before .before .before .write-tasks in
-    let w = write-tasks in
+    let w = c .before .before .before .write-tasks in
     omega (arith, end-room (args .rooms) (args .mem .now) (c .end-of .result) (c .end-of .ensures) (args .out .now) (w .last .0) (w .result) (pre .3) (w .ensures .0) (w .ensures .1))
 
 part-write-end-end : tie.Need-part-write-end-end
@@ -43,9 +41,8 @@ add-result : tie.Need-add-result
 add-result c =
     let args = c .before .before .before .before .before .before .before .before .before .before .before .args in
     let pre = c .before .before .before .before .before .before .before .before .before .before .before .pre in
-    let write-tasks = c .before .before .before .before .before .before .before .write-tasks in
+    let w = c .before .before .before .before .before .before .before .write-tasks in
     let end-of = c .before .before .before .before .end-of in
-    let w = write-tasks in
     let e = c .before .before .write-end in
     let r = end-room (args .rooms) (args .mem .now) (end-of .result) (end-of .ensures) (args .out .now) (w .last .0) (w .result) (pre .3) (w .ensures .0) (w .ensures .1) in
     let p = part-written (w .last .0) (w .result) (endLine document01 (timeIn (end-of .result))) r (e .result) (e .last .0) (e .ensures .0) (e .ensures .1) .0 in
@@ -56,12 +53,10 @@ same-length c = search needs
 
 returns : tie.Need-returns
 returns c =
-    let args = c .before .before .before .before .before .before .before .before .before .before .before .args in
+    let a = c .before .before .before .before .before .before .before .before .before .before .before .args in
     let pre = c .before .before .before .before .before .before .before .before .before .before .before .pre in
-    let write-tasks = c .before .before .before .before .before .before .before .write-tasks in
+    let w = c .before .before .before .before .before .before .before .write-tasks in
     let end-of = c .before .before .before .before .end-of in
-    let a = args in
-    let w = write-tasks in
     let e = c .before .before .write-end in
     let r = end-room (a .rooms) (a .mem .now) (end-of .result) (end-of .ensures) (a .out .now) (w .last .0) (w .result) (pre .3) (w .ensures .0) (w .ensures .1) in
     let (p, y) = part-written (w .last .0) (w .result) (endLine document01 (timeIn (end-of .result))) r (e .result) (e .last .0) (e .ensures .0) (e .ensures .1) in (

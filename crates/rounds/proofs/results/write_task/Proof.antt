@@ -27,10 +27,9 @@ write-result-requires c κs = search needs
 
 add-result : tie.Need-add-result
 add-result c =
-    let args = c .before .before .before .before .before .before .before .args in
+    let a = c .before .before .before .before .before .before .before .args in
     let pre = c .before .before .before .before .before .before .before .pre in
     let first-finish = c .before .before .before .before .first-finish in
-    let a = args in
     let w = c .before .before .write-result in
     let q = task-line (first-finish .ensures) in
     let r = part-written (a .out .now) (a .at) (taskLine (a .rooms) (a .t) (a .mem .now)) (pre .3) (w .result) (w .last .0) (rw q (w .ensures .0)) (rw q (w .ensures .1)) in

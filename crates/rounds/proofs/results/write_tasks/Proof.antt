@@ -30,9 +30,8 @@ loop-holds c =
 
 write-task-requires : tie.Need-write-task-requires Inv-loop μ-loop
 write-task-requires c κs =
-    let args = c .before .before .before .before .before .before .args in
+    let a = c .before .before .before .before .before .before .args in
     let pre = c .before .before .before .before .before .before .pre in
-    let a = args in
     let m = a .mem .now in
     let l = c .before .before .loop in (
       pre .0,
@@ -50,13 +49,11 @@ loop-less c = omega (arith, c .before .before .before .before .loop-test .taken)
 
 loop-again : tie.Need-loop-again Inv-loop μ-loop
 loop-again c =
-    let args = c .before .before .before .before .before .before .before .before .before .args in
+    let a = c .before .before .before .before .before .before .before .before .before .args in
     let pre = c .before .before .before .before .before .before .before .before .before .pre in
-    let loop = c .before .before .before .before .before .loop in
+    let l = c .before .before .before .before .before .loop in
     let loop-test = c .before .before .before .before .loop-test in
-    let a = args in
     let m = a .mem .now in
-    let l = loop in
     let w = c .before .before .write-task in
     let r : 0 + length (taskLines (a .rooms) (nth m 0) m) ≤ length (a .out .now) = omega (arith, pre .2) in (
       omega (arith, loop-test .taken),
@@ -68,9 +65,8 @@ loop-again c =
 
 same-length : tie.Need-same-length Inv-loop μ-loop
 same-length c =
-    let args = c .before .before .before .before .before .args in
+    let a = c .before .before .before .before .before .args in
     let pre = c .before .before .before .before .before .pre in
-    let a = args in
     let m = a .mem .now in
     let l = c .before .loop in
     let e : l .t ≡ nth m 0 = omega (arith, l .inv .0, c .loop-test .left) in

@@ -81,8 +81,7 @@ loop-again : tie.Need-loop-again Inv-loop μ-loop
 loop-again c =
     let args = c .before .before .before .before .before .before .args in
     let pre = c .before .before .before .before .before .before .pre in
-    let loop = c .before .before .before .loop in
-    let l = loop in
+    let l = c .before .before .before .loop in
     let d = args .mem .now in
     (search needs, search needs, l .inv .2, filled-set (l .inv .3) (nth d (4 + (nth d 0 + l .i / 16) * (nth d 1 + 1) + (l .i % 16 + 1))) (omega arith) (delay-stored (pre .1) (l .i) (omega arith) (c .before .if1 .taken)))
 

@@ -16,10 +16,8 @@ finish-requires c κs = search needs
 
 returns : tie.Need-returns
 returns c =
-    let args = c .before .before .before .before .args in
-    let pre = c .before .before .before .before .pre in
-    let a = args in
-    let p = pre in
+    let a = c .before .before .before .before .args in
+    let p = c .before .before .before .before .pre in
     finish-made (a .rooms) (a .t) (a .clocks) (a .mem .now) _ _ (c .before .run-times .result) _ _ (p .2) (sizes (p .0 .1 .job) .processors-most) (c .before .before .both-data .ensures)
     (p .4) (c .before .run-times .ensures) (c .finish .ensures .0) (c .finish .ensures .1)
 

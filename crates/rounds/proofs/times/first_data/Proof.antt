@@ -100,11 +100,10 @@ loop-again : tie.Need-loop-again Inv-loop μ-loop
 loop-again c =
     let pre = c .before .before .before .before .before .before .before .before .before .before .pre in
     let args = c .before .before .before .before .before .before .before .before .before .before .args in
-    let loop = c .before .before .before .before .before .before .loop in
+    let l = c .before .before .before .before .before .before .loop in
     let loop-test = c .before .before .before .before .before .loop-test in
     let entering = c .before .before .before .before .entering in
     let first-arrivals = c .before .before .before .first-arrivals in
-    let l = loop in
     let low = first-arrivals .result in
     let few = sizes (pre .0 .1 .job) .processors-most in
     let e = entering .ensures in
@@ -127,8 +126,7 @@ unfolding dataIn
 returns c =
     let pre = c .before .before .before .before .before .before .before .pre in
     let args = c .before .before .before .before .before .before .before .args in
-    let loop = c .before .before .before .loop in
-    let l = loop in
+    let l = c .before .before .before .loop in
     let few = sizes (pre .0 .1 .job) .processors-most in
     let (n, each) = lanes-each (λ p z. widenedTick (nth (l .high) p)) (replicate 16 neverCell) (c .widened .result) (c .widened .ensures) (length-replicate {A = ℕ} 16 neverCell) in (
       n,

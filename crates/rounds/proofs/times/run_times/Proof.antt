@@ -73,8 +73,7 @@ loop-less c = search needs
 
 loop-again : tie.Need-loop-again Inv-loop μ-loop
 loop-again c =
-    let args = c .before .before .before .before .args in
-    let a = args in
+    let a = c .before .before .before .before .args in
     let l = c .before .before .loop in
     let h = c .before .loop-test .taken in (
       omega (arith, h),

@@ -68,12 +68,10 @@ same-length c = search needs
 
 returns : tie.Need-returns Inv-loop μ-loop
 returns c =
-    let args = c .before .before .before .before .before .before .before .before .before .before .before .before .args in
-    let loop = c .before .before .before .before .before .before .before .before .loop in
+    let a = c .before .before .before .before .before .before .before .before .before .before .before .before .args in
+    let l = c .before .before .before .before .before .before .before .before .loop in
     let loop-test = c .before .before .before .before .before .before .before .loop-test in
     let read-row = c .before .before .before .before .before .read-row in
-    let a = args in
-    let l = loop in
     let e = sym (read-row .ensures (rows (a .k) (l .i) (l .mem)) (length-rows (a .k) (l .i) (l .mem))) ∙ ap (told (a .s .now) (take (a .k) (read-row .last .1 .1 .1 .1 .1 .1 .0))) (c .before .x .given .1) in
     lines-no (line document01 (a .opening .now) (a .k)) (ruleOf (a .kind)) (a .n) (l .i) (rows (a .k) (l .i) (l .mem)) (drop (l .p) (a .s .now)) (loop-test .taken) _ e ∙ l .inv .2
 
@@ -85,12 +83,10 @@ loop-less c = search needs
 
 loop-again : tie.Need-loop-again Inv-loop μ-loop
 loop-again c =
-    let args = c .before .before .before .before .before .before .before .before .before .before .before .before .args in
-    let loop = c .before .before .before .before .before .before .before .before .loop in
+    let a = c .before .before .before .before .before .before .before .before .before .before .before .before .args in
+    let l = c .before .before .before .before .before .before .before .before .loop in
     let loop-test = c .before .before .before .before .before .before .before .loop-test in
     let read-row = c .before .before .before .before .before .read-row in
-    let a = args in
-    let l = loop in
     let ys = read-row .last .1 .1 .1 .1 .1 .1 .0 in
     let e = sym (read-row .ensures (rows (a .k) (l .i) (l .mem)) (length-rows (a .k) (l .i) (l .mem))) ∙ ap (told (a .s .now) (take (a .k) ys)) (c .before .next .given .1) in (
       omega (arith, loop-test .taken),

@@ -41,12 +41,11 @@ same-length c = search needs
 
 returns : tie.Need-returns
 returns c =
-    let args = c .before .before .before .before .before .before .before .before .before .before .before .before .before .args in
+    let a = c .before .before .before .before .before .before .before .before .before .before .before .before .before .args in
     let pre = c .before .before .before .before .before .before .before .before .before .before .before .before .before .pre in
     let read-line = c .before .before .before .before .before .before .before .before .read-line in
     let p = c .before .before .before .before .p in
     λ seen l.
-    let a = args in
     let ys = read-line .last .1 .1 .1 .1 .0 in
     let e = sym (read-line .ensures .0 ∙ line-fits _ _ _ _ (pre .1)) ∙ ap (told (a .s .now) (take (a .k) ys)) (p .given .1) in
     ruled-no (line document01 (a .opening .now) (a .k)) (ruleOf (a .kind)) seen (drop (a .at) (a .s .now)) (take (a .k) ys) _ e _ (c .before .check-row .ensures seen l) (c .if1 .taken)
@@ -59,12 +58,11 @@ same-length-2 c = search needs
 
 returns-2 : tie.Need-returns-2
 returns-2 c =
-    let args = c .before .before .before .before .before .before .before .before .before .before .before .before .before .args in
+    let a = c .before .before .before .before .before .before .before .before .before .before .before .before .before .args in
     let pre = c .before .before .before .before .before .before .before .before .before .before .before .before .before .pre in
     let read-line = c .before .before .before .before .before .before .before .before .read-line in
     let p = c .before .before .before .before .p in
     λ seen l.
-    let a = args in
     let ys = read-line .last .1 .1 .1 .1 .0 in
     let e = sym (read-line .ensures .0 ∙ line-fits _ _ _ _ (pre .1)) ∙ ap (told (a .s .now) (take (a .k) ys)) (p .given .1) in
     ruled-yes (line document01 (a .opening .now) (a .k)) (ruleOf (a .kind)) seen (drop (a .at) (a .s .now)) (take (a .k) ys) _ e _ (c .before .check-row .ensures seen l) (c .if1 .left)
@@ -74,11 +72,10 @@ same-length-3 c = search needs
 
 returns-3 : tie.Need-returns-3
 returns-3 c =
-    let args = c .before .before .before .before .before .before .before .before .before .before .args in
+    let a = c .before .before .before .before .before .before .before .before .before .before .args in
     let pre = c .before .before .before .before .before .before .before .before .before .before .pre in
     let read-line = c .before .before .before .before .before .read-line in
     λ seen l.
-    let a = args in
     let ys = read-line .last .1 .1 .1 .1 .0 in
     let e = sym (read-line .ensures .0 ∙ line-fits _ _ _ _ (pre .1)) ∙ ap (told (a .s .now) (take (a .k) ys)) (c .before .x .given .1) in
     ruled-bad (line document01 (a .opening .now) (a .k)) (ruleOf (a .kind)) seen (drop (a .at) (a .s .now)) _ e
