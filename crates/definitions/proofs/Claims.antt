@@ -20,9 +20,10 @@ use Rattle.definitions.specs.Refusals.{doubledTasks, planRefusal}
 use Rattle.definitions.specs.Planner.{Waiting, waitingFrom, bottomLevels, ranked, trial, planFor}
 use Rattle.definitions.specs.Replay.{replay, roundEnd}
 use Rattle.definitions.specs.Tools.{accepted, doubled, rejected, verdictOf, verdict, planned}
-use Rattle.definitions.specs.Claims.{haltingOf, haltedReplay, placedAfter, planTicks, replayTicks, lineLength, planLength, Roomy, Kept, Quiet, LateStops, Doubled, KeptBytes, DoubledBytes, OwnAccepted, TicksFit, LevelsFit, Bears, Breaks, Claim}
+use Rattle.definitions.specs.Claims.{haltingOf, haltedReplay, placedAfter, planTicks, replayTicks, lineLength, planLength, Roomy, EdgesAscend, OneOrder, Kept, Quiet, LateStops, Doubled, KeptBytes, DoubledBytes, OwnAccepted, TicksFit, LevelsFit, Bears, Breaks, Claim}
 use Rattle.definitions.proofs.Lists.{in-reverse, in-take}
 use Rattle.definitions.proofs.Facts.{JobFacts, Ordered, Apart, PlanFacts}
+use Rattle.definitions.proofs.EdgeOrder.{same-order}
 use Rattle.definitions.proofs.Reading.{job-facts, plan-facts}
 use Rattle.definitions.proofs.Guarantee.{accepted-facts, kept, quiet}
 use Rattle.definitions.proofs.Stopping.{late-replay}
@@ -211,6 +212,14 @@ pub levels-fit : (l : Limits) → Roomy l → LevelsFit l
 levels-fit l roomy job j h k =
     let facts = job-facts l job j h in (ranked-fits l j facts k roomy, trial-fits l j facts k)
 
+-- The order of edge lines -------------------------------------------------------------------------------------
+
+pub edges-ascend : (l : Limits) → EdgesAscend l
+edges-ascend l job j h = job-facts l job j h .ascends
+
+pub one-order : (l : Limits) → OneOrder l
+one-order l job other j k h g f b = same-order (j .edges) (k .edges) (edges-ascend l job j h) (edges-ascend l other k g) f b
+
 -- With the limits of document 01 ------------------------------------------------------------------------------
 
 pub roomy01 : Roomy document01
@@ -251,4 +260,6 @@ claim = (
   levels-fit document01 roomy01,
   ticks01 .0,
   ticks01 .1,
+  edges-ascend document01,
+  one-order document01,
 )

@@ -7,7 +7,7 @@ use Prim.Native.Nat.{ℕ, _+_, _<_, _≤_}
 use lib.ListN.{length}
 use Rattle.definitions.specs.Lists.{In, distinct}
 use Rattle.definitions.specs.Limits.{Limits}
-use Rattle.definitions.specs.Job.{Edge, Job, runTime, delay, incoming, circular}
+use Rattle.definitions.specs.Job.{Edge, Job, runTime, delay, incoming, Ascends, circular}
 use Rattle.definitions.specs.Plan.{Replica, Line, Plan, processorsOf, descends}
 use Rattle.definitions.specs.Stops.{Stop}
 
@@ -27,6 +27,7 @@ pub record JobFacts (l : Limits) (j : Job) : Type 0 where
   pub from-task : (e : Edge) → In e (j .edges) → e .from < j .tasks
   pub to-task : (e : Edge) → In e (j .edges) → e .to < j .tasks
   pub volume-most : (e : Edge) → In e (j .edges) → e .volume ≤ l .volume
+  pub ascends : Ascends (j .edges)
   pub no-circle : circular j ≡ false
 
 -- Every predecessor of task t is among these tasks.

@@ -1,5 +1,6 @@
 pub mod Lists
 pub mod Facts
+pub mod EdgeOrder
 pub mod Tasks
 pub mod Doubled
 pub mod Stopping

@@ -2,7 +2,7 @@
 use mathlib.Core.Path.{_≡_, refl, ap, ap₂, _∙_, sym}
 use mathlib.Core.Logic.{_⊎_, inl, inr, ⊎-elim}
 use mathlib.Core.List.{List, [], _∷_, _++_, map, reverseAux, getLast?}
-use mathlib.Core.Option.{some}
+use mathlib.Core.Option.{none, some}
 use mathlib.Core.Bool.{Bool, true, false, not, _&&_, _||_, false≢true, true≢false}
 use Prim.Native.Nat.{ℕ, zero, suc, _+_, _*_, _<_, _≤_}
 use native.Mathlib.Omega.{arith}
@@ -102,6 +102,15 @@ pub last-of : {A : Type 0} (xs : List A) (x : A) → getLast? (xs ++ x ∷ []) �
 last-of [] x = refl
 last-of (y ∷ []) x = refl
 last-of (y ∷ z ∷ xs) x = last-of (z ∷ xs) x
+
+pub last-in : {A : Type 0} (xs : List A) (x : A) → getLast? xs ≡ some x → In x xs
+last-in [] x h = let z : _≡_ {A = ℕ} 0 1 = cc in absurd (omega arith)
+last-in (y ∷ []) x h = inl cc
+last-in (y ∷ z ∷ xs) x h = inr (last-in (z ∷ xs) x h)
+
+pub no-last : {A : Type 0} (xs : List A) → getLast? xs ≡ none → (x : A) → In x xs → ⊥
+no-last (y ∷ []) h x i = let z : _≡_ {A = ℕ} 0 1 = cc in omega arith
+no-last (y ∷ z ∷ xs) h x i = no-last (z ∷ xs) h z (inl refl)
 
 -- Functions that agree on every member.
 pub map-same : {A B : Type 0} (f g : A → B) (xs : List A) → ((x : A) → In x xs → f x ≡ g x) → map f xs ≡ map g xs

@@ -13,11 +13,12 @@ use borrow.Author.Tests.{eqb-true, ltb-true, ltb-false, leb-false, not-false}
 use Rattle.definitions.specs.Lists.{if_then_else_, bytes, nth, In, any, all, has}
 use Rattle.definitions.specs.Limits.{Limits}
 use Rattle.definitions.specs.Text.{Reading, found, refused, Reader, next, return, due, firstOf, exactly, number, numbers, line, mark, lines, linesToEnd, Result, good, bad, andThen, unless, ended, whole}
-use Rattle.definitions.specs.Job.{Edge, Job, runTime, delay, incoming, circular, outside, JobHead, jobHead, jobHeadRule, runRule, delayRule, edgeLine, edgeRule, jobLines, readJob}
+use Rattle.definitions.specs.Job.{Edge, Job, runTime, delay, incoming, circular, outside, JobHead, jobHead, jobHeadRule, runRule, delayRule, edgeLine, edgeRule, Ascends, jobLines, readJob}
 use Rattle.definitions.specs.Plan.{Replica, Line, Plan, processorsOf, triples, lineOf, descends, PlanHead, planHead, planHeadRule, strays, planLine, planLineRule, planLines, readPlan}
 use Rattle.definitions.specs.Stops.{Stop, notAfter, stopLine, stopRule, readStops}
 use Rattle.definitions.proofs.Lists.{neither, inside, passed, last-of, none-in, all-in, has-in, not-has, in-map, nth-in}
 use Rattle.definitions.proofs.Facts.{JobFacts, LineFacts, Ordered, Ticks, PlanFacts, Ascending, afterLast}
+use Rattle.definitions.proofs.EdgeOrder.{ascends-more}
 use Rattle.definitions.proofs.Tasks.{lineTasks, SameTasks, tasks-more}
 
 -- One thing after another ---------------------------------------------------------------------------------------
@@ -308,6 +309,13 @@ module _ (l : Limits) where
       let (d, f) = neither (not (ltb (e .from) tasks)) (not (ltb (e .to) tasks)) b in
       (ltb-true _ _ (not-false _ d), ltb-true _ _ (not-false _ f), inside 0 (l .volume) (e .volume) c .1)
 
+  -- Edge lines that passed ascend.
+  edges-ascend : (tasks : ℕ) (seen es : List Edge) → Ascends seen → Ruled (edgeLine l) (edgeRule l tasks) seen es → Ascends (seen ++ es)
+  unfolding edgeRule
+  edges-ascend tasks seen [] a w = rw (append-nil seen) a
+  edges-ascend tasks seen (e ∷ es) a (_, z, w) =
+      rw (append-assoc seen (e ∷ []) es) at (edges-ascend tasks (seen ++ e ∷ []) es (ascends-more seen e a (passed _ _ _ z .1)) w)
+
   pub job-head-parts : (h : JobHead) → jobHeadRule l h ≡ 0
       → (1 ≤ h .tasks) × (h .tasks ≤ l .tasks) × (1 ≤ h .processors) × (h .processors ≤ l .processors) × (h .edges ≤ l .edges) × (h .losses ≤ l .losses)
       × (h .losses + 1 ≤ h .processors)
@@ -353,6 +361,7 @@ module _ (l : Limits) where
           from-task = λ e i. edge e i .0;
           to-task = λ e i. edge e i .1;
           volume-most = λ e i. edge e i .2;
+          ascends = edges-ascend (h .tasks) [] es tt ew;
           no-circle = c;
         }
 

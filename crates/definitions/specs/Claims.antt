@@ -7,7 +7,7 @@ use lib.ListN.{length, take}
 use Rattle.definitions.specs.Lists.{if_then_else_, bytes, below, In, has}
 use Rattle.definitions.specs.Limits.{Limits, document01}
 use Rattle.definitions.specs.Text.{width, decimal, lineText, good}
-use Rattle.definitions.specs.Job.{Job, readJob}
+use Rattle.definitions.specs.Job.{Edge, Job, Ascends, readJob}
 use Rattle.definitions.specs.Plan.{Line, Plan, processorsOf, readPlan}
 use Rattle.definitions.specs.Stops.{Stop, readStops, stopsText}
 use Rattle.definitions.specs.Times.{Time, tick, never, Outcome, earlies, lates, exits}
@@ -190,6 +190,17 @@ module _ (l : Limits) where
       → ((w : Waiting) → In w (waitingFrom 0 (bottomLevels j)) → ranked j (placedAfter j k) w .1 < 2 ^ 64)
       × (k < j .tasks → (t : ℕ) → t < j .tasks → (x : ℕ) → In x (trial j (placedAfter j k) t) → x ≤ planTicks)
 
+  -- The edges of a job that was read ascend.
+  abbrev pub EdgesAscend : Type 0
+  EdgesAscend = (job : List ℕ) (j : Job) → readJob l job ≡ good j → Ascends (j .edges)
+
+  -- So jobs that were read and have the same edges have them in the same order.
+  abbrev pub OneOrder : Type 0
+  OneOrder =
+      (job other : List ℕ) (j k : Job) → readJob l job ≡ good j → readJob l other ≡ good k
+      → ((e : Edge) → In e (j .edges) → In e (k .edges)) → ((e : Edge) → In e (k .edges) → In e (j .edges))
+      → j .edges ≡ k .edges
+
 -- With document 01's limits: an accepted plan bears these stops, if they are at most ε.
 abbrev pub Bears : List ℕ → List ℕ → List ℕ → Type 0
 Bears job plan stops = KeptAnswer document01 job plan stops
@@ -198,7 +209,7 @@ Bears job plan stops = KeptAnswer document01 job plan stops
 abbrev pub Breaks : List ℕ → List ℕ → Type 0
 Breaks job plan = DoubledAnswer document01 job plan
 
--- All of this is true with the limits of document 01, and the two bounds on ticks are those that it gives.
+-- All of this is true with the limits of document 01, the two bounds on ticks are those that it gives, and edges have one order.
 abbrev pub Claim : Type 0
 Claim =
     Kept document01
@@ -212,3 +223,5 @@ Claim =
     × LevelsFit document01
     × (planTicks document01 ≡ 521_277_375)
     × (replayTicks document01 ≡ 2_306_277_375)
+    × EdgesAscend document01
+    × OneOrder document01

@@ -1,8 +1,9 @@
--- A job: what its text says, and the numbers 1 to 7.
+-- A job: what its text says, and the numbers 1 to 7 and 16.
 use Prim.Native.Nat.{ℕ, zero, suc, _+_}
 use mathlib.Core.Path.{_≡_}
-use mathlib.Core.List.{List, [], _∷_, map}
-use mathlib.Core.Bool.{Bool, not, _&&_, _||_}
+use mathlib.Core.List.{List, [], _∷_, map, getLast?}
+use mathlib.Core.Bool.{Bool, true, false, not, _&&_, _||_}
+use mathlib.Core.Option.{Option, none, some}
 use lib.Dec.{ltb, eqb}
 use lib.ListN.{length, getD, drop}
 use Rattle.definitions.specs.Lists.{bytes, nth, below, keep, any, In, has, empty}
@@ -60,9 +61,31 @@ jobHeadOf vs = record { tasks = nth vs 0; processors = nth vs 1; edges = nth vs 
 abbrev pub edgeOf : List ℕ → Edge
 edgeOf vs = record { from = nth vs 0; to = nth vs 1; volume = nth vs 2 }
 
--- The rule between an edge and those before it: "an edge from a task to itself, or a from-to pair that an earlier line has" (6).
+-- Two edges have the same "from-to pair".
+abbrev pub samePair : Edge → Edge → Bool
+samePair d e = eqb (d .from) (e .from) && eqb (d .to) (e .to)
+
+-- "By from, then by to": the pair of d is smaller than that of e.
+abbrev pub smaller : Edge → Edge → Bool
+smaller d e = ltb (d .from) (e .from) || (eqb (d .from) (e .from) && ltb (d .to) (e .to))
+
+-- "An edge line smaller than the one before", if there is one before (16).
+abbrev pub smallerThanLast : Option Edge → Edge → Bool
+smallerThanLast none e = false
+smallerThanLast (some d) e = smaller e d
+
+-- The rules between an edge and those before it: "an edge from a task to itself, or a from-to pair that an earlier line has" (6);
+-- "an edge line smaller than the one before, tried after 6 on the same line" (16).
 unfoldable pub edgeOrder : List Edge → Edge → List (Bool × ℕ)
-edgeOrder seen e = (eqb (e .from) (e .to) || any (λ d. eqb (d .from) (e .from) && eqb (d .to) (e .to)) seen, 6) ∷ []
+edgeOrder seen e =
+    (eqb (e .from) (e .to) || any (λ d. samePair d e) seen, 6)
+    ∷ (smallerThanLast (getLast? seen) e, 16)
+    ∷ []
+
+-- "Edge lines must now ascend": each is smaller than all after it.
+abbrev pub Ascends : List Edge → Type 0
+Ascends [] = Unit {0}
+Ascends (d ∷ es) = ((e : Edge) → In e es → smaller d e ≡ true) × Ascends es
 
 -- What is left of some tasks when those that none of them precedes are taken away.
 unfoldable pub preceded : List Edge → List ℕ → List ℕ
@@ -128,7 +151,7 @@ module _ (l : Limits) where
     vs ← line l (bytes "E,") 3
     return (edgeOf vs)
 
-  -- "A task ≥ v", volume 0..4,095 (3); then the rule on the edges before it.
+  -- "A task ≥ v", volume 0..4,095 (3); then the rules between it and the edges before it (6, 16).
   unfoldable pub edgeRule : ℕ → List Edge → Edge → ℕ
   edgeRule tasks seen e =
       firstOf ((not (ltb (e .from) tasks) || not (ltb (e .to) tasks) || outside 0 (l .volume) (e .volume), 3) ∷ edgeOrder seen e)

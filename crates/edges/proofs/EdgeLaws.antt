@@ -1,25 +1,27 @@
--- Edges in cells, the table of pairs, and the rule of an edge.
-use mathlib.Core.Path.{_≡_, refl, sym, ap, _∙_}
-use mathlib.Core.List.{List, [], _∷_, _++_, map, map-append}
-use mathlib.Core.Bool.{Bool, true, false, _&&_, or-false, false≢true}
-use Prim.Native.Nat.{ℕ, zero, suc, _+_, _*_, _-_, _/_, _%_, _^_, _<_, _≤_}
+-- Edges in cells, their order, and the rule of an edge.
+use mathlib.Core.Path.{_≡_, refl, sym, _∙_}
+use mathlib.Core.List.{List, [], _∷_, _++_, map, map-append, getLast?}
+use mathlib.Core.Option.{none, some}
+use mathlib.Core.Bool.{Bool, true, false, _&&_, _||_}
+use Prim.Native.Nat.{ℕ, _+_, _*_, _-_, _/_, _%_, _<_, _≤_}
 use native.Mathlib.Omega.{arith}
 use native.Mathlib.Numerals.{add-one}
-use native.Mathlib.Nat.{add-zero, mul-comm, pow-suc, zero-div, div-div-eq-div-mul}
-use lib.Dec.{leb, eqb, eqb·zero-suc, eqb·suc-zero, eqb·suc-suc}
-use lib.ListN.{length, take, set, length-set, replicate, length-replicate, getD-replicate}
-use lib.Seq.{take-suc, getD-set-same, getD-set-other, getD-take, getD-drop}
-use borrow.Author.Tests.{eqb-true, eqb-false, eq-eqb, ne-eqb, lt-ltb, le-ltb, leb-true, le-leb}
-use borrow.Rule.Slice.PartMut.{midOf, putMid, take-put, same-len-mid}
-use Rattle.definitions.specs.Lists.{if_then_else_, bytes, nth, any}
+use native.Mathlib.Nat.{div-div-eq-div-mul}
+use lib.Dec.{leb, eqb, ltb}
+use lib.ListN.{length, take, drop, drop-of-length-le}
+use lib.Seq.{take-suc, drop-cons, getD-take}
+use borrow.Author.Tests.{eqb-true, eqb-false, eq-eqb, ne-eqb, lt-ltb, le-ltb, ltb-true, ltb-false, leb-true, le-leb}
+use Rattle.definitions.specs.Lists.{bytes, nth, any}
 use Rattle.definitions.specs.Limits.{document01}
-use Rattle.definitions.specs.Text.{found, refused, firstOf, line, lines}
-use Rattle.definitions.specs.Job.{Edge, edgeOf, edgeLine, edgeRule, edgeOrder}
-use Rattle.definitions.proofs.Lists.{both, both-true, either-right}
+use Rattle.definitions.specs.Text.{found, refused, firstOf, line, lines, return}
+use Rattle.definitions.specs.Job.{Edge, samePair, smaller, smallerThanLast, edgeOf, edgeLine, edgeRule, edgeOrder, Ascends}
+use Rattle.definitions.proofs.Lists.{both, both-true, passed, none-in, last-in}
+use Rattle.definitions.proofs.Reading.{rule-found}
+use Rattle.definitions.proofs.EdgeOrder.{else-smaller, order-next, order-smaller, ascends-more}
+use Rattle.text.specs.Told.{ruled}
+use Rattle.lines.proofs.LineLaws.{ruled-no, ruled-yes}
 use Rattle.orders.specs.Edges.{edgeCell, edgeIn}
-use Rattle.edges.specs.Edges.{pairBit, Pairs, edgesInto}
-use Rattle.lists.proofs.ListLaws.{any-last}
-use Rattle.lists.proofs.Over.{drop-lent}
+use Rattle.edges.specs.Edges.{pairIn, edgesInto}
 
 -- An edge in a cell, and back.
 pub edge-of-cell : (e : Edge) → e .from < 256 → e .to < 256 → edgeIn (edgeCell e) ≡ e
@@ -33,89 +35,37 @@ edge-of-cell e f t =
 pub cell-of-edge : (c : ℕ) → edgeCell (edgeIn c) ≡ c
 cell-of-edge c = omega (arith, div-div-eq-div-mul c 256 256)
 
--- The test whether an edge goes from a to b.
-abbrev joins : ℕ → ℕ → Edge → Bool
-joins a b d = eqb (d .from) a && eqb (d .to) b
+-- Pairs as numbers ---------------------------------------------------------------------------------------------------
 
--- No edge.
-pub pairs-none : (v n : ℕ) → v * 32 ≤ n → Pairs v [] (replicate n 0)
-unfolding any
-pairs-none v n h = record {
-  size = rw (length-replicate {A = ℕ} n 0) h;
-  holds = λ a b f t. rw (getD-replicate {A = ℕ} n (a * 32 + b / 8) 0 0 (omega arith), zero-div (2 ^ (b % 8)));
-}
+-- A test of numbers is one of pairs.
+pair-same : (c d : ℕ) → eqb (pairIn c) (pairIn d) ≡ samePair (edgeIn c) (edgeIn d)
+pair-same c d = by (eqb (pairIn c) (pairIn d)) refl
+  where
+    by : (b : Bool) → eqb (pairIn c) (pairIn d) ≡ b → b ≡ samePair (edgeIn c) (edgeIn d)
+    by true q =
+        let h : pairIn c ≡ pairIn d = eqb-true _ _ q in
+        sym (both-true (eq-eqb (c % 256) (d % 256) (omega arith)) (eq-eqb (c / 256 % 256) (d / 256 % 256) (omega arith)))
+    by false q = sym (other (samePair (edgeIn c) (edgeIn d)) refl)
+      where
+        other : (b : Bool) → samePair (edgeIn c) (edgeIn d) ≡ b → b ≡ false
+        other false r = refl
+        other true r =
+            let (f, t) = both (eqb (c % 256) (d % 256)) (eqb (c / 256 % 256) (d / 256 % 256)) r in
+            absurd (eqb-false (pairIn c) (pairIn d) q (omega (arith, eqb-true (c % 256) (d % 256) f, eqb-true (c / 256 % 256) (d / 256 % 256) t)))
 
--- Bit j + 1 of a number is bit j of its half.
-half : (x j : ℕ) → x / 2 ^ suc j ≡ x / 2 / 2 ^ j
-half x j = ap (λ (y : ℕ). x / y) (pow-suc 2 j ∙ mul-comm (2 ^ j) 2) ∙ sym (div-div-eq-div-mul x 2 (2 ^ j))
+pair-smaller : (c d : ℕ) → ltb (pairIn c) (pairIn d) ≡ smaller (edgeIn c) (edgeIn d)
+pair-smaller c d = by (ltb (c % 256) (d % 256)) refl (eqb (c % 256) (d % 256)) refl (ltb (c / 256 % 256) (d / 256 % 256)) refl
+  where
+    by : (a : Bool) → ltb (c % 256) (d % 256) ≡ a → (b : Bool) → eqb (c % 256) (d % 256) ≡ b → (t : Bool) → ltb (c / 256 % 256) (d / 256 % 256) ≡ t
+        → ltb (pairIn c) (pairIn d) ≡ (a || (b && t))
+    by true p b q t r = lt-ltb (pairIn c) (pairIn d) (omega (arith, ltb-true (c % 256) (d % 256) p))
+    by false p true q true r = lt-ltb (pairIn c) (pairIn d) (omega (arith, eqb-true (c % 256) (d % 256) q, ltb-true (c / 256 % 256) (d / 256 % 256) r))
+    by false p true q false r = le-ltb (pairIn c) (pairIn d) (omega (arith, eqb-true (c % 256) (d % 256) q, ltb-false (c / 256 % 256) (d / 256 % 256) r))
+    by false p false q t r =
+        let n : c % 256 ≡ d % 256 → ⊥ = eqb-false (c % 256) (d % 256) q in
+        le-ltb (pairIn c) (pairIn d) (omega (arith, ltb-false (c % 256) (d % 256) p, n))
 
--- A bit that is 0 is set by a sum, which leaves the others.
-bit-more : (i j x : ℕ) → x / 2 ^ i % 2 ≡ 0 → (x + 2 ^ i) / 2 ^ j % 2 ≡ (if eqb i j then 1 else x / 2 ^ j % 2)
-bit-more zero zero x h = omega arith
-bit-more zero (suc j) x h = let e : (x + 1) / 2 ≡ x / 2 = omega arith in rw (half (x + 1) j, half x j, e, eqb·zero-suc j)
-bit-more (suc i) zero x h =
-    let e : (x + 2 ^ suc i) / 1 % 2 ≡ x / 1 % 2 = rw (pow-suc 2 i) (omega arith) in rw (eqb·suc-zero i) e
-bit-more (suc i) (suc j) x h =
-    let e : (x + 2 ^ suc i) / 2 ≡ x / 2 + 2 ^ i = rw (pow-suc 2 i) (omega arith) in
-    rw (half (x + 2 ^ suc i) j, half x j, e, eqb·suc-suc i j) (bit-more i j (x / 2) (rw (half x i) at h))
-
--- The sum has no more bits.
-pub bit-fits : (k i x : ℕ) → i < k → x < 2 ^ k → x / 2 ^ i % 2 ≡ 0 → x + 2 ^ i < 2 ^ k
-bit-fits zero i x f g h = absurd (omega arith)
-bit-fits (suc k) zero x f g h = omega (arith, pow-suc 2 k)
-bit-fits (suc k) (suc i) x f g h =
-    omega (arith, pow-suc 2 k, pow-suc 2 i, bit-fits k i (x / 2) (omega arith) (omega (arith, pow-suc 2 k)) (rw (half x i) at h))
-
--- 1 shifted by i in a byte.
-pub one-bit : (i : ℕ) → i < 8 → 1 * 2 ^ i % 256 ≡ 2 ^ i
-one-bit i h = let z : 0 / 2 ^ i % 2 ≡ 0 = rw (zero-div (2 ^ i)) in omega (arith, bit-fits 8 i 0 h (omega arith) z)
-
--- One edge more.
-module _ (v : ℕ) (es : List Edge) (table : List ℕ) (e : Edge) (p : Pairs v es table) (f : e .from * 32 + 32 ≤ length table) (t : e .to < 256) (z : pairBit table (e .from) (e .to) ≡ 0) where
-  abbrev k : ℕ
-  k = e .from * 32 + e .to / 8
-
-  abbrev x : ℕ
-  x = nth table k
-
-  abbrev i : ℕ
-  i = e .to % 8
-
-  pub pairs-more : Pairs v (es ++ e ∷ []) (set table k (x + 2 ^ i))
-  pairs-more = record {
-    size = rw (length-set table k (x + 2 ^ i)) (p .size);
-    holds = λ a b g h. by a b g h (joins a b e) refl (eqb (a * 32 + b / 8) k) refl;
-  }
-    where
-      at-k : (a b : ℕ) → a * 32 + b / 8 ≡ k → pairBit (set table k (x + 2 ^ i)) a b ≡ (if eqb i (b % 8) then 1 else x / 2 ^ (b % 8) % 2)
-      at-k a b u =
-          let l : k < length table = omega arith in
-          rw (u, getD-set-same table k (x + 2 ^ i) 0 l) (bit-more i (b % 8) x z)
-
-      by : (a b : ℕ) → a < v → b < 256 → (s : Bool) → joins a b e ≡ s → (r : Bool) → eqb (a * 32 + b / 8) k ≡ r
-          → pairBit (set table k (x + 2 ^ i)) a b ≡ (if any (joins a b) (es ++ e ∷ []) then 1 else 0)
-      by a b g h true q r w =
-          let (c, d) = both (eqb (e .from) a) (eqb (e .to) b) q in
-          let u : a * 32 + b / 8 ≡ k = omega (arith, eqb-true (e .from) a c, eqb-true (e .to) b d) in
-          let y : i ≡ b % 8 = omega (arith, eqb-true (e .to) b d) in
-          rw (at-k a b u, eq-eqb i (b % 8) y, any-last (joins a b) es e, either-right (any (joins a b) es) q)
-      by a b g h false q true w =
-          let u : a * 32 + b / 8 ≡ k = eqb-true (a * 32 + b / 8) k w in
-          let n : i ≡ b % 8 → ⊥ = λ v.
-          let m : joins a b e ≡ true = both-true (eq-eqb (e .from) a (omega arith)) (eq-eqb (e .to) b (omega arith)) in false≢true (sym q ∙ m) in
-          rw (at-k a b u, ne-eqb i (b % 8) n, any-last (joins a b) es e, q, or-false (any (joins a b) es)) (rw u at (p .holds a b g h))
-      by a b g h false q false w =
-          rw (getD-set-other table k (a * 32 + b / 8) (x + 2 ^ i) 0 (eqb-false (a * 32 + b / 8) k w), any-last (joins a b) es e, q, or-false (any (joins a b) es))
-          (p .holds a b g h)
-
--- A bit that is 1 is that of an edge.
-marked : (b : Bool) (n : ℕ) → n ≡ (if b then 1 else 0) → n ≡ 1 → b ≡ true
-marked true n e h = refl
-marked false n e h = absurd (omega arith)
-
-unmarked : (b : Bool) (n : ℕ) → n ≡ (if b then 1 else 0) → n ≡ 0 → b ≡ false
-unmarked true n e h = absurd (omega arith)
-unmarked false n e h = refl
+-- The rule of an edge ------------------------------------------------------------------------------------------------
 
 module _ (v : ℕ) (seen : List Edge) (e : Edge) where
   -- A task or the volume is outside its range.
@@ -131,68 +81,107 @@ module _ (v : ℕ) (seen : List Edge) (e : Edge) where
   unfolding edgeRule firstOf
   edge-volume f t h = rw (lt-ltb _ _ f, lt-ltb _ _ t, le-ltb (e .volume) 0 (omega arith), lt-ltb _ _ h)
 
+  -- Else the rules between it and those before it count.
   module _ (f : e .from < v) (t : e .to < v) (h : e .volume ≤ 4095) where
-    ranges : edgeRule document01 v seen e ≡ firstOf (edgeOrder seen e)
+    pub edge-order : edgeRule document01 v seen e ≡ firstOf (edgeOrder seen e)
     unfolding edgeRule firstOf
-    ranges = rw (lt-ltb _ _ f, lt-ltb _ _ t, le-ltb (e .volume) 0 (omega arith), le-ltb _ _ h)
+    edge-order = rw (lt-ltb _ _ f, lt-ltb _ _ t, le-ltb (e .volume) 0 (omega arith), le-ltb _ _ h)
 
-    -- From a task to itself.
-    pub edge-self : e .from ≡ e .to → 6 ≡ edgeRule document01 v seen e
-    unfolding edgeOrder firstOf
-    edge-self q = rw (ranges, eq-eqb _ _ q)
+-- The order of edges in cells -----------------------------------------------------------------------------------------
 
-    module _ (table : List ℕ) (p : Pairs v seen table) (m : v ≤ 255) (n : e .from ≡ e .to → ⊥) where
-      -- The table has the pair, or has it not.
-      pub edge-twice : pairBit table (e .from) (e .to) ≡ 1 → 6 ≡ edgeRule document01 v seen e
-      unfolding edgeOrder firstOf
-      edge-twice q =
-          let k : any (joins (e .from) (e .to)) seen ≡ true = marked _ _ (p .holds (e .from) (e .to) (omega arith) (omega arith)) q in
-          rw (ranges, ne-eqb _ _ n, k)
+-- The last of some edges.
+last-from : (c : ℕ) (cs : List ℕ) → getLast? (map edgeIn (c ∷ cs)) ≡ some (edgeIn (nth (c ∷ cs) (length cs)))
+last-from c [] = refl
+last-from c (d ∷ cs) = last-from d cs
 
-      pub edge-new : pairBit table (e .from) (e .to) ≡ 0 → 0 ≡ edgeRule document01 v seen e
-      unfolding edgeOrder firstOf
-      edge-new q =
-          let k : any (joins (e .from) (e .to)) seen ≡ false = unmarked _ _ (p .holds (e .from) (e .to) (omega arith) (omega arith)) q in
-          rw (ranges, ne-eqb _ _ n, k)
+pub last-cell : (cs : List ℕ) → 0 < length cs → getLast? (map edgeIn cs) ≡ some (edgeIn (nth cs (length cs - 1)))
+last-cell [] h = absurd (omega arith)
+last-cell (c ∷ cs) h = let e : length (c ∷ cs) - 1 ≡ length cs = omega arith in rw e (last-from c cs)
 
--- The numbers of an edge line stand at the front of ys.
-module _ (ys : List ℕ) where
-  pub edge-read : (s r : List ℕ) → line document01 (bytes "E,") 3 s ≡ found (take 3 ys) r → edgeLine document01 s ≡ found (edgeOf ys) r
+pub no-cell : (cs : List ℕ) → length cs ≤ 0 → getLast? (map edgeIn cs) ≡ none
+no-cell [] h = refl
+no-cell (c ∷ cs) h = absurd (omega arith)
+
+-- The edge in cell c after those in cells cs, of which x is the last.
+module _ (cs : List ℕ) (c x : ℕ) (l : getLast? (map edgeIn cs) ≡ some (edgeIn x)) (n : edgeIn c .from ≡ edgeIn c .to → ⊥) where
+  -- It is greater than the last.
+  pub order-on : Ascends (map edgeIn cs) → pairIn x < pairIn c → firstOf (edgeOrder (map edgeIn cs) (edgeIn c)) ≡ 0
+  order-on a h = order-next (map edgeIn cs) (edgeIn c) n (edgeIn x) a l (sym (pair-smaller x c) ∙ lt-ltb (pairIn x) (pairIn c) h)
+
+  -- It is not, and no earlier one has its pair.
+  pub order-back : pairIn c ≤ pairIn x → any (λ d. samePair d (edgeIn c)) (map edgeIn cs) ≡ false → firstOf (edgeOrder (map edgeIn cs) (edgeIn c)) ≡ 16
+  order-back h q =
+      let s = none-in (λ d. samePair d (edgeIn c)) (edgeIn x) (map edgeIn cs) q (last-in (map edgeIn cs) (edgeIn x) l) in
+      let b : smallerThanLast (getLast? (map edgeIn cs)) (edgeIn c) ≡ true =
+      rw l (else-smaller (edgeIn x) (edgeIn c) s (sym (pair-smaller x c) ∙ le-ltb (pairIn x) (pairIn c) h)) in
+      order-smaller (map edgeIn cs) (edgeIn c) n q b
+
+-- An edge line after some edges: its form, then its rule.
+module _ (v : ℕ) (seen : List Edge) (s : List ℕ) where
+  pub edge-bad : (x : ℕ) → line document01 (bytes "E,") 3 s ≡ refused x → refused x ≡ ruled (edgeLine document01) (edgeRule document01 v) seen s
   unfolding edgeLine
-  edge-read s r e = rw (e, getD-take 3 ys 0 0 (omega arith), getD-take 3 ys 1 0 (omega arith), getD-take 3 ys 2 0 (omega arith))
+  edge-bad x e = rw e
 
-  -- Its cell takes the place of the first of them.
-  pub edge-kept : (c : ℕ) → c ≡ edgeCell (edgeOf ys) → 0 < length ys → nth ys 0 < 256 → nth ys 1 < 256 → edgeIn (nth (set ys 0 c) 0) ≡ edgeOf ys
-  edge-kept c e h f t = rw (getD-set-same ys 0 c 0 h, e) (edge-of-cell (edgeOf ys) f t)
+  -- Its numbers stand at the front of ys.
+  module _ (ys r : List ℕ) (e : line document01 (bytes "E,") 3 s ≡ found (take 3 ys) r) (x : ℕ) (f : x ≡ edgeRule document01 v seen (edgeOf ys)) where
+    formed : edgeLine document01 s ≡ found (edgeOf ys) r
+    unfolding edgeLine
+    formed = rw (e, getD-take 3 ys 0 0 (omega arith), getD-take 3 ys 1 0 (omega arith), getD-take 3 ys 2 0 (omega arith))
 
--- The cells of i edges stand in front of the memory d; the rest was lent, `&mut d[i..]`, and holds ys since, with one more in front.
-pub edges-more : (d ys : List ℕ) (i : ℕ) → i < length d → length ys ≡ length (midOf i (length d - i) d)
-    → map edgeIn (take (i + 1) (putMid i (length d - i) d ys)) ≡ map edgeIn (take i d) ++ edgeIn (nth ys 0) ∷ []
-edges-more d ys i h l =
-    let new = putMid i (length d - i) d ys in
-    let size : length new ≡ length d = same-len-mid i (length d - i) d ys l in
-    let g : i < length new = omega (arith, size, h) in
-    let b : i ≤ length d = omega (arith, h) in
-    let front : nth new i ≡ nth ys 0 = ap (nth new) (sym (add-zero i)) ∙ sym (getD-drop i new 0 0) ∙ ap (λ (l : List ℕ). nth l 0) (drop-lent i d ys b) in
-    rw (add-one i, take-suc new i 0 g, take-put i (length d - i) d ys b, front) (map-append edgeIn (take i d) (nth ys 0 ∷ []))
+    pub edge-no : 0 < x → refused x ≡ ruled (edgeLine document01) (edgeRule document01 v) seen s
+    edge-no g = ruled-no (edgeLine document01) (edgeRule document01 v) seen s (edgeOf ys) r formed x f g
+
+    pub edge-yes : x ≤ 0 → found (edgeOf ys) r ≡ ruled (edgeLine document01) (edgeRule document01 v) seen s
+    edge-yes g = ruled-yes (edgeLine document01) (edgeRule document01 v) seen s (edgeOf ys) r formed x f g
 
 -- Whether n edges fit so many cells.
 module _ (room v n : ℕ) (s : List ℕ) where
-  pub edges-fit : (leb v 255 && leb (n + 2) room) ≡ true → edgesInto room v n s ≡ lines (edgeLine document01) (edgeRule document01 v) n [] s
+  pub edges-fit : (leb v 255 && leb n room) ≡ true → edgesInto room v n s ≡ lines (edgeLine document01) (edgeRule document01 v) n [] s
   unfolding edgesInto
   edges-fit e = rw e
 
-  pub edges-unfit : (leb v 255 && leb (n + 2) room) ≡ false → refused 8 ≡ edgesInto room v n s
+  pub edges-unfit : (leb v 255 && leb n room) ≡ false → refused 8 ≡ edgesInto room v n s
   unfolding edgesInto
   edges-unfit e = rw e
 
-  pub edges-enough : v ≤ 255 → n + 2 ≤ room → edgesInto room v n s ≡ lines (edgeLine document01) (edgeRule document01 v) n [] s
-  edges-enough h g = edges-fit (both-true (le-leb v 255 h) (le-leb (n + 2) room g))
+  pub edges-enough : v ≤ 255 → n ≤ room → edgesInto room v n s ≡ lines (edgeLine document01) (edgeRule document01 v) n [] s
+  edges-enough h g = edges-fit (both-true (le-leb v 255 h) (le-leb n room g))
 
 -- What the test says.
-pub edges-room : (room v n : ℕ) → (leb v 255 && leb (n + 2) room) ≡ true → (v ≤ 255) × (n + 2 ≤ room)
-edges-room room v n e = let (a, b) = both (leb v 255) (leb (n + 2) room) e in (leb-true v 255 a, leb-true (n + 2) room b)
+pub edges-room : (room v n : ℕ) → (leb v 255 && leb n room) ≡ true → (v ≤ 255) × (n ≤ room)
+edges-room room v n e = let (a, b) = both (leb v 255) (leb n room) e in (leb-true v 255 a, leb-true n room b)
 
-pub edge-bad : (n : ℕ) (s : List ℕ) → line document01 (bytes "E,") 3 s ≡ refused n → edgeLine document01 s ≡ refused n
-unfolding edgeLine
-edge-bad n s e = rw e
+-- Edges in cells ---------------------------------------------------------------------------------------------------------
+
+-- Whether some from the i-th on have the pair of the edge in a cell: that one, or some after it.
+module _ (c : ℕ) (cs : List ℕ) (i : ℕ) where
+  abbrev repeats : ℕ → Bool
+  repeats k = any (λ d. samePair d (edgeIn c)) (map edgeIn (drop k cs))
+
+  module _ (h : i < length cs) where
+    one-of : repeats i ≡ (samePair (edgeIn (nth cs i)) (edgeIn c) || repeats (i + 1))
+    unfolding any
+    one-of = rw (drop-cons cs i 0 h, add-one i)
+
+    pub repeats-here : pairIn (nth cs i) ≡ pairIn c → true ≡ repeats i
+    repeats-here e = sym (one-of ∙ rw (← pair-same (nth cs i) c, eq-eqb (pairIn (nth cs i)) (pairIn c) e))
+
+    pub repeats-on : (pairIn (nth cs i) ≡ pairIn c → ⊥) → repeats (i + 1) ≡ repeats i
+    repeats-on n = sym (one-of ∙ rw (← pair-same (nth cs i) c, ne-eqb (pairIn (nth cs i)) (pairIn c) n))
+
+  pub repeats-no : length cs ≤ i → false ≡ repeats i
+  unfolding any
+  repeats-no h = rw (drop-of-length-le cs h)
+
+-- One edge more.
+pub edges-more : (cs : List ℕ) (i : ℕ) → i < length cs → map edgeIn (take (i + 1) cs) ≡ map edgeIn (take i cs) ++ edgeIn (nth cs i) ∷ []
+edges-more cs i h = rw (add-one i, take-suc cs i 0 h) (map-append edgeIn (take i cs) (nth cs i ∷ []))
+
+-- With a line that was found the edges go on ascending.
+pub edge-passed : (v : ℕ) (seen : List Edge) (s : List ℕ) (e : Edge) (r : List ℕ) → Ascends seen
+    → ruled (edgeLine document01) (edgeRule document01 v) seen s ≡ found e r → Ascends (seen ++ e ∷ [])
+unfolding edgeRule
+edge-passed v seen s e r a f =
+    let (d, t, _, z, g) = rule-found (edgeLine document01 s) (edgeRule document01 v seen) (λ d. return d) e r f in
+    let q : d ≡ e = cc in
+    rw q at (ascends-more seen d a (passed _ _ _ z .1))

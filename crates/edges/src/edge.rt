@@ -1,59 +1,71 @@
-// E lines, one after another, and a table of the pairs that were seen.
+// E lines, one after another: each is held against the one before it, and only where it is smaller against all before it.
 ghost use mathlib.Core.Path.{_≡_};
 ghost use mathlib.Core.Bool.{_&&_};
-ghost use mathlib.Core.List.{List, [], _∷_, _++_, map};
-ghost use Prim.Native.Nat.{ℕ, _+_, _*_, _/_, _≤_, _<_};
-ghost use lib.Dec.{eqb, leb};
+ghost use mathlib.Core.List.{[], map};
+ghost use Prim.Native.Nat.{_≤_, _<_};
+ghost use lib.Dec.{leb};
 ghost use lib.ListN.{length, take, drop};
-ghost use Rattle.definitions.specs.Lists.{nth};
+ghost use Rattle.definitions.specs.Lists.{nth, any};
 ghost use Rattle.definitions.specs.Limits.{document01};
-ghost use Rattle.definitions.specs.Text.{lines};
-ghost use Rattle.definitions.specs.Job.{Edge, edgeLine, edgeRule};
-ghost use Rattle.text.specs.Told.{told};
+ghost use Rattle.definitions.specs.Text.{firstOf, lines};
+ghost use Rattle.definitions.specs.Job.{Ascends, samePair, edgeOrder, edgeLine, edgeRule};
+ghost use Rattle.text.specs.Told.{told, ruled};
 ghost use Rattle.orders.specs.Edges.{edgeCell, edgeIn};
-ghost use Rattle.edges.specs.Edges.{pairBit, Pairs, EdgeRead};
+ghost use Rattle.edges.specs.Edges.{pairIn};
 use text::Step;
 
 // There is room for n edges between v tasks in so many cells.
 pub fn fits(v: u64, n: usize, size: usize) -> bool
-    ensures { λ r. ⌜ r ≡ (leb v 255 && leb (n + 2) size) ⌝ }
+    ensures { λ r. ⌜ r ≡ (leb v 255 && leb n size) ⌝ }
 {
     if v > 255 {
         return false;
     }
-    if size < 2 {
-        return false;
+    n <= size
+}
+
+// The pair of the edge in a cell as one number, by from, then by to.
+fn pair_of(cell: u64) -> u64
+    ensures { λ r. ⌜ r ≡ pairIn cell ⌝ }
+{
+    cell % 256 * 256 + cell / 256 % 256
+}
+
+// Some edge has the pair of the edge in a cell.
+fn is_repeated(before: &[u64], cell: u64) -> bool
+    ensures { λ r. ⌜ r ≡ any (λ d. samePair d (edgeIn cell)) (map edgeIn (now (before .entry))) ⌝ }
+{
+    let pair = pair_of(cell);
+    let mut i = 0;
+    while i < before.len() {
+        if pair_of(before[i]) == pair {
+            return true;
+        }
+        i += 1;
     }
-    if n > size - 2 {
-        return false;
+    false
+}
+
+// The number of the refusal by the order of edges, of the edge in a cell after some that ascend; or 0. Where it is greater than the last
+// no earlier one has its pair.
+fn check_order(before: &[u64], cell: u64) -> u64
+    requires { ⌜ Ascends (map edgeIn (now before)) ⌝ }
+    ensures { λ r. ⌜ r ≡ firstOf (edgeOrder (map edgeIn (now (before .entry))) (edgeIn cell)) ⌝ }
+{
+    if cell % 256 == cell / 256 % 256 {
+        return 6;
     }
-    true
-}
-
-// The byte of the table that has a pair's bit.
-fn pair_at(from: u64, to: u64) -> usize
-    requires { ⌜ (from < 256) × (to < 256) ⌝ }
-    ensures { λ r. ⌜ r ≡ from * 32 + to / 8 ⌝ }
-{
-    (from * 32 + to / 8) as usize
-}
-
-// The table has a pair.
-fn has_pair(pairs: &[u8], from: u64, to: u64) -> bool
-    requires { ⌜ (from * 32 + 32 ≤ length (now pairs)) × (from < 256) × (to < 256) ⌝ }
-    ensures { λ r. ⌜ r ≡ eqb (pairBit (now (pairs .entry)) from to) 1 ⌝ }
-{
-    let k = pair_at(from, to);
-    (pairs[k] >> (to % 8)) % 2 == 1
-}
-
-// Puts a pair into the table, which does not have it.
-fn add_pair(pairs: &mut [u8], from: u64, to: u64)
-    requires { ⌜ (from < 256) × (to < 256) × (from * 32 + 32 ≤ length (now pairs)) × (pairBit (now pairs) from to ≡ 0) ⌝ }
-    ensures { λ _. ⌜ ((v : ℕ) (es : List Edge) (volume : ℕ) → Pairs v es (now (pairs .entry)) → Pairs v (es ++ record { from = from; to = to; volume = volume } ∷ []) (now (pairs .exit))) ⌝ }
-{
-    let k = pair_at(from, to);
-    pairs[k] += 1 << (to % 8);
+    let n = before.len();
+    if n == 0 {
+        return 0;
+    }
+    if pair_of(before[n - 1]) < pair_of(cell) {
+        return 0;
+    }
+    if is_repeated(before, cell) {
+        return 6;
+    }
+    16
 }
 
 // An edge in one cell.
@@ -64,11 +76,11 @@ fn cell_of(from: u64, to: u64, volume: u64) -> u64
     from + 256 * to + 65536 * volume
 }
 
-// The number of the refusal of an edge after those whose pairs are in the table, or 0.
-fn check_edge(v: u64, from: u64, to: u64, volume: u64, pairs: &[u8]) -> u64
-    requires { ⌜ (v ≤ 255) × (v * 32 ≤ length (now pairs)) ⌝ }
-    ensures { λ r. ⌜ ((seen : List Edge) → Pairs v seen (now (pairs .entry)) → r ≡ edgeRule document01 v seen (record { from = from; to = to; volume = volume }))
-        × (r ≡ 0 → (from < v) × (to < v) × (volume ≤ 4095) × (pairBit (now (pairs .entry)) from to ≡ 0)) ⌝ }
+// The number of the refusal of an edge after some that ascend, or 0.
+fn check_edge(v: u64, from: u64, to: u64, volume: u64, before: &[u64]) -> u64
+    requires { ⌜ (v ≤ 255) × Ascends (map edgeIn (now before)) ⌝ }
+    ensures { λ r. ⌜ (r ≡ edgeRule document01 v (map edgeIn (now (before .entry))) (record { from = from; to = to; volume = volume }))
+        × (r ≡ 0 → (from < v) × (to < v) × (volume ≤ 4095)) ⌝ }
 {
     if from >= v {
         return 3;
@@ -79,46 +91,41 @@ fn check_edge(v: u64, from: u64, to: u64, volume: u64, pairs: &[u8]) -> u64
     if volume > 4095 {
         return 3;
     }
-    if from == to {
-        return 6;
-    }
-    if has_pair(pairs, from, to) {
-        return 6;
-    }
-    0
+    check_order(before, cell_of(from, to, volume))
 }
 
-// The edge line at `at`: its cell then stands at the front of `cells`, its pair is in the table. Three cells are used on the way.
-fn read_edge(s: &[u8], at: usize, v: u64, cells: &mut [u64], pairs: &mut [u8]) -> Step
-    requires { ⌜ (v ≤ 255) × (3 ≤ length (now cells)) × (v * 32 ≤ length (now pairs)) ⌝ }
-    ensures { λ r. ⌜ ((seen : List Edge) → Pairs v seen (now (pairs .entry)) → EdgeRead v seen (now (s .entry)) at (edgeIn (nth (now (cells .exit)) 0)) (now (pairs .exit)) r) ⌝ }
+// The edge line at `at`, after the i edges in front of `mem`: its cell then stands behind them.
+fn read_edge(s: &[u8], at: usize, v: u64, mem: &mut [u64], i: usize) -> Step
+    requires { ⌜ (v ≤ 255) × (i < length (now mem)) × Ascends (map edgeIn (take i (now mem))) ⌝ }
+    ensures { λ r. ⌜ (take i (now (mem .exit)) ≡ take i (now (mem .entry)))
+        × (told (now (s .entry)) (edgeIn (nth (now (mem .exit)) i)) r ≡ ruled (edgeLine document01) (edgeRule document01 v) (map edgeIn (take i (now (mem .entry)))) (drop at (now (s .entry)))) ⌝ }
 {
-    match lines::read_line(s, at, b"E,", 3, cells) {
+    let mut line = [0u64; 3];
+    match lines::read_line(s, at, b"E,", 3, &mut line) {
         Step::Next(p) => {
-            let from = cells[0];
-            let to = cells[1];
-            let volume = cells[2];
-            let x = check_edge(v, from, to, volume, &pairs[..]);
+            let from = line[0];
+            let to = line[1];
+            let volume = line[2];
+            let x = check_edge(v, from, to, volume, &mem[..i]);
             if x > 0 {
                 return Step::Refused(x);
             }
-            cells[0] = cell_of(from, to, volume);
-            add_pair(pairs, from, to);
+            mem[i] = cell_of(from, to, volume);
             Step::Next(p)
         }
         Step::Refused(x) => Step::Refused(x),
     }
 }
 
-// n edge lines, kept from the front of `mem` on, one cell each; two cells more are used on the way.
-pub fn fill_edges(s: &[u8], at: usize, v: u64, n: usize, mem: &mut [u64], pairs: &mut [u8]) -> Step
-    requires { ⌜ (v ≤ 255) × (n + 2 ≤ length (now mem)) × Pairs v [] (now pairs) ⌝ }
+// n edge lines, kept from the front of `mem` on, one cell each.
+pub fn fill_edges(s: &[u8], at: usize, v: u64, n: usize, mem: &mut [u64]) -> Step
+    requires { ⌜ (v ≤ 255) × (n ≤ length (now mem)) ⌝ }
     ensures { λ r. ⌜ told (now (s .entry)) (map edgeIn (take n (now (mem .exit)))) r ≡ lines (edgeLine document01) (edgeRule document01 v) n [] (drop at (now (s .entry))) ⌝ }
 {
     let mut i = 0;
     let mut p = at;
     while i < n {
-        match read_edge(s, p, v, &mut mem[i..], pairs) {
+        match read_edge(s, p, v, mem, i) {
             Step::Next(next) => p = next,
             Step::Refused(x) => return Step::Refused(x),
         }

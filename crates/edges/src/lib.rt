@@ -9,18 +9,12 @@ use text::Step;
 
 mod edge;
 
-// n edge lines, kept from the front of `mem` on, one cell each; two cells more are used on the way. 8 if there are more than 255 tasks,
-// or too few cells.
+// n edge lines, kept from the front of `mem` on, one cell each. 8 if there are more than 255 tasks, or fewer cells than edges.
 pub fn read_edges(s: &[u8], at: usize, v: u64, n: usize, mem: &mut [u64]) -> Step
     ensures { λ r. ⌜ told (now (s .entry)) (map edgeIn (take n (now (mem .exit)))) r ≡ edgesInto (length (now (mem .entry))) v n (drop at (now (s .entry))) ⌝ }
 {
     if edge::fits(v, n, mem.len()) {
-        if v <= 16 {
-            let mut few = [0u8; 512];
-            return edge::fill_edges(s, at, v, n, mem, &mut few);
-        }
-        let mut pairs = [0u8; 8192];
-        return edge::fill_edges(s, at, v, n, mem, &mut pairs);
+        return edge::fill_edges(s, at, v, n, mem);
     }
     Step::Refused(8)
 }

@@ -1,12 +1,13 @@
 //! One random case: texts, and all that is held against each other on them.
 
 use crate::damage::Damage;
+use crate::edges::EDGE_FAULTS;
 use crate::faults;
 use crate::jobs::{self, Edge, Job, MAX_FAILURES, MAX_PROCESSORS, Size};
 use crate::plans::{self, Plan};
 use crate::rng::Rng;
 use crate::stops::{self, Stop};
-use crate::tally::{Group, HEAVY, HEAVY_DOUBLED, LIMITS, Tally};
+use crate::tally::{Group, HEAVY, HEAVY_DOUBLED, LIMITS, LOWER, Tally};
 use crate::tools::{Second, Tool};
 use second::Verdict;
 use std::fmt::Write;
@@ -56,13 +57,14 @@ pub struct Cases<'a> {
 }
 
 /// A kind of case, how often it comes, and its name.
-const KINDS: [(Kind, usize, &str); 9] = [
+const KINDS: [(Kind, usize, &str); 10] = [
     (Kind::PlannersPlan, 20, "planner's plan"),
     (Kind::OtherPlan, 20, "other plan"),
     (Kind::DoubledPlan, 12, "doubled plan"),
     (Kind::WrongTick, 6, "wrong tick"),
     (Kind::WrongMakespan, 3, "wrong makespan"),
     (Kind::WrongOrder, 4, "wrong order"),
+    (Kind::WrongEdges, 15, "wrong edges"),
     (Kind::FaultsInOrder, 45, "faults in order"),
     (Kind::Damaged, 30, "damaged texts"),
     (Kind::Heaviest, 1, "largest numbers"),
@@ -76,6 +78,7 @@ enum Kind {
     WrongTick,
     WrongMakespan,
     WrongOrder,
+    WrongEdges,
     FaultsInOrder,
     Damaged,
     Heaviest,
@@ -108,6 +111,7 @@ pub fn run(seed: u64, tool: &dyn Tool, tally: &mut Tally) -> Outcome<u64> {
         Kind::WrongTick => cases.wrong_tick(),
         Kind::WrongMakespan => cases.wrong_makespan(),
         Kind::WrongOrder => cases.wrong_order(),
+        Kind::WrongEdges => cases.wrong_edges(),
         Kind::FaultsInOrder => cases.faults_in_order(),
         Kind::Damaged => cases.damaged(),
         Kind::Heaviest => cases.heaviest(),
@@ -251,6 +255,29 @@ impl Cases<'_> {
         Ok(())
     }
 
+    /// A fault in the edge lines, or several, and perhaps a circle, beside a
+    /// plan and stops without faults.
+    fn wrong_edges(&mut self) -> Outcome {
+        let (mut job, _) = self.job();
+        let plan = self.sound_plan(&job);
+        let stops = self.some_stops(&job, &plan);
+        let mut last = None;
+        if self.rng.one_in(4) {
+            last = self.close_circle(&mut job);
+        }
+        let number = self.spoil_edges(&mut job).or(last);
+        let mut known = number.map_or(Known::Good, Known::Refused);
+        while self.rng.one_in(3) {
+            self.spoil_edges(&mut job);
+            known = Known::Nothing;
+        }
+        let (text, plan) = (job.to_text(), plan.to_text());
+        self.compare_plan(&text, &known)?;
+        self.compare_check(&text, &plan, &known)?;
+        self.compare_replay(&text, &plan, &stops, &known, Lengths::One)?;
+        Ok(())
+    }
+
     /// Several faults in one text or more; the first of them counts.
     fn faults_in_order(&mut self) -> Outcome {
         let (mut job, _) = self.job();
@@ -262,11 +289,8 @@ impl Cases<'_> {
         };
         let hit_job = self.rng.one_in(3);
         let mut job_last = None;
-        let room = (1..jobs::MAX_EDGES).contains(&job.edges.len());
-        if hit_job && room && self.rng.one_in(3) {
-            let edge = self.circle(&job);
-            job.edges.push(edge);
-            job_last = Some(7);
+        if hit_job && self.rng.one_in(3) {
+            job_last = self.close_circle(&mut job);
         }
         let mut job_sheet = faults::job(&job);
         let mut plan_sheet = faults::plan(&plan);
@@ -301,7 +325,7 @@ impl Cases<'_> {
     }
 
     fn damaged(&mut self) -> Outcome {
-        let (job, mut text) = self.job();
+        let (mut job, mut text) = self.job();
         let doubled = self.rng.one_in(6);
         let plan = match doubled {
             true => plans::random_doubled(&mut self.rng, &job),
@@ -318,6 +342,10 @@ impl Cases<'_> {
             6 => (false, true, true),
             _ => (true, true, true),
         };
+        if hit_job && self.rng.one_in(2) {
+            self.spoil_edges(&mut job);
+            text = job.to_text();
+        }
         for (hit, text) in [
             (hit_job, &mut text),
             (hit_plan, &mut plan),
@@ -394,6 +422,9 @@ impl Cases<'_> {
         for (limit, _) in LIMITS.into_iter().zip(at_limits).filter(|l| l.1) {
             self.tally.count(Group::Limit, limit);
         }
+        if job.edges.iter().any(|edge| edge.to < edge.from) {
+            self.tally.count(Group::Edge, LOWER);
+        }
         let text = job.to_text();
         (job, text)
     }
@@ -447,6 +478,24 @@ impl Cases<'_> {
             damage.apply(&mut self.rng, text);
             self.tally.count(Group::Damage, name);
         }
+    }
+
+    /// Makes one fault in the edge lines, if it can be done; its number.
+    fn spoil_edges(&mut self, job: &mut Job) -> Option<u64> {
+        let (fault, name) = self.rng.pick(&EDGE_FAULTS);
+        let number = fault.apply(&mut self.rng, job)?;
+        self.tally.count(Group::Edge, name);
+        Some(number)
+    }
+
+    /// Puts in an edge that closes a circle, if there is room; its number.
+    fn close_circle(&mut self, job: &mut Job) -> Option<u64> {
+        if job.edges.is_empty() || job.edges.len() == jobs::MAX_EDGES {
+            return None;
+        }
+        let edge = self.circle(job);
+        job.insert(edge);
+        Some(7)
     }
 
     /// An edge back to the start of some way along edges.

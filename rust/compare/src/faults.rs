@@ -29,6 +29,9 @@ struct Row {
     end: &'static str,
 }
 
+/// From and to of an edge line.
+type Pair = (u64, u64);
+
 /// Where a fault is found, what is tried before it there, and its number.
 type Fault = (usize, usize, u64);
 
@@ -55,6 +58,27 @@ impl Row {
     fn set(&mut self, field: usize, value: u64) {
         self.fields[field] = value.to_string();
     }
+
+    /// Of an edge line.
+    fn pair(&self) -> Pair {
+        (self.number(0), self.number(1))
+    }
+}
+
+/// A pair of different tasks that is less than the last one and not among
+/// the earlier; none if it is not soon found.
+fn smaller_pair(rng: &mut Rng, earlier: &[Pair], last_task: u64) -> Option<Pair> {
+    let &last = earlier.last()?;
+    let (from, to) = last;
+    for _ in 0..20 {
+        let by_from = (rng.within(0..=from), rng.within(0..=last_task));
+        let by_to = (from, rng.within(0..=to));
+        let pair = rng.pick(&[by_from, by_to]);
+        if pair < last && pair.0 != pair.1 && !earlier.contains(&pair) {
+            return Some(pair);
+        }
+    }
+    None
 }
 
 impl Sheet {
@@ -204,14 +228,20 @@ impl Sheet {
             }
             "E," => {
                 let earlier = before.iter().filter(|row| row.opening == "E,");
-                let earlier: Vec<&Row> = earlier.collect();
-                if !earlier.is_empty() && rng.one_in(2) {
-                    let earlier = earlier[rng.below(earlier.len())];
-                    row.fields[..2].clone_from_slice(&earlier.fields[..2]);
-                } else {
-                    row.fields[1] = row.fields[0].clone();
-                }
-                self.faults.push((place, RULE, 6));
+                let earlier: Vec<Pair> = earlier.map(Row::pair).collect();
+                let (_, last_task) = row.ranges[0];
+                let smaller = smaller_pair(rng, &earlier, last_task);
+                let (pair, order, number) = match (rng.below(4), smaller) {
+                    (0 | 1, Some(pair)) => (pair, LAST_RULE, 16),
+                    (2, _) if !earlier.is_empty() => (rng.pick(&earlier), RULE, 6),
+                    _ => {
+                        let task = rng.within(0..=last_task);
+                        ((task, task), RULE, 6)
+                    }
+                };
+                row.set(0, pair.0);
+                row.set(1, pair.1);
+                self.faults.push((place, order, number));
             }
             "PLAN," => {
                 let field = rng.below(3);

@@ -18,6 +18,13 @@ pub struct Edge {
     pub volume: u64,
 }
 
+impl Edge {
+    /// By what edge lines ascend.
+    pub fn pair(&self) -> (usize, usize) {
+        (self.from, self.to)
+    }
+}
+
 #[derive(Clone, Debug)]
 pub struct Job {
     pub failures: usize,
@@ -25,6 +32,7 @@ pub struct Job {
     pub run_times: Vec<Vec<u64>>,
     /// For each processor the delay to each.
     pub delays: Vec<Vec<u64>>,
+    /// As their lines stand.
     pub edges: Vec<Edge>,
 }
 
@@ -43,6 +51,12 @@ impl Job {
 
     pub fn is_exit(&self, task: usize) -> bool {
         self.edges.iter().all(|edge| edge.from != task)
+    }
+
+    /// Puts `edge` where its line stands.
+    pub fn insert(&mut self, edge: Edge) {
+        let place = self.edges.partition_point(|e| e.pair() < edge.pair());
+        self.edges.insert(place, edge);
     }
 
     pub fn to_text(&self) -> Vec<u8> {
@@ -211,17 +225,13 @@ pub fn of_size(
     edges: usize,
     failures: usize,
 ) -> Job {
-    let mut pairs = random_pairs(rng, tasks, edges);
-    rng.shuffle(&mut pairs);
+    let pairs = random_pairs(rng, tasks, edges);
     let edge = |(from, to)| Edge {
         from,
         to,
-        volume: 0,
+        volume: rng.within(0..=400),
     };
-    let mut edges: Vec<Edge> = pairs.into_iter().map(edge).collect();
-    for edge in &mut edges {
-        edge.volume = rng.within(0..=400);
-    }
+    let edges = ascending(pairs.into_iter().map(edge).collect());
     let mut delays: Vec<Vec<u64>> = (0..processors)
         .map(|_| (0..processors).map(|_| rng.within(1..=20)).collect())
         .collect();
@@ -253,7 +263,7 @@ pub fn renumbered(rng: &mut Rng, job: &Job) -> Job {
         failures: job.failures,
         run_times,
         delays: job.delays.clone(),
-        edges: job.edges.iter().map(edge).collect(),
+        edges: ascending(job.edges.iter().map(edge).collect()),
     }
 }
 
@@ -293,7 +303,7 @@ pub fn heaviest(rng: &mut Rng) -> Job {
         failures: MAX_FAILURES,
         run_times,
         delays,
-        edges,
+        edges: ascending(edges),
     }
 }
 
@@ -345,18 +355,19 @@ fn edges(rng: &mut Rng, tasks: usize, shape: Shape) -> Vec<Edge> {
     if !rng.one_in(3) {
         rng.shuffle(&mut numbers);
     }
-    if !rng.one_in(3) {
-        rng.shuffle(&mut pairs);
-    }
     let palette = Palette::random(rng, 0, MAX_VOLUME);
-    pairs
-        .into_iter()
-        .map(|(from, to)| Edge {
-            from: numbers[from],
-            to: numbers[to],
-            volume: palette.draw(rng, 0, MAX_VOLUME),
-        })
-        .collect()
+    let edge = |(from, to): (usize, usize)| Edge {
+        from: numbers[from],
+        to: numbers[to],
+        volume: palette.draw(rng, 0, MAX_VOLUME),
+    };
+    ascending(pairs.into_iter().map(edge).collect())
+}
+
+/// The edges as their lines stand: by from, then by to.
+fn ascending(mut edges: Vec<Edge>) -> Vec<Edge> {
+    edges.sort_unstable_by_key(Edge::pair);
+    edges
 }
 
 /// Pairs of ranks, the lower first.

@@ -3,6 +3,7 @@
 
 pub mod cases;
 pub mod damage;
+pub mod edges;
 pub mod faults;
 pub mod jobs;
 pub mod plans;

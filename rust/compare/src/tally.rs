@@ -1,6 +1,7 @@
 //! How often each kind was met.
 
 use crate::damage::DAMAGES;
+use crate::edges::EDGE_FAULTS;
 use crate::jobs::SHAPES;
 use std::collections::BTreeMap;
 use std::fmt;
@@ -13,6 +14,7 @@ pub enum Group {
     Case,
     Shape,
     Limit,
+    Edge,
     Damage,
     Stop,
     Plan,
@@ -28,6 +30,7 @@ impl Group {
             Group::Case => "cases",
             Group::Shape => "shapes",
             Group::Limit => "limits",
+            Group::Edge => "edges",
             Group::Damage => "damages",
             Group::Stop => "stops",
             Group::Plan => "plan",
@@ -65,7 +68,7 @@ impl Tally {
             let count = sum(&|key| key.0 == *group && key.2 == 0);
             parts.push(format!("{name} {count}"));
         }
-        for number in 1..=15 {
+        for number in 1..=16 {
             let count = sum(&|key| answers.contains(&key.0) && key.2 == number);
             parts.push(format!("{number}: {count}"));
         }
@@ -116,7 +119,7 @@ fn required() -> Vec<Key> {
     let mut add = |group, kind, numbers: &[u64]| {
         keys.extend(numbers.iter().map(|&number| (group, kind, number)));
     };
-    let of_job = [1, 2, 3, 4, 5, 6, 7];
+    let of_job = [1, 2, 3, 4, 5, 6, 7, 16];
     add(Group::Plan, "good", &[0]);
     add(Group::Plan, "job", &of_job);
     add(Group::Plan, "output", &[8]);
@@ -148,6 +151,10 @@ fn required() -> Vec<Key> {
     }
     for (_, shape) in SHAPES {
         add(Group::Shape, shape, &[0]);
+    }
+    add(Group::Edge, LOWER, &[0]);
+    for (_, fault) in EDGE_FAULTS {
+        add(Group::Edge, fault, &[0]);
     }
     for (_, damage) in DAMAGES {
         add(Group::Damage, damage, &[0]);
@@ -181,5 +188,6 @@ pub const LIMITS: [&str; 11] = [
     "largest delay",
 ];
 
+pub const LOWER: &str = "to a lower task";
 pub const HEAVY: &str = "ticks above 520,000,000";
 pub const HEAVY_DOUBLED: &str = "ticks of a doubled plan above 2,000,000,000";

@@ -3,7 +3,7 @@
  * some boxes, check a plan, and replay one while boxes stop.
  *
  * Link with libexports.a. The functions keep nothing between calls, allocate
- * nothing and do no input or output. A call takes some 190 KB of stack.
+ * nothing and do no input or output. A call takes some 185 KB of stack.
  *
  * A text is a pointer to its first byte and its length in bytes; it needs no
  * closing zero. No pointer may be null, even with a length of 0. `out`,
@@ -27,6 +27,7 @@
  *   13  an early or late tick is not that of the equations
  *   14  a bound of the round's end is not that of the equations
  *   15  the boxes of the stop list do not ascend
+ *   16  an edge line is smaller than the one before (from, then to)
  *
  * After a refusal all output is as it was before the call.
  */
@@ -51,7 +52,7 @@ extern "C" {
  * from + 256 * to + 65536 * volume.
  *
  * 0: the job is in the first *written cells.
- * 1 to 8: cells and *written are as they were.
+ * 1 to 8, 16: cells and *written are as they were.
  */
 uint64_t mirguneth_read_job(const uint8_t *text, size_t text_len,
                             uint64_t *cells, size_t cells_len,
@@ -61,7 +62,7 @@ uint64_t mirguneth_read_job(const uint8_t *text, size_t text_len,
  * Draws up a plan of the job.
  *
  * 0: the plan is in the first *written bytes of out.
- * 1 to 8: out and *written are as they were.
+ * 1 to 8, 16: out and *written are as they were.
  */
 uint64_t mirguneth_plan(const uint8_t *job, size_t job_len,
                         uint8_t *out, size_t out_len,
@@ -72,7 +73,7 @@ uint64_t mirguneth_plan(const uint8_t *job, size_t job_len,
  *
  * 0: the plan is accepted.
  * 12: *task is a task that has two copies on one box.
- * 1 to 7, 9 to 11, 13, 14: the plan is refused.
+ * 1 to 7, 9 to 11, 13, 14, 16: the job or the plan is refused.
  * *task is as it was unless the answer is 12.
  */
 uint64_t mirguneth_check(const uint8_t *job, size_t job_len,
@@ -84,7 +85,7 @@ uint64_t mirguneth_check(const uint8_t *job, size_t job_len,
  * list means that no box stops.
  *
  * 0: the first finishes are in the first *written bytes of out.
- * 1 to 11, 15: out and *written are as they were.
+ * 1 to 11, 15, 16: out and *written are as they were.
  */
 uint64_t mirguneth_replay(const uint8_t *job, size_t job_len,
                           const uint8_t *plan, size_t plan_len,

@@ -3,7 +3,7 @@
 //!
 //! The work is done by a proved static library; this crate is a safe layer
 //! over its four functions. Nothing is allocated but by [`plan_to_vec`] and
-//! [`replay_to_vec`]; a call takes some 190 KB of stack.
+//! [`replay_to_vec`]; a call takes some 185 KB of stack.
 
 pub mod raw;
 
@@ -26,7 +26,7 @@ pub struct Refusal {
 }
 
 impl Refusal {
-    /// The refusal's number, 1 to 15.
+    /// The refusal's number, 1 to 16.
     pub fn number(self) -> u64 {
         self.number
     }
@@ -49,6 +49,7 @@ impl Refusal {
             13 => "an early or late tick is not that of the equations",
             14 => "a bound of the round's end is not that of the equations",
             15 => "the boxes of the stop list do not ascend",
+            16 => "an edge line is smaller than the one before (by from, then by to)",
             _ => "unknown",
         }
     }
@@ -78,7 +79,7 @@ pub enum Verdict {
 /// in front; then a cell for each edge, from + 256 × to + 65,536 × volume.
 ///
 /// # Errors
-/// Refusals 1 to 8. Then `cells` is left as it was.
+/// Refusals 1 to 8 and 16. Then `cells` is left as it was.
 pub fn read_job(text: &[u8], cells: &mut [u64]) -> Result<usize, Refusal> {
     let mut written = 0;
     // SAFETY: the pointers and lengths are those of live slices, `cells` and
@@ -98,7 +99,7 @@ pub fn read_job(text: &[u8], cells: &mut [u64]) -> Result<usize, Refusal> {
 /// Draws up a plan of `job` into the front of `out` and gives its length.
 ///
 /// # Errors
-/// Refusals 1 to 8. Then `out` is left as it was.
+/// Refusals 1 to 8 and 16. Then `out` is left as it was.
 pub fn plan(job: &[u8], out: &mut [u8]) -> Result<usize, Refusal> {
     let mut written = 0;
     // SAFETY: the pointers and lengths are those of live slices, `out` and
@@ -140,7 +141,7 @@ pub fn check(job: &[u8], plan: &[u8]) -> Verdict {
 /// front of `out` and gives its length.
 ///
 /// # Errors
-/// Refusals 1 to 11 and 15. Then `out` is left as it was.
+/// Refusals 1 to 11, 15 and 16. Then `out` is left as it was.
 pub fn replay(job: &[u8], plan: &[u8], stops: &[u8], out: &mut [u8]) -> Result<usize, Refusal> {
     let mut written = 0;
     // SAFETY: the pointers and lengths are those of live slices, `out` and
@@ -164,7 +165,7 @@ pub fn replay(job: &[u8], plan: &[u8], stops: &[u8], out: &mut [u8]) -> Result<u
 /// [`plan`] into a vector of its own.
 ///
 /// # Errors
-/// Refusals 1 to 7.
+/// Refusals 1 to 7 and 16.
 pub fn plan_to_vec(job: &[u8]) -> Result<Vec<u8>, Refusal> {
     to_vec(PLAN_BYTES, |out| plan(job, out))
 }
@@ -172,7 +173,7 @@ pub fn plan_to_vec(job: &[u8]) -> Result<Vec<u8>, Refusal> {
 /// [`replay`] into a vector of its own.
 ///
 /// # Errors
-/// Refusals 1 to 7, 9 to 11 and 15.
+/// Refusals 1 to 7, 9 to 11, 15 and 16.
 pub fn replay_to_vec(job: &[u8], plan: &[u8], stops: &[u8]) -> Result<Vec<u8>, Refusal> {
     to_vec(REPLAY_BYTES, |out| replay(job, plan, stops, out))
 }

@@ -24,7 +24,7 @@ fn cells_of_the_small_house() {
 
 #[test]
 fn jobs_that_are_read() {
-    let cases: [(&str, &[u8], usize); 7] = [
+    let cases: [(&str, &[u8], usize); 10] = [
         (
             "the small house",
             b"JOB,2,3,1,1\nC,0,4,6,9\nC,1,5,5,3\nD,0,0,1,2\nD,1,1,0,1\nD,2,2,1,0\nE,0,1,2\n",
@@ -56,6 +56,21 @@ fn jobs_that_are_read() {
             b"JOB,2,3,1,1\nC,0,4,6,9\nC,1,5,5,3\nD,0,0,1,255\nD,1,1,0,1\nD,2,2,1,0\nE,0,1,2\n",
             25,
         ),
+        (
+            "edges that ascend by from and by to",
+            b"JOB,3,1,3,0\nC,0,1\nC,1,1\nC,2,1\nD,0,0\nE,0,1,9\nE,0,2,5\nE,1,2,0\n",
+            15,
+        ),
+        (
+            "an edge to a lower task",
+            b"JOB,3,1,1,0\nC,0,1\nC,1,1\nC,2,1\nD,0,0\nE,1,0,1\n",
+            13,
+        ),
+        (
+            "edges to lower tasks alone",
+            b"JOB,3,1,3,0\nC,0,1\nC,1,1\nC,2,1\nD,0,0\nE,1,0,1\nE,2,0,1\nE,2,1,1\n",
+            15,
+        ),
     ];
     for (name, text, count) in cases {
         let mut cells = [77; 64];
@@ -66,7 +81,7 @@ fn jobs_that_are_read() {
 
 #[test]
 fn jobs_that_are_refused() {
-    let cases: [(&str, &[u8], u64); 42] = [
+    let cases: [(&str, &[u8], u64); 61] = [
         ("the empty text", b"", 2),
         ("another opening", b"JOX,2,3,1,1\nC,0,4,6,9\nC,1,5,5,3\nD,0,0,1,2\nD,1,1,0,1\nD,2,2,1,0\nE,0,1,2\n", 2),
         ("a field too many", b"JOB,2,3,1,1,1\nC,0,4,6,9\nC,1,5,5,3\nD,0,0,1,2\nD,1,1,0,1\nD,2,2,1,0\nE,0,1,2\n", 2),
@@ -109,6 +124,25 @@ fn jobs_that_are_refused() {
         ("5, then 2 below: 5", b"JOB,2,3,1,1\nC,0,4,6,9\nC,1,5,5,3\nD,0,1,1,2\nD,1,1,0,1\nD,2,2,1,0\nX,0,1,2\n", 5),
         ("task 2 to itself, of 2 tasks: 3", b"JOB,2,3,1,1\nC,0,4,6,9\nC,1,5,5,3\nD,0,0,1,2\nD,1,1,0,1\nD,2,2,1,0\nE,2,2,2\n", 3),
         ("a circle and a line left over: 2", b"JOB,2,3,2,1\nC,0,4,6,9\nC,1,5,5,3\nD,0,0,1,2\nD,1,1,0,1\nD,2,2,1,0\nE,0,1,2\nE,1,0,2\nE\n", 2),
+        ("smaller by from", b"JOB,3,1,2,0\nC,0,1\nC,1,1\nC,2,1\nD,0,0\nE,1,2,0\nE,0,1,0\n", 16),
+        ("smaller by from, greater by to", b"JOB,3,1,2,0\nC,0,1\nC,1,1\nC,2,1\nD,0,0\nE,1,0,0\nE,0,2,0\n", 16),
+        ("smaller by to", b"JOB,3,1,2,0\nC,0,1\nC,1,1\nC,2,1\nD,0,0\nE,0,2,0\nE,0,1,0\n", 16),
+        ("smaller than the line before, not than the first", b"JOB,3,1,3,0\nC,0,1\nC,1,1\nC,2,1\nD,0,0\nE,0,1,0\nE,1,2,0\nE,0,2,0\n", 16),
+        ("edges to lower tasks, shuffled", b"JOB,3,1,2,0\nC,0,1\nC,1,1\nC,2,1\nD,0,0\nE,2,1,0\nE,1,0,0\n", 16),
+        ("the pair of a later line, and a smaller line between: 16", b"JOB,3,1,3,0\nC,0,1\nC,1,1\nC,2,1\nD,0,0\nE,0,2,0\nE,0,1,0\nE,0,2,0\n", 16),
+        ("smaller, and an earlier line has it: 6", b"JOB,3,1,3,0\nC,0,1\nC,1,1\nC,2,1\nD,0,0\nE,0,1,0\nE,0,2,0\nE,0,1,0\n", 6),
+        ("smaller, an earlier line has it with another volume: 6", b"JOB,3,1,3,0\nC,0,1\nC,1,1\nC,2,1\nD,0,0\nE,0,1,0\nE,1,2,0\nE,0,1,7\n", 6),
+        ("smaller, from a task to itself: 6", b"JOB,3,1,2,0\nC,0,1\nC,1,1\nC,2,1\nD,0,0\nE,0,2,0\nE,0,0,0\n", 6),
+        ("smaller by from, from a task to itself: 6", b"JOB,3,1,2,0\nC,0,1\nC,1,1\nC,2,1\nD,0,0\nE,1,2,0\nE,0,0,0\n", 6),
+        ("smaller, with volume 4096: 3", b"JOB,3,1,2,0\nC,0,1\nC,1,1\nC,2,1\nD,0,0\nE,0,2,0\nE,0,1,4096\n", 3),
+        ("smaller, to task 3 of 3: 3", b"JOB,3,1,2,0\nC,0,1\nC,1,1\nC,2,1\nD,0,0\nE,1,2,0\nE,0,3,0\n", 3),
+        ("smaller, with a needless zero: 2", b"JOB,3,1,2,0\nC,0,1\nC,1,1\nC,2,1\nD,0,0\nE,0,2,0\nE,0,1,00\n", 2),
+        ("16, then 6 below: 16", b"JOB,3,1,3,0\nC,0,1\nC,1,1\nC,2,1\nD,0,0\nE,1,2,0\nE,0,1,0\nE,1,1,0\n", 16),
+        ("16, then 2 below: 16", b"JOB,3,1,3,0\nC,0,1\nC,1,1\nC,2,1\nD,0,0\nE,1,2,0\nE,0,1,0\nE,x\n", 16),
+        ("6, then 16 below: 6", b"JOB,3,1,3,0\nC,0,1\nC,1,1\nC,2,1\nD,0,0\nE,1,1,0\nE,1,2,0\nE,0,1,0\n", 6),
+        ("a circle and a smaller line: 16", b"JOB,3,1,3,0\nC,0,1\nC,1,1\nC,2,1\nD,0,0\nE,0,1,0\nE,2,0,0\nE,1,2,0\n", 16),
+        ("16 and a line left over: 16", b"JOB,3,1,2,0\nC,0,1\nC,1,1\nC,2,1\nD,0,0\nE,1,2,0\nE,0,1,0\nE\n", 16),
+        ("a line left over that is smaller: 2", b"JOB,3,1,2,0\nC,0,1\nC,1,1\nC,2,1\nD,0,0\nE,0,1,0\nE,1,2,0\nE,0,2,0\n", 2),
     ];
     for (name, text, number) in cases {
         assert_eq!(refused(text, 64), number, "{name}");
@@ -123,4 +157,6 @@ fn length_and_room() {
     assert_eq!(refused(SMALL, 24), 8);
     assert_eq!(refused(b"JOB,1,1,0,0\nC,0,7\nD,0,0\n", 0), 8);
     assert_eq!(refused(b"JOB\n", 0), 2);
+    let shuffled = b"JOB,3,1,2,0\nC,0,1\nC,1,1\nC,2,1\nD,0,0\nE,1,2,0\nE,0,1,0\n";
+    assert_eq!(refused(shuffled, 0), 16);
 }

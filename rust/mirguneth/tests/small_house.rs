@@ -34,4 +34,11 @@ fn refusals() {
     }
     let refusal = mirguneth::replay_to_vec(JOB, PLAN, b"S,1,3\nS,1,4\n").expect_err("15");
     assert_eq!(refusal.number(), 15);
+
+    let shuffled = b"JOB,2,1,2,0\nC,0,4\nC,1,5\nD,0,0\nE,1,0,2\nE,0,1,2\n";
+    let refusal = mirguneth::plan_to_vec(shuffled).expect_err("16");
+    assert_eq!(
+        refusal.to_string(),
+        "refusal 16: an edge line is smaller than the one before (by from, then by to)"
+    );
 }

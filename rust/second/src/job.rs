@@ -1,7 +1,10 @@
 //! A job: tasks, processors and the edges between the tasks.
 
-use crate::refusal::{BAD_EDGE, BAD_LINE, CIRCLE, DELAY_TO_ITSELF, TOO_MANY_FAILURES};
+use crate::refusal::{
+    BAD_EDGE, BAD_LINE, CIRCLE, DELAY_TO_ITSELF, EDGES_DESCEND, TOO_MANY_FAILURES,
+};
 use crate::text::{Lines, within};
+use std::cmp::Ordering;
 
 pub const MAX_TASKS: usize = 255;
 pub const MAX_PROCESSORS: usize = 16;
@@ -49,12 +52,6 @@ struct Edge {
     from: u8,
     to: u8,
     volume: u16,
-}
-
-/// A set of ordered pairs of tasks, one bit for each pair.
-struct PairSet {
-    tasks: usize,
-    bits: Vec<u64>,
 }
 
 impl Job {
@@ -158,21 +155,10 @@ impl Links {
     }
 }
 
-impl PairSet {
-    fn new(tasks: usize) -> PairSet {
-        PairSet {
-            tasks,
-            bits: vec![0; (tasks * tasks).div_ceil(64)],
-        }
-    }
-
-    /// Puts the pair in; false if it was in before.
-    fn insert(&mut self, from: usize, to: usize) -> bool {
-        let pair = from * self.tasks + to;
-        let (word, bit) = (&mut self.bits[pair / 64], 1 << (pair % 64));
-        let new = *word & bit == 0;
-        *word |= bit;
-        new
+impl Edge {
+    /// Edge lines ascend by from, then by to.
+    fn pair(&self) -> (u8, u8) {
+        (self.from, self.to)
     }
 }
 
@@ -223,7 +209,6 @@ fn read_row<'a>(
 
 fn read_edges(lines: &mut Lines, tasks: usize, count: usize) -> Result<Vec<Edge>, u32> {
     let mut edges = Vec::with_capacity(count);
-    let mut seen = PairSet::new(tasks);
     for _ in 0..count {
         let mut fields = [0; 3];
         lines.line(b"E,", &mut fields)?;
@@ -231,16 +216,33 @@ fn read_edges(lines: &mut Lines, tasks: usize, count: usize) -> Result<Vec<Edge>
         within(from, 0..=tasks as u64 - 1)?;
         within(to, 0..=tasks as u64 - 1)?;
         within(volume, 0..=MAX_VOLUME)?;
-        if from == to || !seen.insert(from as usize, to as usize) {
-            return Err(BAD_EDGE);
-        }
-        edges.push(Edge {
+        let edge = Edge {
             from: from as u8,
             to: to as u8,
             volume: volume as u16,
-        });
+        };
+        follows(&edge, &edges)?;
+        edges.push(edge);
     }
     Ok(edges)
+}
+
+/// Refuses an edge from a task to itself, or a pair that an earlier line has;
+/// then a pair that is less than the previous line's. The earlier lines
+/// ascend, so that they are looked through only where the pair is less.
+fn follows(edge: &Edge, earlier: &[Edge]) -> Result<(), u32> {
+    if edge.from == edge.to {
+        return Err(BAD_EDGE);
+    }
+    let Some(previous) = earlier.last() else {
+        return Ok(());
+    };
+    match edge.pair().cmp(&previous.pair()) {
+        Ordering::Greater => Ok(()),
+        Ordering::Equal => Err(BAD_EDGE),
+        Ordering::Less if earlier.iter().any(|e| e.pair() == edge.pair()) => Err(BAD_EDGE),
+        Ordering::Less => Err(EDGES_DESCEND),
+    }
 }
 
 /// The tasks, each after its predecessors. Those on a circle, and those

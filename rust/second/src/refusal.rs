@@ -14,3 +14,4 @@ pub const PROCESSORS_DESCEND: u32 = 11;
 pub const WRONG_TICK: u32 = 13;
 pub const WRONG_MAKESPAN: u32 = 14;
 pub const STOPS_OUT_OF_ORDER: u32 = 15;
+pub const EDGES_DESCEND: u32 = 16;

@@ -1,5 +1,5 @@
 //! The document's worked figures: the small house with its cases, and the
-//! limits that are to be run.
+//! limits that are to be run; the order of edge lines.
 
 use second::Verdict::{self, Accepted, Doubled, Refused};
 
@@ -178,6 +178,95 @@ fn edges() {
     assert_eq!(two("E,0,1,2\nE,1,0,3\n"), Err(7));
     assert_eq!(two("E,0,1,2\nE,1,0,3\nE"), Err(2));
     assert_eq!(two("E,0,1,2\n"), Err(2));
+}
+
+/// What the planner says of five tasks on one box with these edge lines.
+fn five_tasks(edges: &[&str]) -> Result<String, u32> {
+    let mut job = format!("JOB,5,1,{},0\n", edges.len());
+    for task in 0..5 {
+        job += &format!("C,{task},{}\n", task + 1);
+    }
+    job += "D,0,0\n";
+    for edge in edges {
+        job += &format!("{edge}\n");
+    }
+    plan(&job)
+}
+
+#[test]
+fn edges_ascend_by_from_then_by_to() {
+    assert!(five_tasks(&["E,0,3,9", "E,0,4,0", "E,1,2,5", "E,3,4,1"]).is_ok());
+    // By from, whatever to and the volume are.
+    assert_eq!(five_tasks(&["E,1,2,0", "E,0,1,0"]), Err(16));
+    assert_eq!(five_tasks(&["E,1,2,0", "E,0,4,4095"]), Err(16));
+    // By to.
+    assert_eq!(five_tasks(&["E,0,2,0", "E,0,1,9"]), Err(16));
+    // By the line just before, not by the first.
+    assert_eq!(five_tasks(&["E,0,1,0", "E,1,4,0", "E,1,3,0"]), Err(16));
+    assert_eq!(five_tasks(&["E,0,1,0", "E,2,3,0", "E,0,2,0"]), Err(16));
+}
+
+#[test]
+fn edges_to_lower_tasks() {
+    let answer = "PLAN,5,1,0,15,15\nT,4,0,5,5\nT,3,0,9,9\nT,2,0,12,12\nT,1,0,14,14\nT,0,0,15,15\n";
+    let edges = ["E,1,0,1", "E,2,1,1", "E,3,2,1", "E,4,3,1"];
+    assert_eq!(five_tasks(&edges).as_deref(), Ok(answer));
+    assert_eq!(five_tasks(&["E,4,3,1", "E,3,2,1"]), Err(16));
+}
+
+#[test]
+fn a_pair_that_an_earlier_line_has() {
+    // On the line before, and further back, where it is smaller too.
+    assert_eq!(five_tasks(&["E,0,1,0", "E,0,1,9"]), Err(6));
+    assert_eq!(five_tasks(&["E,0,1,0", "E,0,2,0", "E,0,1,0"]), Err(6));
+    assert_eq!(
+        five_tasks(&["E,0,1,0", "E,0,2,0", "E,3,4,0", "E,0,2,7"]),
+        Err(6)
+    );
+    // A later line has it: the line between is smaller.
+    assert_eq!(five_tasks(&["E,0,2,0", "E,0,1,0", "E,0,2,0"]), Err(16));
+    // The edge back is another pair.
+    assert_eq!(five_tasks(&["E,0,1,0", "E,1,0,0"]), Err(7));
+    assert_eq!(five_tasks(&["E,1,0,0", "E,0,1,0"]), Err(16));
+}
+
+#[test]
+fn an_edge_from_a_task_to_itself() {
+    assert_eq!(five_tasks(&["E,0,0,0"]), Err(6));
+    assert_eq!(five_tasks(&["E,0,1,0", "E,1,1,0"]), Err(6));
+    // Smaller than the line before, by from and by to.
+    assert_eq!(five_tasks(&["E,3,4,0", "E,0,0,0"]), Err(6));
+    assert_eq!(five_tasks(&["E,3,4,0", "E,3,3,0"]), Err(6));
+}
+
+#[test]
+fn faults_of_an_edge_line_in_their_order() {
+    // 2, then 3, then 6 or 16.
+    assert_eq!(five_tasks(&["E,1,2,0", "E,0,1,x"]), Err(2));
+    assert_eq!(five_tasks(&["E,1,2,0", "E,0,5,00"]), Err(2));
+    assert_eq!(five_tasks(&["E,1,2,0", "E,0,5,0"]), Err(3));
+    assert_eq!(five_tasks(&["E,1,2,0", "E,0,1,4096"]), Err(3));
+    assert_eq!(five_tasks(&["E,1,2,0", "E,3,4,0", "E,1,2,4096"]), Err(3));
+    assert_eq!(five_tasks(&["E,1,2,0", "E,0,0,4096"]), Err(3));
+    // An earlier line's fault goes before a later line's.
+    assert_eq!(five_tasks(&["E,1,2,0", "E,0,1,0", "E,3,3,0"]), Err(16));
+    assert_eq!(five_tasks(&["E,1,2,0", "E,0,1,0", "x"]), Err(16));
+    assert_eq!(five_tasks(&["E,1,1,0", "E,0,1,0"]), Err(6));
+    assert_eq!(five_tasks(&["E,5,1,0", "E,0,1,0"]), Err(3));
+    // 16 before a circle, and before a line left over.
+    assert_eq!(five_tasks(&["E,1,2,0", "E,2,1,0", "E,0,1,0"]), Err(16));
+    assert_eq!(five_tasks(&["E,1,2,0", "E,0,1,0\nE,3,4,0"]), Err(16));
+    // A line left over that is smaller is left over.
+    assert_eq!(five_tasks(&["E,0,1,0", "E,1,2,0\nE,0,2,0"]), Err(2));
+}
+
+#[test]
+fn a_shuffled_job_is_refused_before_its_plan() {
+    let shuffled = JOB
+        .replace("JOB,2,3,1,1", "JOB,2,3,2,1")
+        .replace("E,0,1,2\n", "E,1,0,2\nE,0,1,2\n");
+    assert_eq!(check(&shuffled, "x"), Refused(16));
+    assert_eq!(replay(&shuffled, "x", "x"), Err(16));
 }
 
 #[test]

@@ -1,0 +1,180 @@
+-- The order of edge lines: what 6 and 16 say where the lines so far ascend, and that lines which pass ascend.
+use mathlib.Core.Path.{_≡_, refl, sym, ap₂, _∙_}
+use mathlib.Core.Logic.{_⊎_, inl, inr, ⊎-elim}
+use mathlib.Core.List.{List, [], _∷_, _++_, getLast?}
+use mathlib.Core.Option.{Option, none, some}
+use mathlib.Core.Bool.{Bool, true, false, _&&_, false≢true}
+use Prim.Native.Nat.{_<_}
+use native.Mathlib.Omega.{arith}
+use lib.Dec.{eqb, ltb}
+use borrow.Author.Tests.{eqb-true, eq-eqb, ne-eqb, ltb-true, ltb-false, lt-ltb}
+use Rattle.definitions.specs.Lists.{In, any}
+use Rattle.definitions.specs.Text.{firstOf}
+use Rattle.definitions.specs.Job.{Edge, samePair, smaller, smallerThanLast, edgeOrder, Ascends}
+use Rattle.definitions.proofs.Lists.{both, both-true, neither, either, either-right, passed, in-append, none-in, in-any, none-any, last-in, no-last}
+
+-- One pair smaller than another -------------------------------------------------------------------------------------
+
+-- By from, then by to.
+abbrev Before : Edge → Edge → Type 0
+Before d e = (d .from < e .from) ⊎ ((d .from ≡ e .from) × (d .to < e .to))
+
+before : (d e : Edge) → smaller d e ≡ true → Before d e
+before d e h =
+    ⊎-elim
+    (λ a. inl (ltb-true (d .from) (e .from) a))
+    (λ a. let (b, c) = both (eqb (d .from) (e .from)) (ltb (d .to) (e .to)) a in inr (eqb-true _ _ b, ltb-true _ _ c))
+    (either (ltb (d .from) (e .from)) (eqb (d .from) (e .from) && ltb (d .to) (e .to)) h)
+
+before-smaller : (d e : Edge) → Before d e → smaller d e ≡ true
+before-smaller d e (inl a) = rw (lt-ltb _ _ a)
+before-smaller d e (inr (a, b)) = either-right (ltb (d .from) (e .from)) (both-true (eq-eqb _ _ a) (lt-ltb _ _ b))
+
+smaller-trans : (d e f : Edge) → smaller d e ≡ true → smaller e f ≡ true → smaller d f ≡ true
+smaller-trans d e f h g = before-smaller d f (by (before d e h) (before e f g))
+  where
+    by : Before d e → Before e f → Before d f
+    by (inl a) (inl b) = inl (omega arith)
+    by (inl a) (inr (b, c)) = inl (omega arith)
+    by (inr (a, b)) (inl c) = inl (omega arith)
+    by (inr (a, b)) (inr (c, d)) = inr (omega arith, omega arith)
+
+-- Of two pairs not both are smaller; so none is smaller than itself.
+not-both : (d e : Edge) → smaller d e ≡ true → smaller e d ≡ true → ⊥
+not-both d e h g = by (before d e h) (before e d g)
+  where
+    by : Before d e → Before e d → ⊥
+    by (inl a) (inl b) = omega arith
+    by (inl a) (inr (b, c)) = omega arith
+    by (inr (a, b)) (inl c) = omega arith
+    by (inr (a, b)) (inr (c, d)) = omega arith
+
+-- A smaller pair is not smaller the other way round, and is another pair.
+smaller-not : (d e : Edge) → smaller d e ≡ true → smaller e d ≡ false
+smaller-not d e h = by (smaller e d) refl
+  where
+    by : (b : Bool) → smaller e d ≡ b → b ≡ false
+    by true q = absurd (not-both d e h q)
+    by false q = refl
+
+smaller-other : (d e : Edge) → smaller d e ≡ true → samePair d e ≡ false
+smaller-other d e h = by (samePair d e) refl (before d e h)
+  where
+    by : (b : Bool) → samePair d e ≡ b → Before d e → b ≡ false
+    by false q o = refl
+    by true q (inl a) = let (f, t) = both (eqb (d .from) (e .from)) (eqb (d .to) (e .to)) q in absurd (omega (arith, eqb-true (d .from) (e .from) f))
+    by true q (inr (a, b)) = let (f, t) = both (eqb (d .from) (e .from)) (eqb (d .to) (e .to)) q in absurd (omega (arith, eqb-true (d .to) (e .to) t))
+
+-- Of two different pairs one is smaller.
+one-smaller : (d e : Edge) → samePair d e ≡ false → (smaller d e ≡ true) ⊎ (smaller e d ≡ true)
+one-smaller d e s = by (ltb (d .from) (e .from)) refl (ltb (e .from) (d .from)) refl (ltb (d .to) (e .to)) refl
+  where
+    by : (a : Bool) → ltb (d .from) (e .from) ≡ a → (b : Bool) → ltb (e .from) (d .from) ≡ b → (c : Bool) → ltb (d .to) (e .to) ≡ c
+        → (smaller d e ≡ true) ⊎ (smaller e d ≡ true)
+    by true p b q c r = inl (before-smaller d e (inl (ltb-true _ _ p)))
+    by false p true q c r = inr (before-smaller e d (inl (ltb-true _ _ q)))
+    by false p false q true r =
+        let f : d .from ≡ e .from = omega (arith, ltb-false (d .from) (e .from) p, ltb-false (e .from) (d .from) q) in
+        inl (before-smaller d e (inr (f, ltb-true _ _ r)))
+    by false p false q false r =
+        let f : d .from ≡ e .from = omega (arith, ltb-false (d .from) (e .from) p, ltb-false (e .from) (d .from) q) in
+        let n : d .to ≡ e .to → ⊥ = λ t. false≢true (sym s ∙ both-true (eq-eqb _ _ f) (eq-eqb _ _ t)) in
+        inr (before-smaller e d (inr (sym f, omega (arith, ltb-false (d .to) (e .to) r, n))))
+
+-- So where one is not, the other is.
+then-smaller : (d e : Edge) → samePair d e ≡ false → smaller e d ≡ false → smaller d e ≡ true
+then-smaller d e s h = ⊎-elim (λ q. q) (λ q. absurd (false≢true (sym h ∙ q))) (one-smaller d e s)
+
+pub else-smaller : (d e : Edge) → samePair d e ≡ false → smaller d e ≡ false → smaller e d ≡ true
+else-smaller d e s h = ⊎-elim (λ q. absurd (false≢true (sym h ∙ q))) (λ q. q) (one-smaller d e s)
+
+-- Lines that ascend -------------------------------------------------------------------------------------------------
+
+-- Each is the last, or smaller.
+up-to-last : (es : List Edge) (d : Edge) → Ascends es → getLast? es ≡ some d → (x : Edge) → In x es → (x ≡ d) ⊎ (smaller x d ≡ true)
+up-to-last (y ∷ []) d a l x (inl e) = let q : y ≡ d = cc in inl (sym e ∙ q)
+up-to-last (y ∷ z ∷ es) d a l x (inl e) = inr (rw (← e) (a .0 d (last-in (z ∷ es) d l)))
+up-to-last (y ∷ z ∷ es) d a l x (inr i) = up-to-last (z ∷ es) d (a .1) l x i
+
+-- A pair that is not smaller than the last is another than those before the last.
+module _ (seen : List Edge) (d e : Edge) (a : Ascends seen) (l : getLast? seen ≡ some d) where
+  below-last : smaller d e ≡ true → (x : Edge) → In x seen → smaller x e ≡ true
+  below-last h x i = ⊎-elim (λ q. rw q h) (λ q. smaller-trans x d e q h) (up-to-last seen d a l x i)
+
+  -- Where the lines so far ascend, and this one is not smaller than the one before, only that one can have its pair.
+  pub repeat-is-last : smaller e d ≡ false → any (λ x. samePair x e) seen ≡ samePair d e
+  repeat-is-last h = by (samePair d e) refl
+    where
+      by : (b : Bool) → samePair d e ≡ b → any (λ x. samePair x e) seen ≡ b
+      by true q = in-any (λ x. samePair x e) d seen (last-in seen d l) q
+      by false q = none-any (λ x. samePair x e) seen (λ x i. smaller-other x e (below-last (then-smaller d e q h) x i))
+
+-- What an edge line gets ---------------------------------------------------------------------------------------------
+
+module _ (seen : List Edge) (e : Edge) where
+  pub order-self : e .from ≡ e .to → firstOf (edgeOrder seen e) ≡ 6
+  unfolding edgeOrder firstOf
+  order-self q = rw (eq-eqb _ _ q)
+
+  -- "A repeated pair keeps number 6."
+  pub order-repeated : any (λ d. samePair d e) seen ≡ true → firstOf (edgeOrder seen e) ≡ 6
+  unfolding edgeOrder firstOf
+  order-repeated q = rw (either-right (eqb (e .from) (e .to)) q)
+
+  module _ (n : e .from ≡ e .to → ⊥) where
+    -- "A pair that is less than the previous line's is the new fault."
+    pub order-smaller : any (λ d. samePair d e) seen ≡ false → smallerThanLast (getLast? seen) e ≡ true → firstOf (edgeOrder seen e) ≡ 16
+    unfolding edgeOrder firstOf
+    order-smaller q h = rw (ne-eqb _ _ n, q, h)
+
+    -- The first line; and one after lines that ascend, which needs to be held against the line before alone.
+    pub order-first : getLast? seen ≡ none → firstOf (edgeOrder seen e) ≡ 0
+    unfolding edgeOrder firstOf
+    order-first l = rw (ne-eqb _ _ n, none-any (λ d. samePair d e) seen (λ x i. absurd (no-last seen l x i)), l)
+
+    pub order-next : (d : Edge) → Ascends seen → getLast? seen ≡ some d → smaller d e ≡ true → firstOf (edgeOrder seen e) ≡ 0
+    unfolding edgeOrder firstOf
+    order-next d a l f = let h = smaller-not d e f in rw (ne-eqb _ _ n, repeat-is-last seen d e a l h, smaller-other d e f, l, h)
+
+-- A line that passes goes on ascending.
+ascends-append : (seen : List Edge) (e : Edge) → Ascends seen → ((x : Edge) → In x seen → smaller x e ≡ true) → Ascends (seen ++ e ∷ [])
+ascends-append [] e a h = (λ x i. absurd i, tt)
+ascends-append (y ∷ seen) e a h = (
+  λ x i. ⊎-elim (a .0 x) (⊎-elim (λ q. rw (← q) (h y (inl refl))) absurd) (in-append x seen (e ∷ []) i),
+  ascends-append seen e (a .1) (λ x i. h x (inr i)),
+)
+
+pub ascends-more : (seen : List Edge) (e : Edge) → Ascends seen → firstOf (edgeOrder seen e) ≡ 0 → Ascends (seen ++ e ∷ [])
+unfolding edgeOrder
+ascends-more seen e a z =
+    let (p, z1) = passed _ _ _ z in
+    let (s, _) = passed _ _ _ z1 in
+    ascends-append seen e a (λ x i. by (getLast? seen) refl s (neither (eqb (e .from) (e .to)) _ p .1) x i)
+  where
+    by : (o : Option Edge) → getLast? seen ≡ o → smallerThanLast o e ≡ false → any (λ d. samePair d e) seen ≡ false → (x : Edge) → In x seen → smaller x e ≡ true
+    by none l s q x i = absurd (no-last seen l x i)
+    by (some d) l s q x i = below-last seen d e a l (then-smaller d e (none-in (λ d. samePair d e) d seen q (last-in seen d l)) s) x i
+
+-- One order ----------------------------------------------------------------------------------------------------------
+
+-- Edges that ascend are in one order only.
+pub same-order : (xs ys : List Edge) → Ascends xs → Ascends ys → ((e : Edge) → In e xs → In e ys) → ((e : Edge) → In e ys → In e xs) → xs ≡ ys
+same-order [] [] a b f g = refl
+same-order [] (y ∷ ys) a b f g = absurd (g y (inl refl))
+same-order (x ∷ xs) [] a b f g = absurd (f x (inl refl))
+same-order (x ∷ xs) (y ∷ ys) a b f g =
+    let q : y ≡ x = first (f x (inl refl)) (g y (inl refl)) in
+    ap₂ _∷_ (sym q) (same-order xs ys (a .1) (b .1) (λ e i. after-y q e i (f e (inr i))) (λ e i. after-x q e i (g e (inr i))))
+  where
+    first : (y ≡ x) ⊎ In x ys → (x ≡ y) ⊎ In y xs → y ≡ x
+    first (inl q) j = q
+    first (inr i) (inl q) = sym q
+    first (inr i) (inr j) = absurd (not-both x y (a .0 y j) (b .0 x i))
+
+    after-y : y ≡ x → (e : Edge) → In e xs → (y ≡ e) ⊎ In e ys → In e ys
+    after-y q e i (inr k) = k
+    after-y q e i (inl p) = let r : smaller e e ≡ true = rw (sym q ∙ p) at (a .0 e i) in absurd (not-both e e r r)
+
+    after-x : y ≡ x → (e : Edge) → In e ys → (x ≡ e) ⊎ In e xs → In e xs
+    after-x q e i (inr k) = k
+    after-x q e i (inl p) = let r : smaller e e ≡ true = rw (q ∙ p) at (b .0 e i) in absurd (not-both e e r r)

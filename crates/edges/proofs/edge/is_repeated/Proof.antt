@@ -1,0 +1,83 @@
+-- Whether an edge from the i-th on has the pair is whether any has it.
+use mathlib.Core.Path.{_≡_, refl, sym, _∙_}
+use Prim.Native.Nat.{_≤_, _-_}
+use native.Mathlib.Omega.{arith}
+use borrow.Author.Needs.{needs}
+use lib.ListN.{length, drop}
+use mathlib.Core.List.{map}
+use Rattle.definitions.specs.Lists.{any}
+use Rattle.definitions.specs.Job.{samePair}
+use Rattle.orders.specs.Edges.{edgeIn}
+use Rattle.edges.proofs.EdgeLaws.{repeats-here, repeats-on, repeats-no}
+use Rattle.edges.proofs.edge.is_repeated.Statement.{statement}
+use Rattle.edges.proofs.edge.is_repeated.Tie as tie
+
+abbrev Inv-loop : tie.InvT-loop
+Inv-loop before cell pair i₀ i =
+    (i ≤ length before) × (any (λ d. samePair d (edgeIn cell)) (map edgeIn (drop i before)) ≡ any (λ d. samePair d (edgeIn cell)) (map edgeIn before))
+
+abbrev μ-loop : tie.MeasureT-loop
+μ-loop before cell pair i₀ i =
+    length before - i
+
+pair-of-requires : tie.Need-pair-of-requires Inv-loop μ-loop
+pair-of-requires c κs = search needs
+
+loop-holds : tie.Need-loop-holds Inv-loop μ-loop
+loop-holds c =
+    (omega arith, refl)
+
+mul-pair-of : tie.Need-mul-pair-of Inv-loop μ-loop
+mul-pair-of c = search needs
+
+shared-slice-read-pair-of : tie.Need-shared-slice-read-pair-of Inv-loop μ-loop
+shared-slice-read-pair-of c = search needs
+
+pair-of-requires-2 : tie.Need-pair-of-requires-2 Inv-loop μ-loop
+pair-of-requires-2 c κs = search needs
+
+returns : tie.Need-returns Inv-loop μ-loop
+returns c =
+    let args = c .before .before .before .before .before .before .before .args in
+    let loop = c .before .before .before .before .loop in
+    let pair-of = c .before .before .before .before .before .pair-of in
+    repeats-here (args .cell) (args .before .now) (loop .i) (c .before .before .before .loop-test .taken) (sym (c .before .pair-of2 .ensures) ∙ c .if1 .taken ∙ pair-of .ensures) ∙ loop .inv .1
+
+add-i : tie.Need-add-i Inv-loop μ-loop
+add-i c = search needs
+
+loop-less : tie.Need-loop-less Inv-loop μ-loop
+loop-less c = search needs
+
+loop-again : tie.Need-loop-again Inv-loop μ-loop
+loop-again c =
+    let loop-test = c .before .before .before .loop-test in
+    let args = c .before .before .before .before .before .before .before .args in
+    let loop = c .before .before .before .before .loop in
+    let pair-of = c .before .before .before .before .before .pair-of in (
+      omega (arith, loop-test .taken),
+      repeats-on (args .cell) (args .before .now) (loop .i) (loop-test .taken) (λ e. c .if1 .left (c .before .pair-of2 .ensures ∙ e ∙ sym (pair-of .ensures))) ∙ loop .inv .1,
+    )
+
+returns-2 : tie.Need-returns-2 Inv-loop μ-loop
+returns-2 c =
+    let args = c .before .before .before .before .args in
+    let loop = c .before .loop in
+    repeats-no (args .cell) (args .before .now) (loop .i) (c .loop-test .left) ∙ loop .inv .1
+
+pub is-repeated-spec : {M : Type 1} → statement M
+is-repeated-spec =
+    tie.close
+    (tie.spec
+    Inv-loop
+    μ-loop
+    pair-of-requires
+    loop-holds
+    mul-pair-of
+    shared-slice-read-pair-of
+    pair-of-requires-2
+    returns
+    add-i
+    loop-less
+    loop-again
+    returns-2)
