@@ -11,7 +11,7 @@ use borrow.Author.Tests.{eqb-true, eq-eqb, ne-eqb, ltb-true, ltb-false, lt-ltb}
 use Rattle.definitions.specs.Lists.{In, any}
 use Rattle.definitions.specs.Text.{firstOf}
 use Rattle.definitions.specs.Job.{Edge, samePair, smaller, smallerThanLast, edgeOrder, Ascends}
-use Rattle.definitions.proofs.Lists.{both, both-true, neither, either, either-right, passed, in-append, none-in, in-any, none-any, last-in, no-last}
+use Rattle.definitions.proofs.Lists.{both, both-true, neither, either, either-right, refuted, passed, in-append, none-in, in-any, none-any, last-in, no-last}
 
 -- One pair smaller than another -------------------------------------------------------------------------------------
 
@@ -51,19 +51,17 @@ not-both d e h g = by (before d e h) (before e d g)
 
 -- A smaller pair is not smaller the other way round, and is another pair.
 smaller-not : (d e : Edge) → smaller d e ≡ true → smaller e d ≡ false
-smaller-not d e h = by (smaller e d) refl
-  where
-    by : (b : Bool) → smaller e d ≡ b → b ≡ false
-    by true q = absurd (not-both d e h q)
-    by false q = refl
+smaller-not d e h = refuted (smaller e d) (not-both d e h)
 
 smaller-other : (d e : Edge) → smaller d e ≡ true → samePair d e ≡ false
-smaller-other d e h = by (samePair d e) refl (before d e h)
+smaller-other d e h =
+    refuted (samePair d e) λ q.
+    let (f, t) = both (eqb (d .from) (e .from)) (eqb (d .to) (e .to)) q in
+    by (before d e h) (eqb-true _ _ f) (eqb-true _ _ t)
   where
-    by : (b : Bool) → samePair d e ≡ b → Before d e → b ≡ false
-    by false q o = refl
-    by true q (inl a) = let (f, t) = both (eqb (d .from) (e .from)) (eqb (d .to) (e .to)) q in absurd (omega (arith, eqb-true (d .from) (e .from) f))
-    by true q (inr (a, b)) = let (f, t) = both (eqb (d .from) (e .from)) (eqb (d .to) (e .to)) q in absurd (omega (arith, eqb-true (d .to) (e .to) t))
+    by : Before d e → d .from ≡ e .from → d .to ≡ e .to → ⊥
+    by (inl a) f t = omega arith
+    by (inr (a, b)) f t = omega arith
 
 -- Of two different pairs one is smaller.
 one-smaller : (d e : Edge) → samePair d e ≡ false → (smaller d e ≡ true) ⊎ (smaller e d ≡ true)
@@ -157,6 +155,11 @@ ascends-more seen e a z =
 
 -- One order ----------------------------------------------------------------------------------------------------------
 
+-- An edge after x in one list, and in y and the edges after it in another, is after y, if that is x.
+after-same : (x y : Edge) (xs ys : List Edge) → ((e : Edge) → In e xs → smaller x e ≡ true) → y ≡ x → (e : Edge) → In e xs → (y ≡ e) ⊎ In e ys → In e ys
+after-same x y xs ys a q e i (inr k) = k
+after-same x y xs ys a q e i (inl p) = let r : smaller e e ≡ true = rw (sym q ∙ p) at (a e i) in absurd (not-both e e r r)
+
 -- Edges that ascend are in one order only.
 pub same-order : (xs ys : List Edge) → Ascends xs → Ascends ys → ((e : Edge) → In e xs → In e ys) → ((e : Edge) → In e ys → In e xs) → xs ≡ ys
 same-order [] [] a b f g = refl
@@ -164,17 +167,11 @@ same-order [] (y ∷ ys) a b f g = absurd (g y (inl refl))
 same-order (x ∷ xs) [] a b f g = absurd (f x (inl refl))
 same-order (x ∷ xs) (y ∷ ys) a b f g =
     let q : y ≡ x = first (f x (inl refl)) (g y (inl refl)) in
-    ap₂ _∷_ (sym q) (same-order xs ys (a .1) (b .1) (λ e i. after-y q e i (f e (inr i))) (λ e i. after-x q e i (g e (inr i))))
+    ap₂ _∷_ (sym q) (same-order xs ys (a .1) (b .1)
+    (λ e i. after-same x y xs ys (a .0) q e i (f e (inr i)))
+    (λ e i. after-same y x ys xs (b .0) (sym q) e i (g e (inr i))))
   where
     first : (y ≡ x) ⊎ In x ys → (x ≡ y) ⊎ In y xs → y ≡ x
     first (inl q) j = q
     first (inr i) (inl q) = sym q
     first (inr i) (inr j) = absurd (not-both x y (a .0 y j) (b .0 x i))
-
-    after-y : y ≡ x → (e : Edge) → In e xs → (y ≡ e) ⊎ In e ys → In e ys
-    after-y q e i (inr k) = k
-    after-y q e i (inl p) = let r : smaller e e ≡ true = rw (sym q ∙ p) at (a .0 e i) in absurd (not-both e e r r)
-
-    after-x : y ≡ x → (e : Edge) → In e ys → (x ≡ e) ⊎ In e xs → In e xs
-    after-x q e i (inr k) = k
-    after-x q e i (inl p) = let r : smaller e e ≡ true = rw (q ∙ p) at (b .0 e i) in absurd (not-both e e r r)

@@ -38,6 +38,11 @@ either-right false h = h
 pub neither-false : {a b : Bool} → a ≡ false → b ≡ false → (a || b) ≡ false
 neither-false {a} {b} p q = rw (p, q)
 
+-- A test that cannot be true is false.
+pub refuted : (b : Bool) → (b ≡ true → ⊥) → b ≡ false
+refuted true h = absurd (h refl)
+refuted false h = refl
+
 -- A number is not outside its range exactly if it is between the two ends.
 pub inside : (low high n : ℕ) → outside low high n ≡ false → (low ≤ n) × (n ≤ high)
 inside low high n h = let (a, b) = neither (ltb n low) (ltb high n) h in (ltb-false n low a, ltb-false high n b)

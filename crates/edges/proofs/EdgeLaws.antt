@@ -15,7 +15,7 @@ use Rattle.definitions.specs.Lists.{bytes, nth, any}
 use Rattle.definitions.specs.Limits.{document01}
 use Rattle.definitions.specs.Text.{found, refused, firstOf, line, lines, return}
 use Rattle.definitions.specs.Job.{Edge, samePair, smaller, smallerThanLast, edgeOf, edgeLine, edgeRule, edgeOrder, Ascends}
-use Rattle.definitions.proofs.Lists.{both, both-true, passed, none-in, last-in}
+use Rattle.definitions.proofs.Lists.{both, both-true, refuted, passed, none-in, last-in}
 use Rattle.definitions.proofs.Reading.{rule-found}
 use Rattle.definitions.proofs.EdgeOrder.{else-smaller, order-next, order-smaller, ascends-more}
 use Rattle.text.specs.Told.{ruled}
@@ -45,13 +45,10 @@ pair-same c d = by (eqb (pairIn c) (pairIn d)) refl
     by true q =
         let h : pairIn c ≡ pairIn d = eqb-true _ _ q in
         sym (both-true (eq-eqb (c % 256) (d % 256) (omega arith)) (eq-eqb (c / 256 % 256) (d / 256 % 256) (omega arith)))
-    by false q = sym (other (samePair (edgeIn c) (edgeIn d)) refl)
-      where
-        other : (b : Bool) → samePair (edgeIn c) (edgeIn d) ≡ b → b ≡ false
-        other false r = refl
-        other true r =
-            let (f, t) = both (eqb (c % 256) (d % 256)) (eqb (c / 256 % 256) (d / 256 % 256)) r in
-            absurd (eqb-false (pairIn c) (pairIn d) q (omega (arith, eqb-true (c % 256) (d % 256) f, eqb-true (c / 256 % 256) (d / 256 % 256) t)))
+    by false q =
+        sym (refuted (samePair (edgeIn c) (edgeIn d)) λ r.
+        let (f, t) = both (eqb (c % 256) (d % 256)) (eqb (c / 256 % 256) (d / 256 % 256)) r in
+        eqb-false (pairIn c) (pairIn d) q (omega (arith, eqb-true (c % 256) (d % 256) f, eqb-true (c / 256 % 256) (d / 256 % 256) t)))
 
 pair-smaller : (c d : ℕ) → ltb (pairIn c) (pairIn d) ≡ smaller (edgeIn c) (edgeIn d)
 pair-smaller c d = by (ltb (c % 256) (d % 256)) refl (eqb (c % 256) (d % 256)) refl (ltb (c / 256 % 256) (d / 256 % 256)) refl

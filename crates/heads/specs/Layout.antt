@@ -10,13 +10,13 @@ use Rattle.definitions.specs.Job.{JobHead}
 abbrev pub memorySize : ℕ → ℕ
 memorySize rooms = 505 * rooms
 
--- The cells that a job may take, with those used on the way.
+-- The cells that a job may take.
 abbrev pub jobSize : ℕ → ℕ
 jobSize rooms = 177 * rooms
 
--- The cells of a job with this head, and two more that are used while edges are read.
+-- The cells of a job with this head.
 abbrev pub cellsFor : JobHead → ℕ
-cellsFor h = 4 + (h .tasks + h .processors) * (h .processors + 1) + h .edges + 2
+cellsFor h = 4 + (h .tasks + h .processors) * (h .processors + 1) + h .edges
 
 -- A job with this head fits a memory of so many rooms.
 abbrev pub FitsIn : ℕ → JobHead → Type 0

@@ -23,5 +23,5 @@ pub fn fits(head: Head, rooms: usize) -> bool
     if m > 32 * JOB {
         return false;
     }
-    4 + (v + m) * (m + 1) + e + 2 <= JOB * rooms
+    4 + (v + m) * (m + 1) + e <= JOB * rooms
 }

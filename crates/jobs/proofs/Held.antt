@@ -229,4 +229,6 @@ module _ {rooms : ℕ} {d e : List ℕ} (h : JobHeld rooms d) where
   linked-out-same j c =
       let w = sizes h in
       let a : Same 0 (jobSize rooms) d e = same-part 0 (jobSize rooms) j (omega arith) (omega arith) in
-      rw (job-same w a) (chained-same w a (same-part (outHeadAt rooms) (outHeadAt rooms + nth d 0) j (omega arith) (omega arith)) (same-part (outNextAt rooms) (outNextAt rooms + nth d 2) j (omega arith) (omega arith)) c)
+      let heads = same-part (outHeadAt rooms) (outHeadAt rooms + nth d 0) j (omega arith) (omega arith) in
+      let nexts = same-part (outNextAt rooms) (outNextAt rooms + nth d 2) j (omega arith) (omega arith) in
+      rw (job-same w a) (chained-same w a heads nexts c)

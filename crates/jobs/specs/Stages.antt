@@ -29,7 +29,7 @@ pub record Headed (mem : List ℕ) : Type 0 where
   pub tasks-most : nth mem 0 ≤ 255
   pub processors-most : nth mem 1 ≤ 16
   pub edges-most : nth mem 2 ≤ 1024
-  pub room : edgesAt (jobHeadOf mem) + nth mem 2 + 2 ≤ length mem
+  pub room : edgesAt (jobHeadOf mem) + nth mem 2 ≤ length mem
 
 -- The C lines' cells stand after the head; the C and D lines' cells do.
 abbrev pub RunsIn : List ℕ → List (List ℕ) → Type 0

@@ -96,7 +96,8 @@ module _ {rooms k : ℕ} {d : List ℕ} (s : Drawn rooms k d) (h : k < nth d 0) 
         line = getD-set-same one (lineAt rooms + t) (k + 1) 0 (omega arith) ∙ add-one k;
         task = getD-set-other one (lineAt rooms + t) (rowAt rooms k) (k + 1) 0 (λ q. omega arith) ∙ getD-set-same mem (rowAt rooms k) t 0 (omega (arith, b .kept .size, w .size, w .tasks-most));
         replicas = ap (λ (c : ℕ). rowReplicas (rowAt rooms k) c e) (sym n)
-            ∙ row-replicas mem e (rowAt rooms k) (length (boxesFor rooms k t d)) (λ i p. getD-set-other one (lineAt rooms + t) i (k + 1) 0 (λ f. omega arith) ∙ getD-set-other mem (rowAt rooms k) i t 0 (λ f. omega arith))
+            ∙ row-replicas mem e (rowAt rooms k) (length (boxesFor rooms k t d))
+            (λ i p. getD-set-other one (lineAt rooms + t) i (k + 1) 0 (λ f. omega arith) ∙ getD-set-other mem (rowAt rooms k) i t 0 (λ f. omega arith))
             ∙ b .replicas;
       }
 

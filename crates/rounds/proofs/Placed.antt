@@ -190,7 +190,8 @@ module _ {rooms n : ℕ} {mem : List ℕ} (s : Standing rooms n mem) where
     start-placed late p = rw (data-placed late p)
 
     row-far : FarFilled rooms mem → (volume b c : ℕ) → ((i : ℕ) → i < c → nth mem (b + (1 + 3 * i)) < nth mem 1)
-        → map (λ d. after (volume * nth mem (farAt rooms + d .processor)) (d .time)) (rowOutcomes false b c mem) ≡ map (λ d. after (volume * largestDelay (jobIn mem) (d .processor)) (d .time)) (rowOutcomes false b c mem)
+        → map (λ d. after (volume * nth mem (farAt rooms + d .processor)) (d .time)) (rowOutcomes false b c mem)
+        ≡ map (λ d. after (volume * largestDelay (jobIn mem) (d .processor)) (d .time)) (rowOutcomes false b c mem)
     unfolding rowOutcomes
     row-far g volume b zero h = refl
     row-far g volume b (suc c) h = rw (g (nth mem (b + (1 + 3 * c))) (h c (omega arith)), row-far g volume b c (λ i l. h i (omega arith)))

@@ -191,7 +191,10 @@ module _ {rooms : ℕ} (f : Edge → Time) (n t : ℕ) (mem : List ℕ) (s : Sta
       let es = incoming (jobIn mem) t in
       record {
         most = s .linked .head-most t h;
-        rest = rw c (later-comm (largest (map f (reverse es))) (tick 0) ∙ later-zero (largest (map f (reverse es))) ∙ largest-reverse f es [] ∙ later-comm (largest (map f es)) (tick 0) ∙ later-zero (largest (map f es)));
+        rest = rw c (later-comm (largest (map f (reverse es))) (tick 0) ∙ later-zero (largest (map f (reverse es)))
+            ∙ largest-reverse f es []
+            ∙ later-comm (largest (map f es)) (tick 0)
+            ∙ later-zero (largest (map f es)));
         among = λ e i. ⊎-elim (λ i. i) (λ i. absurd i) (in-reverse e es [] (rw c at i));
       }
 

@@ -31,7 +31,8 @@ returns-2 : tie.Need-returns-2
 returns-2 c =
     let args = c .before .before .before .before .before .before .before .before .before .args in
     let read-job = c .before .before .before .before .before .read-job in
-    answer-refused (jobAnswer (args .text .now) (length (args .cells .now))) (args .cells .now) (read-job .last .1 .0) (args .written .now) (c .before .z .given .0 .0) (rw (c .before .z .given .1) at (read-job .ensures))
+    let z = c .before .z .given in
+    answer-refused (jobAnswer (args .text .now) (length (args .cells .now))) (args .cells .now) (read-job .last .1 .0) (args .written .now) (z .0 .0) (rw (z .1) at (read-job .ensures))
 
 pub mirguneth-read-job-spec : {M : Type 1} → statement M
 mirguneth-read-job-spec =

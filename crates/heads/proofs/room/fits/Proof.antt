@@ -44,9 +44,6 @@ add-result-3 c = omega (arith, most _ _ _ (c .before .before .if1 .left) (c .bef
 add-result-4 : tie.Need-add-result-4
 add-result-4 c = omega (arith, most _ _ _ (c .before .before .if1 .left) (c .before .before .before .pre) (c .if3 .left), c .before .if2 .left, (c .before .before .before .pre))
 
-add-result-5 : tie.Need-add-result-5
-add-result-5 c = omega (arith, most _ _ _ (c .before .before .if1 .left) (c .before .before .before .pre) (c .if3 .left), c .before .if2 .left, (c .before .before .before .pre))
-
 mul-result-2 : tie.Need-mul-result-2
 mul-result-2 c = search needs
 
@@ -68,6 +65,5 @@ fits-spec =
     mul-result
     add-result-3
     add-result-4
-    add-result-5
     mul-result-2
     returns-4)

@@ -40,7 +40,9 @@ part-line-length-start : tie.Need-part-line-length-start
 part-line-length-start c = search needs
 
 part-line-length-end : tie.Need-part-line-length-end
-part-line-length-end c = omega (arith, row-few (sizes (c .before .before .before .pre .0)), row-within (sizes (c .before .before .before .pre .0)) (c .before .before .before .args .k) (c .before .before .before .pre .1))
+part-line-length-end c =
+    let pre = c .before .before .before .pre in
+    omega (arith, row-few (sizes (pre .0)), row-within (sizes (pre .0)) (c .before .before .before .args .k) (pre .1))
 
 line-length-requires : tie.Need-line-length-requires
 line-length-requires c κs = search needs

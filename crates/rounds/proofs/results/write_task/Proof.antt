@@ -43,7 +43,8 @@ returns c =
     let a = c .before .before .before .before .before .before .before .args in
     let w = c .before .before .write-result in
     let q = task-line (c .before .before .before .before .first-finish .ensures) in
-    part-written (a .out .now) (a .at) (taskLine (a .rooms) (a .t) (a .mem .now)) (c .before .before .before .before .before .before .before .pre .3) (w .result) (w .last .0) (rw q (w .ensures .0)) (rw q (w .ensures .1))
+    let pre = c .before .before .before .before .before .before .before .pre in
+    part-written (a .out .now) (a .at) (taskLine (a .rooms) (a .t) (a .mem .now)) (pre .3) (w .result) (w .last .0) (rw q (w .ensures .0)) (rw q (w .ensures .1))
 
 pub write-task-spec : {M : Type 1} → statement M
 write-task-spec =

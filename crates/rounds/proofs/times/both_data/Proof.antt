@@ -27,7 +27,10 @@ shared-slice-read-k : tie.Need-shared-slice-read-k Inv-loop μ-loop
 shared-slice-read-k c = let s = sizes (c .before .before .before .pre .0 .1 .job) in omega (arith, s .size, s .tasks-most, c .before .before .before .pre .2)
 
 loop-holds : tie.Need-loop-holds Inv-loop μ-loop
-loop-holds c = both-first (c .before .before .before .pre .0 .0) (c .before .before .before .args .t) (c .before .before .before .args .mem .now) (c .before .before .before .pre .0 .1) (c .before .before .before .pre .2)
+loop-holds c =
+    let args = c .before .before .before .args in
+    let pre = c .before .before .before .pre in
+    both-first (pre .0 .0) (args .t) (args .mem .now) (pre .0 .1) (pre .2)
 
 entering-requires : tie.Need-entering-requires Inv-loop μ-loop
 entering-requires c κs =

@@ -83,7 +83,8 @@ loop-again c =
     let pre = c .before .before .before .before .before .before .pre in
     let l = c .before .before .before .loop in
     let d = args .mem .now in
-    (search needs, search needs, l .inv .2, filled-set (l .inv .3) (nth d (4 + (nth d 0 + l .i / 16) * (nth d 1 + 1) + (l .i % 16 + 1))) (omega arith) (delay-stored (pre .1) (l .i) (omega arith) (c .before .if1 .taken)))
+    let x = nth d (4 + (nth d 0 + l .i / 16) * (nth d 1 + 1) + (l .i % 16 + 1)) in
+    (search needs, search needs, l .inv .2, filled-set (l .inv .3) x (omega arith) (delay-stored (pre .1) (l .i) (omega arith) (c .before .if1 .taken)))
 
 sub-i : tie.Need-sub-i Inv-loop μ-loop
 sub-i c = search needs
