@@ -6,16 +6,10 @@ use Rattle.edges.proofs.EdgeLaws.{edges-fit, edges-unfit, edges-room}
 use Rattle.edges.proofs.read_edges.Statement.{statement}
 use Rattle.edges.proofs.read_edges.Tie as tie
 
-fits-requires : tie.Need-fits-requires
-fits-requires c κs = search needs
-
 fill-edges-requires : tie.Need-fill-edges-requires
 fill-edges-requires c κs =
     let args = c .before .before .before .before .before .args in
     edges-room (length (args .mem .now)) (args .v) (args .n) (sym (c .before .before .fits2 .ensures) ∙ c .before .if1 .taken)
-
-same-length : tie.Need-same-length
-same-length c = search needs
 
 returns : tie.Need-returns
 returns c =
@@ -30,4 +24,5 @@ returns-2 c =
 
 pub read-edges-spec : {M : Type 1} → statement M
 read-edges-spec =
-    tie.close (tie.spec fits-requires fill-edges-requires same-length returns returns-2)
+    tie.close (tie.spec
+    (λ c κs. search needs) fill-edges-requires (λ c. search needs) returns returns-2)

@@ -9,21 +9,6 @@ use Rattle.exports.proofs.mirguneth_check.Reads as reads
 use Rattle.exports.proofs.mirguneth_check.Lts as lts
 use Rattle.mirguneth.proofs.check.Reads as check-reads
 
-check-requires : tie.Need-check-requires
-check-requires c κs = search needs
-
-enum-told : tie.Need-enum-told
-enum-told c = search needs
-
-enum-known-t : tie.Need-enum-known-t
-enum-known-t c = search needs
-
-cast-task : tie.Need-cast-task
-cast-task c = search needs
-
-enum-known-x : tie.Need-enum-known-x
-enum-known-x c = search needs
-
 returns : tie.Need-returns
 returns c =
     let args = c .before .before .before .before .before .args in
@@ -45,11 +30,4 @@ pub mirguneth-check-spec : {M : Type 1} → statement M
 mirguneth-check-spec =
     tie.close
     (tie.spec
-    check-requires
-    enum-told
-    enum-known-t
-    cast-task
-    enum-known-x
-    returns
-    returns-2
-    returns-3)
+    (λ c κs. search needs) (λ c. search needs) (λ c. search needs) (λ c. search needs) (λ c. search needs) returns returns-2 returns-3)

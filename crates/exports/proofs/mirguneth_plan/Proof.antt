@@ -10,26 +10,11 @@ use Rattle.exports.proofs.mirguneth_plan.Reads as reads
 use Rattle.exports.proofs.mirguneth_plan.Lts as lts
 use Rattle.mirguneth.proofs.plan.Reads as plan-reads
 
-plan-requires : tie.Need-plan-requires
-plan-requires c κs = search needs
-
-enum-known-n : tie.Need-enum-known-n
-enum-known-n c = search needs
-
-enum-known-x : tie.Need-enum-known-x
-enum-known-x c = search needs
-
-same-length : tie.Need-same-length
-same-length c = search needs
-
 returns : tie.Need-returns
 returns c =
     let args = c .before .before .before .before .before .before .before .before .before .args in
     let plan = c .before .before .before .before .before .plan in
     answer-written (planAnswer document01 (args .job .now) (length (args .out .now))) (args .out .now) (plan .last .1 .0) (args .written .now) (c .before .n .given .0 .0) (rw (c .before .n .given .1) at (plan .ensures))
-
-same-length-2 : tie.Need-same-length-2
-same-length-2 c = search needs
 
 returns-2 : tie.Need-returns-2
 returns-2 c =
@@ -40,4 +25,5 @@ returns-2 c =
 pub mirguneth-plan-spec : {M : Type 1} → statement M
 mirguneth-plan-spec =
     tie.close
-    (tie.spec plan-requires enum-known-n enum-known-x same-length returns same-length-2 returns-2)
+    (tie.spec
+    (λ c κs. search needs) (λ c. search needs) (λ c. search needs) (λ c. search needs) returns (λ c. search needs) returns-2)

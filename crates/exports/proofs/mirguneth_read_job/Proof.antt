@@ -5,27 +5,12 @@ use Rattle.exports.proofs.ExportLaws.{answer-written, answer-refused}
 use Rattle.exports.proofs.mirguneth_read_job.Statement.{statement}
 use Rattle.exports.proofs.mirguneth_read_job.Tie as tie
 
-read-job-requires : tie.Need-read-job-requires
-read-job-requires c κs = search needs
-
-enum-known-count : tie.Need-enum-known-count
-enum-known-count c = search needs
-
-enum-known-z : tie.Need-enum-known-z
-enum-known-z c = search needs
-
-same-length : tie.Need-same-length
-same-length c = search needs
-
 returns : tie.Need-returns
 returns c =
     let args = c .before .before .before .before .before .before .before .before .before .args in
     let read-job = c .before .before .before .before .before .read-job in
     answer-written (jobAnswer (args .text .now) (length (args .cells .now))) (args .cells .now) (read-job .last .1 .0) (args .written .now) (c .before .count .given .0 .0)
     (rw (c .before .count .given .1) at (read-job .ensures))
-
-same-length-2 : tie.Need-same-length-2
-same-length-2 c = search needs
 
 returns-2 : tie.Need-returns-2
 returns-2 c =
@@ -38,10 +23,4 @@ pub mirguneth-read-job-spec : {M : Type 1} → statement M
 mirguneth-read-job-spec =
     tie.close
     (tie.spec
-    read-job-requires
-    enum-known-count
-    enum-known-z
-    same-length
-    returns
-    same-length-2
-    returns-2)
+    (λ c κs. search needs) (λ c. search needs) (λ c. search needs) (λ c. search needs) returns (λ c. search needs) returns-2)

@@ -10,18 +10,6 @@ use Rattle.exports.proofs.mirguneth_replay.Reads as reads
 use Rattle.exports.proofs.mirguneth_replay.Lts as lts
 use Rattle.mirguneth.proofs.replay.Reads as replay-reads
 
-replay-requires : tie.Need-replay-requires
-replay-requires c κs = search needs
-
-enum-known-k : tie.Need-enum-known-k
-enum-known-k c = search needs
-
-enum-known-y : tie.Need-enum-known-y
-enum-known-y c = search needs
-
-same-length : tie.Need-same-length
-same-length c = search needs
-
 returns : tie.Need-returns
 returns c =
     let args = c .before .before .before .before .before .before .before .before .before .before .before .args in
@@ -30,9 +18,6 @@ returns c =
           (args .written .now) (c .before .k .given .0 .0) (rw (c .before .k .given .1) at (replay .ensures .0)),
       replay .ensures .1,
     )
-
-same-length-2 : tie.Need-same-length-2
-same-length-2 c = search needs
 
 returns-2 : tie.Need-returns-2
 returns-2 c =
@@ -47,10 +32,4 @@ pub mirguneth-replay-spec : {M : Type 1} → statement M
 mirguneth-replay-spec =
     tie.close
     (tie.spec
-    replay-requires
-    enum-known-k
-    enum-known-y
-    same-length
-    returns
-    same-length-2
-    returns-2)
+    (λ c κs. search needs) (λ c. search needs) (λ c. search needs) (λ c. search needs) returns (λ c. search needs) returns-2)

@@ -4,27 +4,6 @@ use Rattle.heads.proofs.HeadLaws.{too-low, too-high, head-tasks, head-p
 use Rattle.heads.proofs.check_head.Statement.{statement}
 use Rattle.heads.proofs.check_head.Tie as tie
 
-returns : tie.Need-returns
-returns c = head-tasks _ _ _ _ (too-low 1 255 _ (c .if1 .taken))
-
-returns-2 : tie.Need-returns-2
-returns-2 c = head-tasks _ _ _ _ (too-high 1 255 _ (c .if2 .taken))
-
-returns-3 : tie.Need-returns-3
-returns-3 c = head-processors _ _ _ _ (too-low 1 16 _ (c .if3 .taken))
-
-returns-4 : tie.Need-returns-4
-returns-4 c = head-processors _ _ _ _ (too-high 1 16 _ (c .if4 .taken))
-
-returns-5 : tie.Need-returns-5
-returns-5 c = head-edges _ _ _ _ (too-high 0 1024 _ (c .if5 .taken))
-
-returns-6 : tie.Need-returns-6
-returns-6 c = head-losses _ _ _ _ (too-high 0 7 _ (c .if6 .taken))
-
-add-if7 : tie.Need-add-if7
-add-if7 c = search needs
-
 returns-7 : tie.Need-returns-7
 returns-7 c =
     let if1 = c .before .before .before .before .before .before .before .before .before .before .before .before .before .if1 in
@@ -49,12 +28,7 @@ pub check-head-spec : {M : Type 1} → statement M
 check-head-spec =
     tie.close
     (tie.spec
-    returns
-    returns-2
-    returns-3
-    returns-4
-    returns-5
-    returns-6
-    add-if7
-    returns-7
-    returns-8)
+    (λ c. head-tasks _ _ _ _ (too-low 1 255 _ (c .if1 .taken))) (λ c. head-tasks _ _ _ _ (too-high 1 255 _ (c .if2 .taken)))
+    (λ c. head-processors _ _ _ _ (too-low 1 16 _ (c .if3 .taken))) (λ c. head-processors _ _ _ _ (too-high 1 16 _ (c .if4 .taken)))
+    (λ c. head-edges _ _ _ _ (too-high 0 1024 _ (c .if5 .taken))) (λ c. head-losses _ _ _ _ (too-high 0 7 _ (c .if6 .taken))) (λ c. search needs)
+    returns-7 returns-8)

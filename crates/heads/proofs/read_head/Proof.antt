@@ -9,36 +9,6 @@ use Rattle.heads.proofs.HeadLaws.{job-long, job-no, job-refused, job-ne
 use Rattle.heads.proofs.read_head.Statement.{statement}
 use Rattle.heads.proofs.read_head.Tie as tie
 
-returns : tie.Need-returns
-returns c = job-long (c .before .before .args .s .now) (c .if1 .taken)
-
-slice-aggregate-read-line : tie.Need-slice-aggregate-read-line
-slice-aggregate-read-line c = search needs
-
-slice-aggregate-read-line-2 : tie.Need-slice-aggregate-read-line-2
-slice-aggregate-read-line-2 c = search needs
-
-read-line-requires : tie.Need-read-line-requires
-read-line-requires c κs = search needs
-
-enum-known-at : tie.Need-enum-known-at
-enum-known-at c = search needs
-
-array-read-t18 : tie.Need-array-read-t18
-array-read-t18 c = search needs
-
-array-read-t21 : tie.Need-array-read-t21
-array-read-t21 c = search needs
-
-array-read-t24 : tie.Need-array-read-t24
-array-read-t24 c = search needs
-
-array-read-t27 : tie.Need-array-read-t27
-array-read-t27 c = search needs
-
-check-head-requires : tie.Need-check-head-requires
-check-head-requires c κs = search needs
-
 returns-2 : tie.Need-returns-2
 returns-2 c =
     let args = c .before .before .before .before .before .before .before .before .before .before .before .args in
@@ -48,9 +18,6 @@ returns-2 c =
     let s = args .s .now in
     let d = read-line .last .1 .1 .1 .1 .0 in
     job-refused s (if1 .left) d _ (sym (read-line .ensures .0 ∙ line-fits 4 _ 4 _ (omega arith)) ∙ ap (told s (take 4 d)) (at .given .1)) _ (c .before .check-head .ensures) (c .if2 .taken)
-
-enum-known-n : tie.Need-enum-known-n
-enum-known-n c = search needs
 
 returns-3 : tie.Need-returns-3
 returns-3 c =
@@ -75,17 +42,6 @@ pub read-head-spec : {M : Type 1} → statement M
 read-head-spec =
     tie.close
     (tie.spec
-    returns
-    slice-aggregate-read-line
-    slice-aggregate-read-line-2
-    read-line-requires
-    enum-known-at
-    array-read-t18
-    array-read-t21
-    array-read-t24
-    array-read-t27
-    check-head-requires
-    returns-2
-    enum-known-n
-    returns-3
-    returns-4)
+    (λ c. job-long (c .before .before .args .s .now) (c .if1 .taken)) (λ c. search needs) (λ c. search needs) (λ c κs. search needs)
+    (λ c. search needs) (λ c. search needs) (λ c. search needs) (λ c. search needs) (λ c. search needs) (λ c κs. search needs) returns-2
+    (λ c. search needs) returns-3 returns-4)

@@ -5,22 +5,13 @@ use Rattle.heads.specs.Layout.{roomsFor}
 use Rattle.heads.proofs.rooms_for.Statement.{statement}
 use Rattle.heads.proofs.rooms_for.Tie as tie
 
-fits-requires : tie.Need-fits-requires
-fits-requires c κs = search needs
-
 returns : tie.Need-returns
 unfolding roomsFor
 returns c = rw (sym (c .before .fits2 .ensures) ∙ c .if1 .taken)
 
-fits-requires-2 : tie.Need-fits-requires-2
-fits-requires-2 c κs = search needs
-
 returns-2 : tie.Need-returns-2
 unfolding roomsFor
 returns-2 c = rw (sym (c .before .before .before .fits2 .ensures) ∙ c .before .before .if1 .left, sym (c .before .fits3 .ensures) ∙ c .if2 .taken)
-
-fits-requires-3 : tie.Need-fits-requires-3
-fits-requires-3 c κs = search needs
 
 returns-3 : tie.Need-returns-3
 unfolding roomsFor
@@ -41,4 +32,5 @@ returns-4 c =
 pub rooms-for-spec : {M : Type 1} → statement M
 rooms-for-spec =
     tie.close
-    (tie.spec fits-requires returns fits-requires-2 returns-2 fits-requires-3 returns-3 returns-4)
+    (tie.spec
+    (λ c κs. search needs) returns (λ c κs. search needs) returns-2 (λ c κs. search needs) returns-3 returns-4)

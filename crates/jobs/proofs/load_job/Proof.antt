@@ -9,16 +9,10 @@ use Rattle.jobs.proofs.Loads.{from-refused, from-short, from-room}
 use Rattle.jobs.proofs.load_job.Statement.{statement}
 use Rattle.jobs.proofs.load_job.Tie as tie
 
-check-head-requires : tie.Need-check-head-requires
-check-head-requires c κs = search needs
-
 returns : tie.Need-returns
 returns c =
     let args = c .before .before .before .before .args in
     rw (from-refused (args .rooms) (length (args .mem .now)) (headOf (args .head)) (drop (args .at) (args .s .now)) _ (c .before .check-head .ensures) (c .if1 .taken)) refl
-
-roomy-requires : tie.Need-roomy-requires
-roomy-requires c κs = search needs
 
 load-linked-requires : tie.Need-load-linked-requires
 load-linked-requires c κs =
@@ -27,9 +21,6 @@ load-linked-requires c κs =
     let if1 = c .before .before .before .if1 in
     let (_, l, f) = roomy-parts (args .rooms) (length (args .mem .now)) (headOf (args .head)) (sym (c .before .before .roomy .ensures) ∙ c .before .if2 .taken) in
     (omega (arith, check-head .ensures, if1 .left), l, f)
-
-same-length : tie.Need-same-length
-same-length c = search needs
 
 returns-2 : tie.Need-returns-2
 returns-2 c =
@@ -52,10 +43,4 @@ pub load-job-spec : {M : Type 1} → statement M
 load-job-spec =
     tie.close
     (tie.spec
-    check-head-requires
-    returns
-    roomy-requires
-    load-linked-requires
-    same-length
-    returns-2
-    returns-3)
+    (λ c κs. search needs) returns (λ c κs. search needs) load-linked-requires (λ c. search needs) returns-2 returns-3)

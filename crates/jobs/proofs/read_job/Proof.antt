@@ -6,23 +6,11 @@ use Rattle.jobs.proofs.AnswerLaws.{loaded-fits, answer-no, answer-short
 use Rattle.jobs.proofs.read_job.Statement.{statement}
 use Rattle.jobs.proofs.read_job.Tie as tie
 
-slice-aggregate-load-text : tie.Need-slice-aggregate-load-text
-slice-aggregate-load-text c = search needs
-
-load-text-requires : tie.Need-load-text-requires
-load-text-requires c κs = search needs
-
-enum-known-n : tie.Need-enum-known-n
-enum-known-n c = search needs
-
 returns : tie.Need-returns
 returns c =
     let args = c .before .before .before .before .before .before .before .before .before .args in
     let load-text = c .before .before .before .before .before .load-text in
     answer-short (args .text .now) (args .cells .now) (load-text .last .1 .0) _ (rw (c .before .before .n .given .1) at (load-text .ensures)) (c .if1 .taken)
-
-slice-aggregate-copy-cells : tie.Need-slice-aggregate-copy-cells
-slice-aggregate-copy-cells c = search needs
 
 copy-cells-requires : tie.Need-copy-cells-requires
 copy-cells-requires c κs =
@@ -30,12 +18,6 @@ copy-cells-requires c κs =
     let load-text = c .before .before .before .before .before .before .before .load-text in
     let n = c .before .before .before .before .n in
     (c .before .before .if1 .left, loaded-fits (readJob document01 (args .text .now)) (load-text .last .1 .0) _ (rw (n .given .1) at (load-text .ensures)))
-
-enum-known-x : tie.Need-enum-known-x
-enum-known-x c = search needs
-
-same-length : tie.Need-same-length
-same-length c = search needs
 
 returns-2 : tie.Need-returns-2
 returns-2 c =
@@ -55,13 +37,5 @@ pub read-job-spec : {M : Type 1} → statement M
 read-job-spec =
     tie.close
     (tie.spec
-    slice-aggregate-load-text
-    load-text-requires
-    enum-known-n
-    returns
-    slice-aggregate-copy-cells
-    copy-cells-requires
-    enum-known-x
-    same-length
-    returns-2
-    returns-3)
+    (λ c. search needs) (λ c κs. search needs) (λ c. search needs) returns (λ c. search needs) copy-cells-requires (λ c. search needs)
+    (λ c. search needs) returns-2 returns-3)

@@ -8,15 +8,6 @@ use Rattle.lines.proofs.LineLaws.{line-unfit}
 use Rattle.lines.proofs.read_line.Statement.{statement}
 use Rattle.lines.proofs.read_line.Tie as tie
 
-returns : tie.Need-returns
-returns c = (sym (line-unfit _ _ _ _ (c .if1 .taken)), (refl, λ h. refl))
-
-line-of-requires : tie.Need-line-of-requires
-line-of-requires c κs = search needs
-
-same-length : tie.Need-same-length
-same-length c = search needs
-
 returns-2 : tie.Need-returns-2
 returns-2 c =
     let a = c .before .before .before .before .before .before .before .before .args in
@@ -24,4 +15,5 @@ returns-2 c =
     (rw (le-ltb (length (a .vals .now)) (a .k) (if1 .left)) (c .before .before .line-of .ensures .0), (c .before .before .line-of .ensures .1, λ h. absurd (omega (arith, h, if1 .left))))
 
 pub read-line-spec : {M : Type 1} → statement M
-read-line-spec = tie.close (tie.spec returns line-of-requires same-length returns-2)
+read-line-spec = tie.close (tie.spec
+    (λ c. (sym (line-unfit _ _ _ _ (c .if1 .taken)), (refl, λ h. refl))) (λ c κs. search needs) (λ c. search needs) returns-2)

@@ -9,21 +9,6 @@ use Rattle.definitions.proofs.Claims.{breaks}
 use Rattle.mirguneth.proofs.check.Statement.{statement}
 use Rattle.mirguneth.proofs.check.Tie as tie
 
-read-head-requires : tie.Need-read-head-requires
-read-head-requires c κs = search needs
-
-enum-known-head : tie.Need-enum-known-head
-enum-known-head c = search needs
-
-rooms-for-requires : tie.Need-rooms-for-requires
-rooms-for-requires c κs = search needs
-
-slice-aggregate-check-in : tie.Need-slice-aggregate-check-in
-slice-aggregate-check-in c = search needs
-
-check-in-requires : tie.Need-check-in-requires
-check-in-requires c κs = search needs
-
 returns : tie.Need-returns
 returns c =
     let args = c .before .before .before .before .before .before .before .before .before .before .before .args in
@@ -36,12 +21,6 @@ returns c =
           (c .before .check-in .result) (c .before .check-in .ensures),
       breaks (args .job .now) (args .plan .now),
     )
-
-slice-aggregate-check-in-2 : tie.Need-slice-aggregate-check-in-2
-slice-aggregate-check-in-2 c = search needs
-
-check-in-requires-2 : tie.Need-check-in-requires-2
-check-in-requires-2 c κs = search needs
 
 returns-2 : tie.Need-returns-2
 returns-2 c =
@@ -56,12 +35,6 @@ returns-2 c =
       breaks (args .job .now) (args .plan .now),
     )
 
-slice-aggregate-check-in-3 : tie.Need-slice-aggregate-check-in-3
-slice-aggregate-check-in-3 c = search needs
-
-check-in-requires-3 : tie.Need-check-in-requires-3
-check-in-requires-3 c κs = search needs
-
 returns-3 : tie.Need-returns-3
 returns-3 c =
     let args = c .before .before .before .before .before .before .before .before .before .before .before .before .before .args in
@@ -74,15 +47,6 @@ returns-3 c =
           (c .before .check-in3 .result) (c .before .check-in3 .ensures),
       breaks (args .job .now) (args .plan .now),
     )
-
-slice-aggregate-check-in-4 : tie.Need-slice-aggregate-check-in-4
-slice-aggregate-check-in-4 c = search needs
-
-check-in-requires-4 : tie.Need-check-in-requires-4
-check-in-requires-4 c κs = search needs
-
-enum-known-x : tie.Need-enum-known-x
-enum-known-x c = search needs
 
 returns-4 : tie.Need-returns-4
 returns-4 c =
@@ -110,20 +74,6 @@ pub check-spec : {M : Type 1} → statement M
 check-spec =
     tie.close
     (tie.spec
-    read-head-requires
-    enum-known-head
-    rooms-for-requires
-    slice-aggregate-check-in
-    check-in-requires
-    returns
-    slice-aggregate-check-in-2
-    check-in-requires-2
-    returns-2
-    slice-aggregate-check-in-3
-    check-in-requires-3
-    returns-3
-    slice-aggregate-check-in-4
-    check-in-requires-4
-    enum-known-x
-    returns-4
-    returns-5)
+    (λ c κs. search needs) (λ c. search needs) (λ c κs. search needs) (λ c. search needs) (λ c κs. search needs) returns (λ c. search needs)
+    (λ c κs. search needs) returns-2 (λ c. search needs) (λ c κs. search needs) returns-3 (λ c. search needs) (λ c κs. search needs)
+    (λ c. search needs) returns-4 returns-5)

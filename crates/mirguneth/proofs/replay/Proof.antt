@@ -9,24 +9,6 @@ use Rattle.definitions.proofs.Claims.{bears}
 use Rattle.mirguneth.proofs.replay.Statement.{statement}
 use Rattle.mirguneth.proofs.replay.Tie as tie
 
-read-head-requires : tie.Need-read-head-requires
-read-head-requires c κs = search needs
-
-enum-known-head : tie.Need-enum-known-head
-enum-known-head c = search needs
-
-rooms-for-requires : tie.Need-rooms-for-requires
-rooms-for-requires c κs = search needs
-
-slice-aggregate-replay-in : tie.Need-slice-aggregate-replay-in
-slice-aggregate-replay-in c = search needs
-
-replay-in-requires : tie.Need-replay-in-requires
-replay-in-requires c κs = search needs
-
-same-length : tie.Need-same-length
-same-length c = search needs
-
 returns : tie.Need-returns
 returns c =
     let args = c .before .before .before .before .before .before .before .before .before .before .before .before .before .before .before .before .args in
@@ -40,15 +22,6 @@ returns c =
           (args .stops .now) _ _ _ (replay-in .result) (replay-in .ensures),
       bears (args .job .now) (args .plan .now) (args .stops .now),
     )
-
-slice-aggregate-replay-in-2 : tie.Need-slice-aggregate-replay-in-2
-slice-aggregate-replay-in-2 c = search needs
-
-replay-in-requires-2 : tie.Need-replay-in-requires-2
-replay-in-requires-2 c κs = search needs
-
-same-length-2 : tie.Need-same-length-2
-same-length-2 c = search needs
 
 returns-2 : tie.Need-returns-2
 returns-2 c =
@@ -64,15 +37,6 @@ returns-2 c =
       bears (args .job .now) (args .plan .now) (args .stops .now),
     )
 
-slice-aggregate-replay-in-3 : tie.Need-slice-aggregate-replay-in-3
-slice-aggregate-replay-in-3 c = search needs
-
-replay-in-requires-3 : tie.Need-replay-in-requires-3
-replay-in-requires-3 c κs = search needs
-
-same-length-3 : tie.Need-same-length-3
-same-length-3 c = search needs
-
 returns-3 : tie.Need-returns-3
 returns-3 c =
     let args = c .before .before .before .before .before .before .before .before .before .before .before .before .before .before .before .before .before .before .args in
@@ -86,18 +50,6 @@ returns-3 c =
           (args .stops .now) _ _ _ (replay-in3 .result) (replay-in3 .ensures),
       bears (args .job .now) (args .plan .now) (args .stops .now),
     )
-
-slice-aggregate-replay-in-4 : tie.Need-slice-aggregate-replay-in-4
-slice-aggregate-replay-in-4 c = search needs
-
-replay-in-requires-4 : tie.Need-replay-in-requires-4
-replay-in-requires-4 c κs = search needs
-
-enum-known-x : tie.Need-enum-known-x
-enum-known-x c = search needs
-
-same-length-4 : tie.Need-same-length-4
-same-length-4 c = search needs
 
 returns-4 : tie.Need-returns-4
 returns-4 c =
@@ -126,24 +78,6 @@ pub replay-spec : {M : Type 1} → statement M
 replay-spec =
     tie.close
     (tie.spec
-    read-head-requires
-    enum-known-head
-    rooms-for-requires
-    slice-aggregate-replay-in
-    replay-in-requires
-    same-length
-    returns
-    slice-aggregate-replay-in-2
-    replay-in-requires-2
-    same-length-2
-    returns-2
-    slice-aggregate-replay-in-3
-    replay-in-requires-3
-    same-length-3
-    returns-3
-    slice-aggregate-replay-in-4
-    replay-in-requires-4
-    enum-known-x
-    same-length-4
-    returns-4
-    returns-5)
+    (λ c κs. search needs) (λ c. search needs) (λ c κs. search needs) (λ c. search needs) (λ c κs. search needs) (λ c. search needs) returns
+    (λ c. search needs) (λ c κs. search needs) (λ c. search needs) returns-2 (λ c. search needs) (λ c κs. search needs) (λ c. search needs) returns-3
+    (λ c. search needs) (λ c κs. search needs) (λ c. search needs) (λ c. search needs) returns-4 returns-5)

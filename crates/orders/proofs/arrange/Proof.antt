@@ -7,17 +7,12 @@ use Rattle.orders.proofs.OrderLaws.{sortable-parts}
 use Rattle.orders.proofs.arrange.Statement.{statement}
 use Rattle.orders.proofs.arrange.Tie as tie
 
-sortable-requires : tie.Need-sortable-requires
-sortable-requires c κs = search needs
-
 arrange-requires : tie.Need-arrange-requires
 arrange-requires c κs = let (a, b, w) = sortable-parts _ _ (sym (c .before .before .sortable .ensures) ∙ c .before .if1 .taken) in (a, b, w, length-replicate {A = ℕ} 256 0)
 
 returns : tie.Need-returns
 returns c = rw (sym (c .before .before .before .sortable .ensures) ∙ c .before .before .if1 .taken) (c .arrange .ensures)
 
-returns-2 : tie.Need-returns-2
-returns-2 c = rw (sym (c .before .sortable .ensures) ∙ c .if1 .left) (refl, refl)
-
 pub arrange-spec : {M : Type 1} → statement M
-arrange-spec = tie.close (tie.spec sortable-requires arrange-requires returns returns-2)
+arrange-spec = tie.close (tie.spec
+    (λ c κs. search needs) arrange-requires returns (λ c. rw (sym (c .before .sortable .ensures) ∙ c .if1 .left) (refl, refl)))

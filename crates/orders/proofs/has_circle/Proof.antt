@@ -7,15 +7,6 @@ use Rattle.orders.proofs.OrderLaws.{sortable-parts}
 use Rattle.orders.proofs.has_circle.Statement.{statement}
 use Rattle.orders.proofs.has_circle.Tie as tie
 
-all-rise-requires : tie.Need-all-rise-requires
-all-rise-requires c κs = search needs
-
-returns : tie.Need-returns
-returns c = circled-rise _ _ (sym (c .if1 .taken) ∙ c .before .all-rise .ensures)
-
-sortable-requires : tie.Need-sortable-requires
-sortable-requires c κs = search needs
-
 arrange-requires : tie.Need-arrange-requires
 arrange-requires c κs = let (a, b, w) = sortable-parts _ _ (sym (c .before .before .sortable .ensures) ∙ c .before .if2 .taken) in (a, b, w, length-replicate {A = ℕ} 256 0)
 
@@ -24,10 +15,9 @@ returns-2 c =
     let h = sym (c .before .before .before .sortable .ensures) ∙ c .before .before .if2 .taken in
     circled-short _ _ (sortable-parts _ _ h .2) h (c .arrange .ensures)
 
-returns-3 : tie.Need-returns-3
-returns-3 c = circled-not _ _ (sym (c .before .sortable .ensures) ∙ c .if2 .left)
-
 pub has-circle-spec : {M : Type 1} → statement M
 has-circle-spec =
     tie.close
-    (tie.spec all-rise-requires returns sortable-requires arrange-requires returns-2 returns-3)
+    (tie.spec
+    (λ c κs. search needs) (λ c. circled-rise _ _ (sym (c .if1 .taken) ∙ c .before .all-rise .ensures)) (λ c κs. search needs) arrange-requires
+    returns-2 (λ c. circled-not _ _ (sym (c .before .sortable .ensures) ∙ c .if2 .left)))

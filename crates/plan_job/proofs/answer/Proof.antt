@@ -8,21 +8,6 @@ use Rattle.plan_job.proofs.Printed.{said, plan-printed, all-fits, print
 use Rattle.plan_job.proofs.answer.Statement.{statement}
 use Rattle.plan_job.proofs.answer.Tie as tie
 
-plan-requires : tie.Need-plan-requires
-plan-requires c κs = search needs
-
-enum-known-k : tie.Need-enum-known-k
-enum-known-k c = search needs
-
-enum-known-x : tie.Need-enum-known-x
-enum-known-x c = search needs
-
-write-refusal-requires : tie.Need-write-refusal-requires
-write-refusal-requires c κs = search needs
-
-same-length : tie.Need-same-length
-same-length c = search needs
-
 returns : tie.Need-returns
 returns c =
     let a = c .before .before .before .before .before .before .before .before .before .args in
@@ -31,9 +16,6 @@ returns c =
     let k = c .before .k in
     shown-done (said (a .job .now)) (planPrinted (a .job .now)) (a .out .now) (w .last .1 .0) (k .given .0 .0) (plan-printed (a .job .now)) (omega (arith, printed-most (a .job .now), pre))
     (rw (k .given .1, all-fits (a .job .now) (length (a .out .now)) pre) at (w .ensures))
-
-same-length-2 : tie.Need-same-length-2
-same-length-2 c = search needs
 
 returns-2 : tie.Need-returns-2
 returns-2 c =
@@ -49,11 +31,4 @@ pub answer-spec : {M : Type 1} → statement M
 answer-spec =
     tie.close
     (tie.spec
-    plan-requires
-    enum-known-k
-    enum-known-x
-    write-refusal-requires
-    same-length
-    returns
-    same-length-2
-    returns-2)
+    (λ c κs. search needs) (λ c. search needs) (λ c. search needs) (λ c κs. search needs) (λ c. search needs) returns (λ c. search needs) returns-2)

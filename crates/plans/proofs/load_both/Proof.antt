@@ -7,9 +7,6 @@ use Rattle.plans.proofs.JobAndPlan.{no-job, job-standing, both-loaded}
 use Rattle.plans.proofs.load_both.Statement.{statement}
 use Rattle.plans.proofs.load_both.Tie as tie
 
-load-job-requires : tie.Need-load-job-requires
-load-job-requires c κs = search needs
-
 enum-told : tie.Need-enum-told
 enum-told c = search needs
 
@@ -20,12 +17,6 @@ load-plan-requires c κs =
     job-standing (a .rooms) (jobFrom (a .rooms) (length (a .mem .now)) (headOf (a .head)) (drop (a .at) (a .job .now))) (a .plan .now) (load-job .last .1 .1 .1 .0) _
     (rw (c .before .enum-told .given .1) at (load-job .ensures))
 
-enum-known-x : tie.Need-enum-known-x
-enum-known-x c = search needs
-
-same-length : tie.Need-same-length
-same-length c = search needs
-
 returns : tie.Need-returns
 returns c =
     let a = c .before .before .before .before .before .before .before .before .before .before .before .before .before .args in
@@ -33,9 +24,6 @@ returns c =
     let enum-told = c .before .before .before .before .enum-told in
     both-loaded (a .rooms) (jobFrom (a .rooms) (length (a .mem .now)) (headOf (a .head)) (drop (a .at) (a .job .now))) (a .plan .now) (load-job .last .1 .1 .1 .0) _
     (rw (enum-told .given .1) at (load-job .ensures)) _ _ (c .before .before .load-plan .ensures .0) (c .before .before .load-plan .ensures .1)
-
-same-length-2 : tie.Need-same-length-2
-same-length-2 c = search needs
 
 returns-2 : tie.Need-returns-2
 returns-2 c =
@@ -47,11 +35,4 @@ pub load-both-spec : {M : Type 1} → statement M
 load-both-spec =
     tie.close
     (tie.spec
-    load-job-requires
-    enum-told
-    load-plan-requires
-    enum-known-x
-    same-length
-    returns
-    same-length-2
-    returns-2)
+    (λ c κs. search needs) enum-told load-plan-requires (λ c. search needs) (λ c. search needs) returns (λ c. search needs) returns-2)

@@ -6,16 +6,11 @@ use Rattle.definitions.proofs.Decimal.{length-line}
 use Rattle.printing.proofs.line_length.Statement.{statement}
 use Rattle.printing.proofs.line_length.Tie as tie
 
-numbers-length-requires : tie.Need-numbers-length-requires
-numbers-length-requires c κs = search needs
-
-wrapping-add-usize-requires : tie.Need-wrapping-add-usize-requires
-wrapping-add-usize-requires c κs = search needs
-
 returns : tie.Need-returns
 returns c =
     let args = c .before .before .before .before .args in
     rw (length-line document01 (args .opening .now) (args .vals .now)) (c .wrapping-add-usize .ensures ∙ rw (c .before .numbers-length .ensures))
 
 pub line-length-spec : {M : Type 1} → statement M
-line-length-spec = tie.close (tie.spec numbers-length-requires wrapping-add-usize-requires returns)
+line-length-spec = tie.close (tie.spec
+    (λ c κs. search needs) (λ c κs. search needs) returns)

@@ -9,15 +9,6 @@ use Rattle.text.proofs.Writing.{front-fits, front-unfit}
 use Rattle.printing.proofs.write_line.Statement.{statement}
 use Rattle.printing.proofs.write_line.Tie as tie
 
-line-fits-requires : tie.Need-line-fits-requires
-line-fits-requires c κs = search needs
-
-put-line-requires : tie.Need-put-line-requires
-put-line-requires c κs = leb-true _ _ (sym (c .before .before .line-fits .ensures) ∙ c .before .if1 .taken)
-
-same-length : tie.Need-same-length
-same-length c = search needs
-
 returns : tie.Need-returns
 returns c =
     let a = c .before .before .before .before .before .before .before .before .before .args in
@@ -34,4 +25,6 @@ returns-2 c =
 
 pub write-line-spec : {M : Type 1} → statement M
 write-line-spec =
-    tie.close (tie.spec line-fits-requires put-line-requires same-length returns returns-2)
+    tie.close (tie.spec
+    (λ c κs. search needs) (λ c κs. leb-true _ _ (sym (c .before .before .line-fits .ensures) ∙ c .before .if1 .taken)) (λ c. search needs) returns
+    returns-2)

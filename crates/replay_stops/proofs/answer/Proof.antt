@@ -9,21 +9,6 @@ use Rattle.replay_stops.proofs.Longest.{all-fits, replay-printed, print
 use Rattle.replay_stops.proofs.answer.Statement.{statement}
 use Rattle.replay_stops.proofs.answer.Tie as tie
 
-replay-requires : tie.Need-replay-requires
-replay-requires c κs = search needs
-
-enum-known-n : tie.Need-enum-known-n
-enum-known-n c = search needs
-
-enum-known-x : tie.Need-enum-known-x
-enum-known-x c = search needs
-
-write-refusal-requires : tie.Need-write-refusal-requires
-write-refusal-requires c κs = search needs
-
-same-length : tie.Need-same-length
-same-length c = search needs
-
 returns : tie.Need-returns
 returns c =
     let a = c .before .before .before .before .before .before .before .before .before .before .before .args in
@@ -33,9 +18,6 @@ returns c =
     shown-done (replayed document01 (a .job .now) (a .plan .now) (a .stops .now)) (replayPrinted (a .job .now) (a .plan .now) (a .stops .now)) (a .out .now) (w .last .1 .1 .1 .0)
     (k .given .0 .0) (replay-printed (a .job .now) (a .plan .now) (a .stops .now)) (omega (arith, printed-most (a .job .now) (a .plan .now) (a .stops .now), pre))
     (rw (k .given .1, all-fits (a .job .now) (a .plan .now) (a .stops .now) (length (a .out .now)) pre) at (w .ensures .0))
-
-same-length-2 : tie.Need-same-length-2
-same-length-2 c = search needs
 
 returns-2 : tie.Need-returns-2
 returns-2 c =
@@ -52,11 +34,4 @@ pub answer-spec : {M : Type 1} → statement M
 answer-spec =
     tie.close
     (tie.spec
-    replay-requires
-    enum-known-n
-    enum-known-x
-    write-refusal-requires
-    same-length
-    returns
-    same-length-2
-    returns-2)
+    (λ c κs. search needs) (λ c. search needs) (λ c. search needs) (λ c κs. search needs) (λ c. search needs) returns (λ c. search needs) returns-2)

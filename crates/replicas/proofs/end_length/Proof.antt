@@ -6,18 +6,6 @@ use Rattle.replicas.proofs.ResultLaws.{end-tick, end-never}
 use Rattle.replicas.proofs.end_length.Statement.{statement}
 use Rattle.replicas.proofs.end_length.Tie as tie
 
-returns : tie.Need-returns
-returns c = (rw (end-never (c .before .args .end) (c .if1 .taken)), omega arith)
-
-slice-aggregate-line-length : tie.Need-slice-aggregate-line-length
-slice-aggregate-line-length c = search needs
-
-slice-aggregate-line-length-2 : tie.Need-slice-aggregate-line-length-2
-slice-aggregate-line-length-2 c = search needs
-
-line-length-requires : tie.Need-line-length-requires
-line-length-requires c κs = search needs
-
 returns-2 : tie.Need-returns-2
 returns-2 c =
     let x = c .before .before .before .before .args .end in
@@ -28,8 +16,5 @@ pub end-length-spec : {M : Type 1} → statement M
 end-length-spec =
     tie.close
     (tie.spec
-    returns
-    slice-aggregate-line-length
-    slice-aggregate-line-length-2
-    line-length-requires
+    (λ c. (rw (end-never (c .before .args .end) (c .if1 .taken)), omega arith)) (λ c. search needs) (λ c. search needs) (λ c κs. search needs)
     returns-2)

@@ -15,36 +15,6 @@ Inv-loop cells n time₀ processor₀ c₀ time processor c = (c ≤ n) × (time
 abbrev μ-loop : tie.MeasureT-loop
 μ-loop cells n time₀ processor₀ c₀ time processor c = n - c
 
-loop-holds : tie.Need-loop-holds Inv-loop μ-loop
-loop-holds c = let (e, f) = least-none (c .args .cells .now) in (omega arith, sym e, sym f)
-
-mul-x : tie.Need-mul-x Inv-loop μ-loop
-mul-x c = search needs
-
-add-x : tie.Need-add-x Inv-loop μ-loop
-add-x c = search needs
-
-mul-x-2 : tie.Need-mul-x-2 Inv-loop μ-loop
-mul-x-2 c = search needs
-
-shared-slice-read-x : tie.Need-shared-slice-read-x Inv-loop μ-loop
-shared-slice-read-x c = search needs
-
-mul-processor : tie.Need-mul-processor Inv-loop μ-loop
-mul-processor c = search needs
-
-mul-processor-2 : tie.Need-mul-processor-2 Inv-loop μ-loop
-mul-processor-2 c = search needs
-
-shared-slice-read-processor : tie.Need-shared-slice-read-processor Inv-loop μ-loop
-shared-slice-read-processor c = search needs
-
-add-c : tie.Need-add-c Inv-loop μ-loop
-add-c c = search needs
-
-loop-less : tie.Need-loop-less Inv-loop μ-loop
-loop-less c = search needs
-
 loop-again : tie.Need-loop-again Inv-loop μ-loop
 loop-again c =
     let d = c .before .before .before .before .args .cells .now in
@@ -63,17 +33,6 @@ pub first-finish-spec : {M : Type 1} → statement M
 first-finish-spec =
     tie.close
     (tie.spec
-    Inv-loop
-    μ-loop
-    loop-holds
-    mul-x
-    add-x
-    mul-x-2
-    shared-slice-read-x
-    mul-processor
-    mul-processor-2
-    shared-slice-read-processor
-    add-c
-    loop-less
-    loop-again
-    returns)
+    Inv-loop μ-loop (λ c. let (e, f) = least-none (c .args .cells .now) in (omega arith, sym e, sym f)) (λ c. search needs) (λ c. search needs)
+    (λ c. search needs) (λ c. search needs) (λ c. search needs) (λ c. search needs) (λ c. search needs) (λ c. search needs) (λ c. search needs)
+    loop-again returns)

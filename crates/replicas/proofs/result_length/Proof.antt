@@ -10,9 +10,6 @@ use Rattle.replicas.proofs.ResultLaws.{result-tick, result-never, undon
 use Rattle.replicas.proofs.result_length.Statement.{statement}
 use Rattle.replicas.proofs.result_length.Tie as tie
 
-width-of-requires : tie.Need-width-of-requires
-width-of-requires c κs = search needs
-
 add-result : tie.Need-add-result
 add-result c = omega (arith, c .width-of .ensures, width-powers document01 (c .before .before .before .args .t) (omega arith))
 
@@ -21,15 +18,6 @@ returns c =
     let f = c .before .before .before .args .first in
     let e = ap length (result-never (c .before .before .before .args .t) (f .time) (f .processor) (c .before .if1 .taken)) ∙ undone-length (c .before .before .before .args .t) in
     (omega (arith, c .width-of .ensures, e), omega (arith, c .width-of .ensures, width-powers document01 (c .before .before .before .args .t) (omega arith)))
-
-slice-aggregate-line-length : tie.Need-slice-aggregate-line-length
-slice-aggregate-line-length c = search needs
-
-slice-aggregate-line-length-2 : tie.Need-slice-aggregate-line-length-2
-slice-aggregate-line-length-2 c = search needs
-
-line-length-requires : tie.Need-line-length-requires
-line-length-requires c κs = search needs
 
 returns-2 : tie.Need-returns-2
 returns-2 c =
@@ -42,10 +30,4 @@ pub result-length-spec : {M : Type 1} → statement M
 result-length-spec =
     tie.close
     (tie.spec
-    width-of-requires
-    add-result
-    returns
-    slice-aggregate-line-length
-    slice-aggregate-line-length-2
-    line-length-requires
-    returns-2)
+    (λ c κs. search needs) add-result returns (λ c. search needs) (λ c. search needs) (λ c κs. search needs) returns-2)

@@ -9,12 +9,6 @@ use Rattle.rounds.proofs.VerdictLaws.{texts-refused, plan-judged}
 use Rattle.rounds.proofs.check_in.Statement.{statement}
 use Rattle.rounds.proofs.check_in.Tie as tie
 
-load-both-requires : tie.Need-load-both-requires
-load-both-requires c κs = search needs
-
-enum-told : tie.Need-enum-told
-enum-told c = search needs
-
 judge-requires : tie.Need-judge-requires
 judge-requires c κs =
     let a = c .before .before .before .before .before .before .before .before .before .before .args in
@@ -22,21 +16,12 @@ judge-requires c κs =
     let x = jobFrom (a .rooms) (length (a .mem .now)) (headOf (a .head)) (drop (a .at) (a .job .now)) in
     both-held (a .rooms) x (a .plan .now) (load-both .last .1 .1 .1 .1 .0) _ (rw (c .before .enum-told .given .1) at (load-both .ensures))
 
-enum-known-x : tie.Need-enum-known-x
-enum-known-x c = search needs
-
-same-length : tie.Need-same-length
-same-length c = search needs
-
 returns : tie.Need-returns
 returns c =
     let a = c .before .before .before .before .before .before .before .before .before .before .before .args in
     let load-both = c .before .before .before .before .before .before .load-both in
     let x = withPlan (jobFrom (a .rooms) (length (a .mem .now)) (headOf (a .head)) (drop (a .at) (a .job .now))) (a .plan .now) in
     plan-judged (a .rooms) x (load-both .last .1 .1 .1 .1 .0) _ (rw (c .before .before .enum-told .given .1) at (load-both .ensures)) (c .judge .result) (c .judge .ensures)
-
-same-length-2 : tie.Need-same-length-2
-same-length-2 c = search needs
 
 returns-2 : tie.Need-returns-2
 returns-2 c =
@@ -48,11 +33,4 @@ pub check-in-spec : {M : Type 1} → statement M
 check-in-spec =
     tie.close
     (tie.spec
-    load-both-requires
-    enum-told
-    judge-requires
-    enum-known-x
-    same-length
-    returns
-    same-length-2
-    returns-2)
+    (λ c κs. search needs) (λ c. search needs) judge-requires (λ c. search needs) (λ c. search needs) returns (λ c. search needs) returns-2)

@@ -8,9 +8,6 @@ use Rattle.rounds.proofs.PlanAnswer.{plan-no, plan-put}
 use Rattle.rounds.proofs.plan_in.Statement.{statement}
 use Rattle.rounds.proofs.plan_in.Tie as tie
 
-load-job-requires : tie.Need-load-job-requires
-load-job-requires c κs = search needs
-
 enum-told : tie.Need-enum-told
 enum-told c = search needs
 
@@ -22,15 +19,6 @@ put-plan-requires c κs =
     let l = loaded-job (a .rooms) x (load-job .last .1 .1 .1 .0) _ (rw (c .before .before .enum-told .given .1) at (load-job .ensures)) in
     (l .1, l .2, l .3)
 
-enum-known-x : tie.Need-enum-known-x
-enum-known-x c = search needs
-
-same-length : tie.Need-same-length
-same-length c = search needs
-
-same-length-2 : tie.Need-same-length-2
-same-length-2 c = search needs
-
 returns : tie.Need-returns
 returns c =
     let a = c .before .before .before .before .before .before .before .before .before .before .before .before .before .before .before .before .args in
@@ -39,9 +27,6 @@ returns c =
     let put-plan = c .before .before .before .before .put-plan in
     let x = jobFrom (a .rooms) (length (a .mem .now)) (headOf (a .head)) (drop (a .at) (a .job .now)) in
     plan-put (a .rooms) x (load-job .last .1 .1 .1 .0) (a .out .now) _ (rw (enum-told .given .1) at (load-job .ensures)) (put-plan .last .1 .1 .0) (put-plan .result) (put-plan .ensures)
-
-same-length-3 : tie.Need-same-length-3
-same-length-3 c = search needs
 
 returns-2 : tie.Need-returns-2
 returns-2 c =
@@ -53,12 +38,5 @@ pub plan-in-spec : {M : Type 1} → statement M
 plan-in-spec =
     tie.close
     (tie.spec
-    load-job-requires
-    enum-told
-    put-plan-requires
-    enum-known-x
-    same-length
-    same-length-2
-    returns
-    same-length-3
+    (λ c κs. search needs) enum-told put-plan-requires (λ c. search needs) (λ c. search needs) (λ c. search needs) returns (λ c. search needs)
     returns-2)

@@ -9,9 +9,6 @@ use Rattle.rounds.proofs.ReplayLaws.{replay-refused, replay-put}
 use Rattle.rounds.proofs.replay_in.Statement.{statement}
 use Rattle.rounds.proofs.replay_in.Tie as tie
 
-load-both-requires : tie.Need-load-both-requires
-load-both-requires c κs = search needs
-
 enum-told : tie.Need-enum-told
 enum-told c = search needs
 
@@ -22,15 +19,6 @@ put-replay-requires c κs =
     let x = jobFrom (a .rooms) (length (a .mem .now)) (headOf (a .head)) (drop (a .at) (a .job .now)) in
     both-held (a .rooms) x (a .plan .now) (load-both .last .1 .1 .1 .1 .0) _ (rw (c .before .before .enum-told .given .1) at (load-both .ensures))
 
-enum-known-x : tie.Need-enum-known-x
-enum-known-x c = search needs
-
-same-length : tie.Need-same-length
-same-length c = search needs
-
-same-length-2 : tie.Need-same-length-2
-same-length-2 c = search needs
-
 returns : tie.Need-returns
 returns c =
     let a = c .before .before .before .before .before .before .before .before .before .before .before .before .before .before .before .before .before .before .args in
@@ -39,9 +27,6 @@ returns c =
     let put-replay = c .before .before .before .before .put-replay in
     let x = withPlan (jobFrom (a .rooms) (length (a .mem .now)) (headOf (a .head)) (drop (a .at) (a .job .now))) (a .plan .now) in
     replay-put (a .rooms) x (load-both .last .1 .1 .1 .1 .0) (a .stops .now) (a .out .now) _ (rw (enum-told .given .1) at (load-both .ensures)) (put-replay .last .1 .1 .1 .0) (put-replay .result) (put-replay .ensures)
-
-same-length-3 : tie.Need-same-length-3
-same-length-3 c = search needs
 
 returns-2 : tie.Need-returns-2
 returns-2 c =
@@ -54,12 +39,5 @@ pub replay-in-spec : {M : Type 1} → statement M
 replay-in-spec =
     tie.close
     (tie.spec
-    load-both-requires
-    enum-told
-    put-replay-requires
-    enum-known-x
-    same-length
-    same-length-2
-    returns
-    same-length-3
+    (λ c κs. search needs) enum-told put-replay-requires (λ c. search needs) (λ c. search needs) (λ c. search needs) returns (λ c. search needs)
     returns-2)

@@ -6,9 +6,6 @@ use lib.ListN.{length, drop}
 use Rattle.rows.proofs.read_rows.Statement.{statement}
 use Rattle.rows.proofs.read_rows.Tie as tie
 
-is-wide-requires : tie.Need-is-wide-requires
-is-wide-requires c κs = search needs
-
 div-if2 : tie.Need-div-if2
 div-if2 c =
     let args = c .before .before .before .before .before .args in
@@ -20,9 +17,6 @@ fill-rows-requires c κs =
     let w = sym (c .before .before .before .is-wide .ensures) ∙ c .before .before .if1 .taken in
     let z = some-number (a .k) (a .n) (a .kind) w in
     (z, rows-within (length (a .mem .now)) (a .k) (a .n) z (c .before .if2 .taken), delays-wide (a .k) (a .n) (a .kind) w)
-
-same-length : tie.Need-same-length
-same-length c = search needs
 
 returns : tie.Need-returns
 returns c =
@@ -47,4 +41,5 @@ returns-3 c =
 pub read-rows-spec : {M : Type 1} → statement M
 read-rows-spec =
     tie.close
-    (tie.spec is-wide-requires div-if2 fill-rows-requires same-length returns returns-2 returns-3)
+    (tie.spec
+    (λ c κs. search needs) div-if2 fill-rows-requires (λ c. search needs) returns returns-2 returns-3)

@@ -12,14 +12,8 @@ returns c = λ j e. stops-short (length (c .before .before .before .args .stops 
 returns-2 : tie.Need-returns-2
 returns-2 c = λ j e. stops-long (length (c .before .before .before .before .args .stops .now)) (c .before .before .before .before .args .s .now) _ j (omega (arith, e, c .before .if1 .left)) (c .if2 .taken)
 
-clear-requires : tie.Need-clear-requires
-clear-requires c κs = search needs
-
 read-stop-lines-requires : tie.Need-read-stop-lines-requires
 read-stop-lines-requires c κs = (omega (arith, c .before .before .before .before .before .before .if1 .left, c .before .before .before .clear .kept .0), c .before .before .before .clear .ensures)
-
-same-length : tie.Need-same-length
-same-length c = search needs
 
 returns-3 : tie.Need-returns-3
 returns-3 c =
@@ -31,4 +25,5 @@ returns-3 c =
 pub load-stops-spec : {M : Type 1} → statement M
 load-stops-spec =
     tie.close
-    (tie.spec returns returns-2 clear-requires read-stop-lines-requires same-length returns-3)
+    (tie.spec
+    returns returns-2 (λ c κs. search needs) read-stop-lines-requires (λ c. search needs) returns-3)

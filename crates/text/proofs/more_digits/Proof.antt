@@ -15,12 +15,6 @@ Inv-loop s at room value k₀ n₀ i₀ k n i = (i ≤ length s) × (k ≤ 9) ×
 abbrev μ-loop : tie.MeasureT-loop
 μ-loop s at room value k₀ n₀ i₀ k n i = length s - i
 
-loop-holds : tie.Need-loop-holds Inv-loop μ-loop
-loop-holds c = (search needs, search needs, search needs, refl)
-
-shared-slice-read-d : tie.Need-shared-slice-read-d Inv-loop μ-loop
-shared-slice-read-d c = search needs
-
 returns : tie.Need-returns Inv-loop μ-loop
 returns c = (digits-stop _ _ _ _ (c .before .before .loop-test .taken) (digit-low _ (c .if1 .taken)) ∙ c .before .before .before .loop .inv .3, c .before .before .before .loop .inv .0)
 
@@ -33,23 +27,11 @@ returns-3 c =
     let loop-test = c .before .before .before .before .loop-test in
     (digits-full _ _ _ _ (loop-test .taken) (digit-yes _ (c .before .before .if1 .left) (c .before .if2 .left)) (c .if3 .taken) ∙ loop .inv .3, tt)
 
-sub-k : tie.Need-sub-k Inv-loop μ-loop
-sub-k c = search needs
-
 mul-acc : tie.Need-mul-acc Inv-loop μ-loop
 mul-acc c = omega (arith, value-small _ _ (omega arith) (c .before .before .before .before .before .loop .inv .2))
 
-wide-requires : tie.Need-wide-requires Inv-loop μ-loop
-wide-requires c κs = search needs
-
 add-acc : tie.Need-add-acc Inv-loop μ-loop
 add-acc c = omega (arith, value-small _ _ (omega arith) (c .before .before .before .before .before .before .loop .inv .2))
-
-add-i : tie.Need-add-i Inv-loop μ-loop
-add-i c = search needs
-
-loop-less : tie.Need-loop-less Inv-loop μ-loop
-loop-less c = search needs
 
 loop-again : tie.Need-loop-again Inv-loop μ-loop
 loop-again c =
@@ -62,25 +44,10 @@ loop-again c =
       rw (c .wide .ensures) (digits-next _ _ _ _ (loop-test .taken) (digit-yes _ (if1 .left) (c .before .before .if2 .left)) (c .before .if3 .left) ∙ loop .inv .3),
     )
 
-returns-4 : tie.Need-returns-4 Inv-loop μ-loop
-returns-4 c = (digits-end _ _ _ _ (c .loop-test .left) ∙ c .before .loop .inv .3, c .before .loop .inv .0)
-
 pub more-digits-spec : {M : Type 1} → statement M
 more-digits-spec =
     tie.close
     (tie.spec
-    Inv-loop
-    μ-loop
-    loop-holds
-    shared-slice-read-d
-    returns
-    returns-2
-    returns-3
-    sub-k
-    mul-acc
-    wide-requires
-    add-acc
-    add-i
-    loop-less
-    loop-again
-    returns-4)
+    Inv-loop μ-loop (λ c. (search needs, search needs, search needs, refl)) (λ c. search needs) returns returns-2 returns-3 (λ c. search needs)
+    mul-acc (λ c κs. search needs) add-acc (λ c. search needs) (λ c. search needs) loop-again
+    (λ c. (digits-end _ _ _ _ (c .loop-test .left) ∙ c .before .loop .inv .3, c .before .loop .inv .0)))

@@ -15,29 +15,11 @@ Inv-loop s at opening i₀ p₀ i p = (i ≤ length opening) × (p ≡ at + i) �
 abbrev μ-loop : tie.MeasureT-loop
 μ-loop s at opening i₀ p₀ i p = length opening - i
 
-loop-holds : tie.Need-loop-holds Inv-loop μ-loop
-loop-holds c = (search needs, omega arith, refl)
-
 returns : tie.Need-returns Inv-loop μ-loop
 returns c = (fixed-end _ _ _ _ (c .before .loop-test .taken) (c .if1 .taken) ∙ c .before .before .loop .inv .2, tt)
 
-shared-slice-read-if2 : tie.Need-shared-slice-read-if2 Inv-loop μ-loop
-shared-slice-read-if2 c = search needs
-
-shared-slice-read-if2-2 : tie.Need-shared-slice-read-if2-2 Inv-loop μ-loop
-shared-slice-read-if2-2 c = search needs
-
 returns-2 : tie.Need-returns-2 Inv-loop μ-loop
 returns-2 c = (fixed-no _ _ _ _ (c .before .before .before .before .loop-test .taken) (c .before .before .before .if1 .left) (λ e. omega arith) ∙ c .before .before .before .before .before .loop .inv .2, tt)
-
-add-i : tie.Need-add-i Inv-loop μ-loop
-add-i c = search needs
-
-add-p : tie.Need-add-p Inv-loop μ-loop
-add-p c = search needs
-
-loop-less : tie.Need-loop-less Inv-loop μ-loop
-loop-less c = search needs
 
 loop-again : tie.Need-loop-again Inv-loop μ-loop
 loop-again c =
@@ -53,15 +35,5 @@ pub read-fixed-spec : {M : Type 1} → statement M
 read-fixed-spec =
     tie.close
     (tie.spec
-    Inv-loop
-    μ-loop
-    loop-holds
-    returns
-    shared-slice-read-if2
-    shared-slice-read-if2-2
-    returns-2
-    add-i
-    add-p
-    loop-less
-    loop-again
-    returns-3)
+    Inv-loop μ-loop (λ c. (search needs, omega arith, refl)) returns (λ c. search needs) (λ c. search needs) returns-2 (λ c. search needs)
+    (λ c. search needs) (λ c. search needs) loop-again returns-3)

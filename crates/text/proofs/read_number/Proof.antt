@@ -5,38 +5,11 @@ use Rattle.text.proofs.Reading.{digit-yes, digit-low, digit-high, numbe
 use Rattle.text.proofs.read_number.Statement.{statement}
 use Rattle.text.proofs.read_number.Tie as tie
 
-returns : tie.Need-returns
-returns c = (number-end _ _ _ (c .if1 .taken), tt)
-
-shared-slice-read-b : tie.Need-shared-slice-read-b
-shared-slice-read-b c = search needs
-
-returns-2 : tie.Need-returns-2
-returns-2 c = (number-no _ _ _ (c .before .before .if1 .left) (digit-low _ (c .if2 .taken)), tt)
-
-returns-3 : tie.Need-returns-3
-returns-3 c = (number-no _ _ _ (c .before .before .before .if1 .left) (digit-high _ (c .if3 .taken)), tt)
-
-add-more-digits : tie.Need-add-more-digits
-add-more-digits c = search needs
-
-more-digits-requires : tie.Need-more-digits-requires
-more-digits-requires c κs = search needs
-
 returns-4 : tie.Need-returns-4
 returns-4 c =
     let if1 = c .before .before .before .before .before .if1 in
     let if2 = c .before .before .before .if2 in
     (c .more-digits .ensures .0 ∙ number-zero _ _ _ (if1 .left) (digit-yes _ (if2 .left) (c .before .before .if3 .left)) (c .before .if4 .taken), c .more-digits .ensures .1)
-
-add-more-digits-2 : tie.Need-add-more-digits-2
-add-more-digits-2 c = search needs
-
-wide-requires : tie.Need-wide-requires
-wide-requires c κs = search needs
-
-more-digits-requires-2 : tie.Need-more-digits-requires-2
-more-digits-requires-2 c κs = search needs
 
 returns-5 : tie.Need-returns-5
 returns-5 c =
@@ -52,14 +25,7 @@ pub read-number-spec : {M : Type 1} → statement M
 read-number-spec =
     tie.close
     (tie.spec
-    returns
-    shared-slice-read-b
-    returns-2
-    returns-3
-    add-more-digits
-    more-digits-requires
-    returns-4
-    add-more-digits-2
-    wide-requires
-    more-digits-requires-2
-    returns-5)
+    (λ c. (number-end _ _ _ (c .if1 .taken), tt)) (λ c. search needs)
+    (λ c. (number-no _ _ _ (c .before .before .if1 .left) (digit-low _ (c .if2 .taken)), tt))
+    (λ c. (number-no _ _ _ (c .before .before .before .if1 .left) (digit-high _ (c .if3 .taken)), tt)) (λ c. search needs) (λ c κs. search needs)
+    returns-4 (λ c. search needs) (λ c κs. search needs) (λ c κs. search needs) returns-5)

@@ -14,23 +14,11 @@ returns c =
     let h : length (a .out .now) < a .at + length (a .p .now) = omega arith in
     rw (lt-leb _ _ h) (refl, refl)
 
-sub-if2 : tie.Need-sub-if2
-sub-if2 c = search needs
-
 returns-2 : tie.Need-returns-2
 returns-2 c =
     let a = c .before .before .before .before .args in
     let h : length (a .out .now) < a .at + length (a .p .now) = omega arith in
     rw (lt-leb _ _ h) (refl, refl)
-
-copy-in-requires : tie.Need-copy-in-requires
-copy-in-requires c κs = search needs
-
-add-result : tie.Need-add-result
-add-result c = search needs
-
-same-length : tie.Need-same-length
-same-length c = search needs
 
 returns-3 : tie.Need-returns-3
 returns-3 c =
@@ -41,4 +29,5 @@ returns-3 c =
 pub write-fixed-spec : {M : Type 1} → statement M
 write-fixed-spec =
     tie.close
-    (tie.spec returns sub-if2 returns-2 copy-in-requires add-result same-length returns-3)
+    (tie.spec
+    returns (λ c. search needs) returns-2 (λ c κs. search needs) (λ c. search needs) (λ c. search needs) returns-3)

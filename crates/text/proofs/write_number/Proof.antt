@@ -11,9 +11,6 @@ use Rattle.definitions.proofs.Decimal.{length-decimal}
 use Rattle.text.proofs.write_number.Statement.{statement}
 use Rattle.text.proofs.write_number.Tie as tie
 
-width-of-requires : tie.Need-width-of-requires
-width-of-requires c κs = search needs
-
 returns : tie.Need-returns
 returns c =
     let a = c .before .before .before .args in
@@ -21,24 +18,12 @@ returns c =
     let h : length (a .out .now) < a .at + length (decimal document01 (a .n)) = omega arith in
     rw (lt-leb _ _ h) (refl, refl)
 
-sub-if2 : tie.Need-sub-if2
-sub-if2 c = search needs
-
 returns-2 : tie.Need-returns-2
 returns-2 c =
     let a = c .before .before .before .before .args in
     let w = length-decimal document01 (a .n) in
     let h : length (a .out .now) < a .at + length (decimal document01 (a .n)) = omega arith in
     rw (lt-leb _ _ h) (refl, refl)
-
-write-digits-requires : tie.Need-write-digits-requires
-write-digits-requires c κs = search needs
-
-add-result : tie.Need-add-result
-add-result c = search needs
-
-same-length : tie.Need-same-length
-same-length c = search needs
 
 returns-3 : tie.Need-returns-3
 unfolding decimal
@@ -52,11 +37,4 @@ pub write-number-spec : {M : Type 1} → statement M
 write-number-spec =
     tie.close
     (tie.spec
-    width-of-requires
-    returns
-    sub-if2
-    returns-2
-    write-digits-requires
-    add-result
-    same-length
-    returns-3)
+    (λ c κs. search needs) returns (λ c. search needs) returns-2 (λ c κs. search needs) (λ c. search needs) (λ c. search needs) returns-3)

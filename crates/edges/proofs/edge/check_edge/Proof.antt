@@ -45,4 +45,5 @@ returns-4 c =
 pub check-edge-spec : {M : Type 1} → statement M
 check-edge-spec =
     tie.close
-    (tie.spec returns returns-2 returns-3 cell-of-requires check-order-requires returns-4)
+    (tie.spec
+    returns returns-2 returns-3 cell-of-requires check-order-requires returns-4)

@@ -22,21 +22,6 @@ returns-2 c =
     let args = c .before .before .before .args in
     sym (order-first _ (edgeIn (args .cell)) (c .before .if1 .left) (no-cell (args .before .now) (omega (arith, c .if2 .taken))))
 
-sub-pair-of : tie.Need-sub-pair-of
-sub-pair-of c = search needs
-
-mul-pair-of : tie.Need-mul-pair-of
-mul-pair-of c = search needs
-
-shared-slice-read-pair-of : tie.Need-shared-slice-read-pair-of
-shared-slice-read-pair-of c = search needs
-
-pair-of-requires : tie.Need-pair-of-requires
-pair-of-requires c κs = search needs
-
-pair-of-requires-2 : tie.Need-pair-of-requires-2
-pair-of-requires-2 c κs = search needs
-
 returns-3 : tie.Need-returns-3
 returns-3 c =
     let args = c .before .before .before .before .before .before .before .args in
@@ -45,9 +30,6 @@ returns-3 c =
     let cells = args .before .now in
     let l = last-cell cells (omega (arith, c .before .before .before .before .if2 .left)) in
     sym (order-on cells (args .cell) (nth cells (length cells - 1)) l (if1 .left) (pre) (rw (c .before .before .pair-of .ensures, c .before .pair-of2 .ensures) at (c .if3 .taken)))
-
-is-repeated-requires : tie.Need-is-repeated-requires
-is-repeated-requires c κs = search needs
 
 returns-4 : tie.Need-returns-4
 returns-4 c =
@@ -69,14 +51,5 @@ pub check-order-spec : {M : Type 1} → statement M
 check-order-spec =
     tie.close
     (tie.spec
-    returns
-    returns-2
-    sub-pair-of
-    mul-pair-of
-    shared-slice-read-pair-of
-    pair-of-requires
-    pair-of-requires-2
-    returns-3
-    is-repeated-requires
-    returns-4
-    returns-5)
+    returns returns-2 (λ c. search needs) (λ c. search needs) (λ c. search needs) (λ c κs. search needs) (λ c κs. search needs) returns-3
+    (λ c κs. search needs) returns-4 returns-5)

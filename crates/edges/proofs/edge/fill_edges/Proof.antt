@@ -36,15 +36,6 @@ read-edge-requires c κs =
     let loop = c .before .before .loop in
     (pre .0, omega (arith, c .before .loop-test .taken, loop .inv .1, pre .1), loop .inv .2)
 
-enum-known-next : tie.Need-enum-known-next Inv-loop μ-loop
-enum-known-next c = search needs
-
-enum-known-x : tie.Need-enum-known-x Inv-loop μ-loop
-enum-known-x c = search needs
-
-same-length : tie.Need-same-length Inv-loop μ-loop
-same-length c = search needs
-
 returns : tie.Need-returns Inv-loop μ-loop
 returns c =
     let loop = c .before .before .before .before .before .before .before .before .loop in
@@ -54,12 +45,6 @@ returns c =
     let seen = map edgeIn (take (loop .i) (loop .mem)) in
     let e = sym (read-edge .ensures .1) ∙ ap (told (args .s .now) (edgeIn (nth (read-edge .last .1 .1 .1 .0) (loop .i)))) (c .before .x .given .1) in
     lines-no (edgeLine document01) (edgeRule document01 (args .v)) (args .n) (loop .i) seen (drop (loop .p) (args .s .now)) (loop-test .taken) _ e ∙ loop .inv .3
-
-add-i : tie.Need-add-i Inv-loop μ-loop
-add-i c = search needs
-
-loop-less : tie.Need-loop-less Inv-loop μ-loop
-loop-less c = search needs
 
 loop-again : tie.Need-loop-again Inv-loop μ-loop
 loop-again c =
@@ -81,9 +66,6 @@ loop-again c =
       rw (q, front) (lines-next (edgeLine document01) (edgeRule document01 (args .v)) (args .n) i seen (drop (loop .p) (args .s .now)) (loop-test .taken) (edgeIn (nth new i)) _ e ∙ loop .inv .3),
     )
 
-same-length-2 : tie.Need-same-length-2 Inv-loop μ-loop
-same-length-2 c = search needs
-
 returns-2 : tie.Need-returns-2 Inv-loop μ-loop
 returns-2 c =
     let args = c .before .before .before .before .args in
@@ -97,16 +79,5 @@ pub fill-edges-spec : {M : Type 1} → statement M
 fill-edges-spec =
     tie.close
     (tie.spec
-    Inv-loop
-    μ-loop
-    loop-holds
-    read-edge-requires
-    enum-known-next
-    enum-known-x
-    same-length
-    returns
-    add-i
-    loop-less
-    loop-again
-    same-length-2
-    returns-2)
+    Inv-loop μ-loop loop-holds read-edge-requires (λ c. search needs) (λ c. search needs) (λ c. search needs) returns (λ c. search needs)
+    (λ c. search needs) loop-again (λ c. search needs) returns-2)

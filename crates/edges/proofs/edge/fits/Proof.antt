@@ -12,4 +12,5 @@ returns-2 c =
     rw (le-leb (c .before .args .v) 255 (c .if1 .left))
 
 pub fits-spec : {M : Type 1} → statement M
-fits-spec = tie.close (tie.spec returns returns-2)
+fits-spec = tie.close (tie.spec
+    returns returns-2)

@@ -20,21 +20,9 @@ abbrev μ-loop : tie.MeasureT-loop
 μ-loop before cell pair i₀ i =
     length before - i
 
-pair-of-requires : tie.Need-pair-of-requires Inv-loop μ-loop
-pair-of-requires c κs = search needs
-
 loop-holds : tie.Need-loop-holds Inv-loop μ-loop
 loop-holds c =
     (omega arith, refl)
-
-mul-pair-of : tie.Need-mul-pair-of Inv-loop μ-loop
-mul-pair-of c = search needs
-
-shared-slice-read-pair-of : tie.Need-shared-slice-read-pair-of Inv-loop μ-loop
-shared-slice-read-pair-of c = search needs
-
-pair-of-requires-2 : tie.Need-pair-of-requires-2 Inv-loop μ-loop
-pair-of-requires-2 c κs = search needs
 
 returns : tie.Need-returns Inv-loop μ-loop
 returns c =
@@ -42,12 +30,6 @@ returns c =
     let loop = c .before .before .before .before .loop in
     let pair-of = c .before .before .before .before .before .pair-of in
     repeats-here (args .cell) (args .before .now) (loop .i) (c .before .before .before .loop-test .taken) (sym (c .before .pair-of2 .ensures) ∙ c .if1 .taken ∙ pair-of .ensures) ∙ loop .inv .1
-
-add-i : tie.Need-add-i Inv-loop μ-loop
-add-i c = search needs
-
-loop-less : tie.Need-loop-less Inv-loop μ-loop
-loop-less c = search needs
 
 loop-again : tie.Need-loop-again Inv-loop μ-loop
 loop-again c =
@@ -69,15 +51,5 @@ pub is-repeated-spec : {M : Type 1} → statement M
 is-repeated-spec =
     tie.close
     (tie.spec
-    Inv-loop
-    μ-loop
-    pair-of-requires
-    loop-holds
-    mul-pair-of
-    shared-slice-read-pair-of
-    pair-of-requires-2
-    returns
-    add-i
-    loop-less
-    loop-again
-    returns-2)
+    Inv-loop μ-loop (λ c κs. search needs) loop-holds (λ c. search needs) (λ c. search needs) (λ c κs. search needs) returns (λ c. search needs)
+    (λ c. search needs) loop-again returns-2)

@@ -13,41 +13,11 @@ use Rattle.edges.proofs.EdgeLaws.{edge-of-cell, edge-bad, edge-no, edge
 use Rattle.edges.proofs.edge.read_edge.Statement.{statement}
 use Rattle.edges.proofs.edge.read_edge.Tie as tie
 
-slice-aggregate-read-line : tie.Need-slice-aggregate-read-line
-slice-aggregate-read-line c = search needs
-
-slice-aggregate-read-line-2 : tie.Need-slice-aggregate-read-line-2
-slice-aggregate-read-line-2 c = search needs
-
-read-line-requires : tie.Need-read-line-requires
-read-line-requires c κs = search needs
-
-enum-known-p : tie.Need-enum-known-p
-enum-known-p c = search needs
-
-array-read-from : tie.Need-array-read-from
-array-read-from c = search needs
-
-array-read-to : tie.Need-array-read-to
-array-read-to c = search needs
-
-array-read-volume : tie.Need-array-read-volume
-array-read-volume c = search needs
-
-slice-reshare-prefix-check-edge : tie.Need-slice-reshare-prefix-check-edge
-slice-reshare-prefix-check-edge c = search needs
-
 slice-aggregate-check-edge : tie.Need-slice-aggregate-check-edge
 slice-aggregate-check-edge c =
     let args = c .before .before .before .before .before .before .before .before .before .before .args in
     let pre = c .before .before .before .before .before .before .before .before .before .before .pre in
     sym (length-take-le (args .i) (args .mem .now) (omega (arith, pre .1)))
-
-check-edge-requires : tie.Need-check-edge-requires
-check-edge-requires c κs = search needs
-
-same-length : tie.Need-same-length
-same-length c = search needs
 
 returns : tie.Need-returns
 returns c =
@@ -62,18 +32,6 @@ cell-of-requires c κs =
     let pre = c .before .before .before .before .before .before .before .before .before .before .before .before .pre in
     let h = c .before .check-edge .ensures .1 (omega (arith, c .if1 .left)) in
     (omega (arith, h .0, pre .0), omega (arith, h .1, pre .0), h .2)
-
-mul-mem : tie.Need-mul-mem
-mul-mem c = search needs
-
-slice-write-mem : tie.Need-slice-write-mem
-slice-write-mem c = search needs
-
-enum-known-x : tie.Need-enum-known-x
-enum-known-x c = search needs
-
-same-length-2 : tie.Need-same-length-2
-same-length-2 c = search needs
 
 returns-2 : tie.Need-returns-2
 returns-2 c =
@@ -104,22 +62,6 @@ pub read-edge-spec : {M : Type 1} → statement M
 read-edge-spec =
     tie.close
     (tie.spec
-    slice-aggregate-read-line
-    slice-aggregate-read-line-2
-    read-line-requires
-    enum-known-p
-    array-read-from
-    array-read-to
-    array-read-volume
-    slice-reshare-prefix-check-edge
-    slice-aggregate-check-edge
-    check-edge-requires
-    same-length
-    returns
-    cell-of-requires
-    mul-mem
-    slice-write-mem
-    enum-known-x
-    same-length-2
-    returns-2
-    returns-3)
+    (λ c. search needs) (λ c. search needs) (λ c κs. search needs) (λ c. search needs) (λ c. search needs) (λ c. search needs) (λ c. search needs)
+    (λ c. search needs) slice-aggregate-check-edge (λ c κs. search needs) (λ c. search needs) returns cell-of-requires (λ c. search needs)
+    (λ c. search needs) (λ c. search needs) (λ c. search needs) returns-2 returns-3)

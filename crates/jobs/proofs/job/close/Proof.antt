@@ -6,12 +6,6 @@ use Rattle.orders.proofs.CircleLaws.{circled-within}
 use Rattle.jobs.proofs.job.close.Statement.{statement}
 use Rattle.jobs.proofs.job.close.Tie as tie
 
-returns : tie.Need-returns
-returns c = rw (lt-ltb _ _ (c .if1 .taken))
-
-has-circle-requires : tie.Need-has-circle-requires
-has-circle-requires c κs = search needs
-
 returns-2 : tie.Need-returns-2
 returns-2 c =
     let (a, b, w) = c .before .before .before .before .before .pre in
@@ -23,4 +17,5 @@ returns-3 c =
     rw (le-ltb _ _ (c .before .before .if1 .left), ← circled-within _ _ a b w, sym (c .before .has-circle .ensures) ∙ c .if2 .left)
 
 pub close-spec : {M : Type 1} → statement M
-close-spec = tie.close (tie.spec returns has-circle-requires returns-2 returns-3)
+close-spec = tie.close (tie.spec
+    (λ c. rw (lt-ltb _ _ (c .if1 .taken))) (λ c κs. search needs) returns-2 returns-3)

@@ -16,27 +16,6 @@ Inv-loop cells₀ from n i₀ cells i = (i ≤ n) × (length cells ≡ length ce
 abbrev μ-loop : tie.MeasureT-loop
 μ-loop cells₀ from n i₀ cells i = n - i
 
-loop-holds : tie.Need-loop-holds Inv-loop μ-loop
-loop-holds c = (search needs, refl, refl)
-
-mul-cells : tie.Need-mul-cells Inv-loop μ-loop
-mul-cells c = search needs
-
-shared-slice-read-cells : tie.Need-shared-slice-read-cells Inv-loop μ-loop
-shared-slice-read-cells c = search needs
-
-mul-cells-2 : tie.Need-mul-cells-2 Inv-loop μ-loop
-mul-cells-2 c = search needs
-
-slice-write-cells : tie.Need-slice-write-cells Inv-loop μ-loop
-slice-write-cells c = search needs
-
-add-i : tie.Need-add-i Inv-loop μ-loop
-add-i c = search needs
-
-loop-less : tie.Need-loop-less Inv-loop μ-loop
-loop-less c = search needs
-
 loop-again : tie.Need-loop-again Inv-loop μ-loop
 loop-again c =
     let a = c .before .before .before .args in
@@ -45,9 +24,6 @@ loop-again c =
     let g : getD f (l .i) 0 ≡ getD (a .from .now) (l .i) 0 = getD-take (a .n) (a .from .now) (l .i) 0 (c .before .loop-test .taken) in
     let m : length f ≡ a .n = length-take-le (a .n) (a .from .now) (c .before .before .before .pre .1) in
     (search needs, simp length-set (search needs), rw (← g) (copy-next (l .cells) f _ (l .i) (l .i) (l .inv .2) _ (omega arith) (omega arith) (omega arith)))
-
-same-length : tie.Need-same-length Inv-loop μ-loop
-same-length c = search needs
 
 returns : tie.Need-returns Inv-loop μ-loop
 returns c =
@@ -61,15 +37,5 @@ pub copy-cells-spec : {M : Type 1} → statement M
 copy-cells-spec =
     tie.close
     (tie.spec
-    Inv-loop
-    μ-loop
-    loop-holds
-    mul-cells
-    shared-slice-read-cells
-    mul-cells-2
-    slice-write-cells
-    add-i
-    loop-less
-    loop-again
-    same-length
-    returns)
+    Inv-loop μ-loop (λ c. (search needs, refl, refl)) (λ c. search needs) (λ c. search needs) (λ c. search needs) (λ c. search needs)
+    (λ c. search needs) (λ c. search needs) loop-again (λ c. search needs) returns)

@@ -16,23 +16,11 @@ use Rattle.jobs.proofs.StageLaws.{delays-no, delays-then}
 use Rattle.jobs.proofs.job.load_delays.Statement.{statement}
 use Rattle.jobs.proofs.job.load_delays.Tie as tie
 
-slice-read-v : tie.Need-slice-read-v
-slice-read-v c = search needs
-
-slice-read-m : tie.Need-slice-read-m
-slice-read-m c = search needs
-
-add-k : tie.Need-add-k
-add-k c = search needs
-
 mul-a : tie.Need-mul-a
 mul-a c = omega (arith, runs-most (c .before .before .before .before .args .mem .now) (c .before .before .before .before .pre))
 
 add-a : tie.Need-add-a
 add-a c = omega (arith, runs-most (c .before .before .before .before .args .mem .now) (c .before .before .before .before .pre))
-
-slice-aggregate-read-rows : tie.Need-slice-aggregate-read-rows
-slice-aggregate-read-rows c = search needs
 
 mul-read-rows : tie.Need-mul-read-rows
 mul-read-rows c = omega (arith, runs-most (c .before .before .before .before .before .args .mem .now) (c .before .before .before .before .before .pre))
@@ -42,15 +30,6 @@ sub-read-rows c = omega (arith, runs-most (c .before .before .before .before .be
 
 part-read-rows-start : tie.Need-part-read-rows-start
 part-read-rows-start c = omega (arith, runs-most (c .before .before .before .before .before .args .mem .now) (c .before .before .before .before .before .pre))
-
-part-read-rows-end : tie.Need-part-read-rows-end
-part-read-rows-end c = search needs
-
-read-rows-requires : tie.Need-read-rows-requires
-read-rows-requires c κs = search needs
-
-enum-known-p : tie.Need-enum-known-p
-enum-known-p c = search needs
 
 load-edges-requires : tie.Need-load-edges-requires
 load-edges-requires c κs =
@@ -62,12 +41,6 @@ load-edges-requires c κs =
     let ys = read-rows .last .1 .1 .1 .1 .1 .1 .0 in
     let r = runs-most d pre in
     lent-headed d (putMid a (length d - a) d ys) ys a refl (read-rows .kept .1 .1 .1 .1 .1 .1 .0) (omega arith) (omega arith) pre
-
-enum-known-n : tie.Need-enum-known-n
-enum-known-n c = search needs
-
-same-length : tie.Need-same-length
-same-length c = search needs
 
 returns : tie.Need-returns
 returns c runs q =
@@ -87,9 +60,6 @@ returns c runs q =
     delays-then (jobHeadOf d) runs (drop at s) _ ds _ f (jobHeadOf x) (lent-head d x ys a refl (omega arith) (omega arith)) _
     (c .before .before .load-edges .ensures runs (map (drop 1) ds) (delays-in d x ys w runs q refl _ _ f))
 
-same-length-2 : tie.Need-same-length-2
-same-length-2 c = search needs
-
 returns-2 : tie.Need-returns-2
 returns-2 c runs q =
     let s = c .before .before .before .before .before .before .before .before .before .before .before .before .args .s .now in
@@ -103,21 +73,6 @@ pub load-delays-spec : {M : Type 1} → statement M
 load-delays-spec =
     tie.close
     (tie.spec
-    slice-read-v
-    slice-read-m
-    add-k
-    mul-a
-    add-a
-    slice-aggregate-read-rows
-    mul-read-rows
-    sub-read-rows
-    part-read-rows-start
-    part-read-rows-end
-    read-rows-requires
-    enum-known-p
-    load-edges-requires
-    enum-known-n
-    same-length
-    returns
-    same-length-2
-    returns-2)
+    (λ c. search needs) (λ c. search needs) (λ c. search needs) mul-a add-a (λ c. search needs) mul-read-rows sub-read-rows part-read-rows-start
+    (λ c. search needs) (λ c κs. search needs) (λ c. search needs) load-edges-requires (λ c. search needs) (λ c. search needs) returns
+    (λ c. search needs) returns-2)

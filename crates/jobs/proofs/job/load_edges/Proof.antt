@@ -13,20 +13,8 @@ use Rattle.jobs.proofs.StageLaws.{edges-within, edges-no, edges-closed}
 use Rattle.jobs.proofs.job.load_edges.Statement.{statement}
 use Rattle.jobs.proofs.job.load_edges.Tie as tie
 
-slice-read-v : tie.Need-slice-read-v
-slice-read-v c = omega (arith, c .before .before .before .pre .room)
-
-slice-read-m : tie.Need-slice-read-m
-slice-read-m c = omega (arith, c .before .before .before .before .pre .room)
-
-slice-read-e : tie.Need-slice-read-e
-slice-read-e c = omega (arith, c .before .before .before .before .before .pre .room)
-
 add-a : tie.Need-add-a
 add-a c = omega (arith, c .before .before .before .before .before .pre .tasks-most, c .before .before .before .before .before .pre .processors-most)
-
-add-a-2 : tie.Need-add-a-2
-add-a-2 c = omega (arith, c .before .before .before .before .before .pre .processors-most)
 
 mul-a : tie.Need-mul-a
 mul-a c = omega (arith, rows-most (c .before .before .before .before .before .args .mem .now) (c .before .before .before .before .before .pre))
@@ -43,15 +31,6 @@ sub-read-edges c = omega (arith, rows-most (c .before .before .before .before .b
 part-read-edges-start : tie.Need-part-read-edges-start
 part-read-edges-start c = omega (arith, rows-most (c .before .before .before .before .before .args .mem .now) (c .before .before .before .before .before .pre), c .before .before .before .before .before .pre .room)
 
-part-read-edges-end : tie.Need-part-read-edges-end
-part-read-edges-end c = search needs
-
-read-edges-requires : tie.Need-read-edges-requires
-read-edges-requires c κs = search needs
-
-enum-known-p : tie.Need-enum-known-p
-enum-known-p c = search needs
-
 add-end : tie.Need-add-end
 add-end c =
     let args = c .before .before .before .before .before .before .before .before .before .before .before .before .args in
@@ -63,12 +42,6 @@ mul-close c =
     let args = c .before .before .before .before .before .before .before .before .before .before .before .before .args in
     let pre = c .before .before .before .before .before .before .before .before .before .before .before .before .pre in
     omega (arith, rows-most (args .mem .now) pre)
-
-sub-close : tie.Need-sub-close
-sub-close c = search needs
-
-part-close-start : tie.Need-part-close-start
-part-close-start c = search needs
 
 part-close-end : tie.Need-part-close-end
 part-close-end c =
@@ -93,12 +66,6 @@ close-requires c κs =
       rw q (edges-within (nth d 0) (nth d 2) _ es _ (sym (read-edges .ensures ∙ edges-read d w (drop (args .at) s)) ∙ ap (told s es) (p .given .1))),
     )
 
-enum-known-n : tie.Need-enum-known-n
-enum-known-n c = search needs
-
-same-length : tie.Need-same-length
-same-length c = search needs
-
 returns : tie.Need-returns
 returns c runs delays q =
     let args = c .before .before .before .before .before .before .before .before .before .before .before .before .before .before .before .args in
@@ -114,9 +81,6 @@ returns c runs delays q =
     (edges-closed (jobHeadOf d) runs delays (drop (args .at) s) _ es s (p .given .0 .0) (sym (read-edges .ensures ∙ edges-read d pre (drop (args .at) s)) ∙ ap (told s es) (p .given .1))
     _ (edges-fit d _ ys pre refl l) (edges-in d _ ys pre refl l runs delays q))
 
-same-length-2 : tie.Need-same-length-2
-same-length-2 c = search needs
-
 returns-2 : tie.Need-returns-2
 returns-2 c runs delays q =
     let args = c .before .before .before .before .before .before .before .before .before .before .before .before .args in
@@ -131,27 +95,8 @@ pub load-edges-spec : {M : Type 1} → statement M
 load-edges-spec =
     tie.close
     (tie.spec
-    slice-read-v
-    slice-read-m
-    slice-read-e
-    add-a
-    add-a-2
-    mul-a
-    add-a-3
-    mul-read-edges
-    sub-read-edges
-    part-read-edges-start
-    part-read-edges-end
-    read-edges-requires
-    enum-known-p
-    add-end
-    mul-close
-    sub-close
-    part-close-start
-    part-close-end
-    close-requires
-    enum-known-n
-    same-length
-    returns
-    same-length-2
-    returns-2)
+    (λ c. omega (arith, c .before .before .before .pre .room)) (λ c. omega (arith, c .before .before .before .before .pre .room))
+    (λ c. omega (arith, c .before .before .before .before .before .pre .room)) add-a
+    (λ c. omega (arith, c .before .before .before .before .before .pre .processors-most)) mul-a add-a-3 mul-read-edges sub-read-edges
+    part-read-edges-start (λ c. search needs) (λ c κs. search needs) (λ c. search needs) add-end mul-close (λ c. search needs) (λ c. search needs)
+    part-close-end close-requires (λ c. search needs) (λ c. search needs) returns (λ c. search needs) returns-2)

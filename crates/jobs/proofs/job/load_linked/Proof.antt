@@ -12,9 +12,6 @@ use Rattle.jobs.proofs.job.load_linked.Tie as tie
 load-rest-requires : tie.Need-load-rest-requires
 load-rest-requires c κs = (c .before .before .before .pre .0, omega (arith, c .before .before .before .pre .1, c .before .before .before .pre .2 .2))
 
-enum-known-n : tie.Need-enum-known-n
-enum-known-n c = search needs
-
 link-edges-requires : tie.Need-link-edges-requires
 link-edges-requires c κs =
     let args = c .before .before .before .before .before .before .before .before .before .before .args in
@@ -22,12 +19,6 @@ link-edges-requires c κs =
     let load-rest = c .before .before .before .before .before .before .load-rest in
     rest-held (args .rooms) (headOf (args .head)) (drop (args .at) (args .s .now)) (load-rest .last .1 .1 .1 .0) _ (pre .0) (load-rest .kept .1 .1 .1 .0 ∙ pre .1) (pre .2)
     (rw (c .before .before .n .given .1) at (load-rest .ensures))
-
-enum-known-x : tie.Need-enum-known-x
-enum-known-x c = search needs
-
-same-length : tie.Need-same-length
-same-length c = search needs
 
 returns : tie.Need-returns
 returns c =
@@ -37,9 +28,6 @@ returns c =
     let n = c .before .before .before .before .before .n in
     rest-linked (args .rooms) (headOf (args .head)) (drop (args .at) (args .s .now)) (load-rest .last .1 .1 .1 .0) _ (pre .0) (load-rest .kept .1 .1 .1 .0 ∙ pre .1) (pre .2)
     (rw (n .given .1) at (load-rest .ensures)) _ (c .before .before .link-edges .ensures .0) (c .before .before .link-edges .ensures .1) (c .before .before .link-edges .ensures .2)
-
-same-length-2 : tie.Need-same-length-2
-same-length-2 c = search needs
 
 returns-2 : tie.Need-returns-2
 returns-2 c =
@@ -51,11 +39,4 @@ pub load-linked-spec : {M : Type 1} → statement M
 load-linked-spec =
     tie.close
     (tie.spec
-    load-rest-requires
-    enum-known-n
-    link-edges-requires
-    enum-known-x
-    same-length
-    returns
-    same-length-2
-    returns-2)
+    load-rest-requires (λ c. search needs) link-edges-requires (λ c. search needs) (λ c. search needs) returns (λ c. search needs) returns-2)

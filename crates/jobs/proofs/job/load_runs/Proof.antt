@@ -15,33 +15,6 @@ use Rattle.jobs.proofs.StageLaws.{runs-no, runs-then}
 use Rattle.jobs.proofs.job.load_runs.Statement.{statement}
 use Rattle.jobs.proofs.job.load_runs.Tie as tie
 
-slice-read-v : tie.Need-slice-read-v
-slice-read-v c = search needs
-
-slice-read-k : tie.Need-slice-read-k
-slice-read-k c = search needs
-
-add-k : tie.Need-add-k
-add-k c = search needs
-
-slice-aggregate-read-rows : tie.Need-slice-aggregate-read-rows
-slice-aggregate-read-rows c = search needs
-
-sub-read-rows : tie.Need-sub-read-rows
-sub-read-rows c = search needs
-
-part-read-rows-start : tie.Need-part-read-rows-start
-part-read-rows-start c = search needs
-
-part-read-rows-end : tie.Need-part-read-rows-end
-part-read-rows-end c = search needs
-
-read-rows-requires : tie.Need-read-rows-requires
-read-rows-requires c κs = search needs
-
-enum-known-p : tie.Need-enum-known-p
-enum-known-p c = search needs
-
 load-delays-requires : tie.Need-load-delays-requires
 load-delays-requires c κs =
     let args = c .before .before .before .before .before .before .before .before .before .before .before .before .before .args in
@@ -50,12 +23,6 @@ load-delays-requires c κs =
     let d = args .mem .now in
     let ys = read-rows .last .1 .1 .1 .1 .1 .1 .0 in
     lent-headed d (putMid 4 (length d - 4) d ys) ys 4 refl (read-rows .kept .1 .1 .1 .1 .1 .1 .0) (omega arith) (omega arith) pre
-
-enum-known-n : tie.Need-enum-known-n
-enum-known-n c = search needs
-
-same-length : tie.Need-same-length
-same-length c = search needs
 
 returns : tie.Need-returns
 returns c =
@@ -73,9 +40,6 @@ returns c =
     runs-then (jobHeadOf d) (drop at s) _ rs _ f (jobHeadOf x) (lent-head d x ys 4 refl (omega arith) (omega arith)) _
     (c .before .before .load-delays .ensures (map (drop 1) rs) (runs-in d x ys w refl _ _ f))
 
-same-length-2 : tie.Need-same-length-2
-same-length-2 c = search needs
-
 returns-2 : tie.Need-returns-2
 returns-2 c =
     let s = c .before .before .before .before .before .before .before .before .before .before .before .before .args .s .now in
@@ -89,18 +53,5 @@ pub load-runs-spec : {M : Type 1} → statement M
 load-runs-spec =
     tie.close
     (tie.spec
-    slice-read-v
-    slice-read-k
-    add-k
-    slice-aggregate-read-rows
-    sub-read-rows
-    part-read-rows-start
-    part-read-rows-end
-    read-rows-requires
-    enum-known-p
-    load-delays-requires
-    enum-known-n
-    same-length
-    returns
-    same-length-2
-    returns-2)
+    (λ c. search needs) (λ c. search needs) (λ c. search needs) (λ c. search needs) (λ c. search needs) (λ c. search needs) (λ c. search needs)
+    (λ c κs. search needs) (λ c. search needs) load-delays-requires (λ c. search needs) (λ c. search needs) returns (λ c. search needs) returns-2)

@@ -15,9 +15,6 @@ Inv-loop mem₀ rooms e g i₀ mem i = (i ≤ e) × JobHeld rooms mem₀ × Layi
 abbrev μ-loop : tie.MeasureT-loop
 μ-loop mem₀ rooms e g i₀ mem i = e - i
 
-clear-heads-requires : tie.Need-clear-heads-requires Inv-loop μ-loop
-clear-heads-requires c κs = c .before .before .pre .size
-
 slice-read-e : tie.Need-slice-read-e Inv-loop μ-loop
 slice-read-e c = omega (arith, sizes (held-kept (c .before .before .before .before .before .before .pre) (c .before .before .before .clear-heads .ensures .0) (omega arith)) .size)
 
@@ -34,27 +31,6 @@ loop-holds c =
     let clear-heads = c .before .before .before .before .before .clear-heads in
     (omega arith, held-kept pre (clear-heads .ensures .0) (omega arith), laying-none _ (clear-heads .ensures .1))
 
-add-c : tie.Need-add-c Inv-loop μ-loop
-add-c c = search needs
-
-mul-c : tie.Need-mul-c Inv-loop μ-loop
-mul-c c = search needs
-
-slice-read-c : tie.Need-slice-read-c Inv-loop μ-loop
-slice-read-c c = search needs
-
-mul-put-in-front : tie.Need-mul-put-in-front Inv-loop μ-loop
-mul-put-in-front c = search needs
-
-add-put-in-front : tie.Need-add-put-in-front Inv-loop μ-loop
-add-put-in-front c = search needs
-
-mul-put-in-front-2 : tie.Need-mul-put-in-front-2 Inv-loop μ-loop
-mul-put-in-front-2 c = search needs
-
-add-put-in-front-2 : tie.Need-add-put-in-front-2 Inv-loop μ-loop
-add-put-in-front-2 c = search needs
-
 put-in-front-requires : tie.Need-put-in-front-requires Inv-loop μ-loop
 put-in-front-requires c κs =
     let clear-heads = c .before .before .before .before .before .before .before .before .before .clear-heads in
@@ -62,18 +38,6 @@ put-in-front-requires c κs =
     let l = c .before .before .before .loop in
     let p = places (l .inv .1) (l .i) _ (c .before .before .loop-test .taken) (cell (clear-heads .last .0) (l .mem) (edges-at .result) (l .i) (edges-at .ensures)) (l .inv .2) in
     (p .in-head, p .in-next, p .few)
-
-mul-put-in-front-3 : tie.Need-mul-put-in-front-3 Inv-loop μ-loop
-mul-put-in-front-3 c = search needs
-
-add-put-in-front-3 : tie.Need-add-put-in-front-3 Inv-loop μ-loop
-add-put-in-front-3 c = search needs
-
-mul-put-in-front-4 : tie.Need-mul-put-in-front-4 Inv-loop μ-loop
-mul-put-in-front-4 c = search needs
-
-add-put-in-front-4 : tie.Need-add-put-in-front-4 Inv-loop μ-loop
-add-put-in-front-4 c = search needs
 
 put-in-front-requires-2 : tie.Need-put-in-front-requires-2 Inv-loop μ-loop
 put-in-front-requires-2 c κs =
@@ -84,12 +48,6 @@ put-in-front-requires-2 c κs =
     let put-in-front = c .before .before .before .put-in-front in
     let p = places (l .inv .1) (l .i) _ (loop-test .taken) (cell (clear-heads .last .0) (l .mem) (edges-at .result) (l .i) (edges-at .ensures)) (l .inv .2) in
     (omega (arith, p .out-head, put-in-front .kept .0), omega (arith, p .out-next, put-in-front .kept .0), p .few)
-
-add-i : tie.Need-add-i Inv-loop μ-loop
-add-i c = search needs
-
-loop-less : tie.Need-loop-less Inv-loop μ-loop
-loop-less c = search needs
 
 loop-again : tie.Need-loop-again Inv-loop μ-loop
 loop-again c =
@@ -105,9 +63,6 @@ loop-again c =
           (laying-next (l .inv .1) (l .i) _ (loop-test .taken) (cell (clear-heads .last .0) (l .mem) (edges-at .result) (l .i) (edges-at .ensures)) (l .inv .2)),
     )
 
-same-length : tie.Need-same-length Inv-loop μ-loop
-same-length c = search needs
-
 returns : tie.Need-returns Inv-loop μ-loop
 returns c = let l = c .before .loop in
     let (into, out) = laying-done (l .inv .1) (l .i) (omega (arith, l .inv .0, c .loop-test .left)) (l .inv .2) in
@@ -117,27 +72,7 @@ pub link-edges-spec : {M : Type 1} → statement M
 link-edges-spec =
     tie.close
     (tie.spec
-    Inv-loop
-    μ-loop
-    clear-heads-requires
-    slice-read-e
-    edges-at-requires
-    loop-holds
-    add-c
-    mul-c
-    slice-read-c
-    mul-put-in-front
-    add-put-in-front
-    mul-put-in-front-2
-    add-put-in-front-2
-    put-in-front-requires
-    mul-put-in-front-3
-    add-put-in-front-3
-    mul-put-in-front-4
-    add-put-in-front-4
-    put-in-front-requires-2
-    add-i
-    loop-less
-    loop-again
-    same-length
-    returns)
+    Inv-loop μ-loop (λ c κs. c .before .before .pre .size) slice-read-e edges-at-requires loop-holds (λ c. search needs) (λ c. search needs)
+    (λ c. search needs) (λ c. search needs) (λ c. search needs) (λ c. search needs) (λ c. search needs) put-in-front-requires (λ c. search needs)
+    (λ c. search needs) (λ c. search needs) (λ c. search needs) put-in-front-requires-2 (λ c. search needs) (λ c. search needs) loop-again
+    (λ c. search needs) returns)

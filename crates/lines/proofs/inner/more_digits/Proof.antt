@@ -14,21 +14,6 @@ Inv-loop s at first acc₀ i₀ acc i = (i ≤ 10) × (acc < 10 ^ i) × (digits 
 abbrev μ-loop : tie.MeasureT-loop
 μ-loop s at first acc₀ i₀ acc i = 10 - i
 
-loop-holds : tie.Need-loop-holds Inv-loop μ-loop
-loop-holds c = (search needs, search needs, refl)
-
-add-digit : tie.Need-add-digit Inv-loop μ-loop
-add-digit c = search needs
-
-shared-slice-read-digit : tie.Need-shared-slice-read-digit Inv-loop μ-loop
-shared-slice-read-digit c = search needs
-
-digit-requires : tie.Need-digit-requires Inv-loop μ-loop
-digit-requires c κs = search needs
-
-add-t11 : tie.Need-add-t11 Inv-loop μ-loop
-add-t11 c = search needs
-
 returns : tie.Need-returns Inv-loop μ-loop
 returns c =
     let l = c .before .before .before .before .loop in
@@ -40,12 +25,6 @@ mul-acc c = omega (arith, value-small _ _ (c .before .before .before .before .lo
 add-acc : tie.Need-add-acc Inv-loop μ-loop
 add-acc c = omega (arith, c .if1 .left, value-small _ _ (c .before .before .before .before .loop .inv .0) (c .before .before .before .before .loop .inv .1))
 
-add-i : tie.Need-add-i Inv-loop μ-loop
-add-i c = search needs
-
-loop-less : tie.Need-loop-less Inv-loop μ-loop
-loop-less c = search needs
-
 loop-again : tie.Need-loop-again Inv-loop μ-loop
 loop-again c =
     let l = c .before .before .before .before .loop in
@@ -53,22 +32,10 @@ loop-again c =
     let d = c .if1 .left in
     (omega (arith, h), value-ten _ _ _ (l .inv .1) d, inner-next _ _ _ _ (c .before .before .before .before .before .before .pre .0) (l .inv .0) _ h (c .before .digit .ensures .0 d) ∙ l .inv .2)
 
-add-digit-2 : tie.Need-add-digit-2 Inv-loop μ-loop
-add-digit-2 c = search needs
-
-shared-slice-read-digit-2 : tie.Need-shared-slice-read-digit-2 Inv-loop μ-loop
-shared-slice-read-digit-2 c = search needs
-
-digit-requires-2 : tie.Need-digit-requires-2 Inv-loop μ-loop
-digit-requires-2 c κs = search needs
-
 returns-2 : tie.Need-returns-2 Inv-loop μ-loop
 returns-2 c =
     let l = c .before .before .before .before .loop in
     (inner-full _ _ _ _ (c .before .before .before .before .before .before .pre .0) (l .inv .0) (c .before .before .before .loop-test .left) (c .before .digit2 .ensures .0 (c .if2 .taken) .0) ∙ l .inv .2, tt)
-
-add-t14 : tie.Need-add-t14 Inv-loop μ-loop
-add-t14 c = search needs
 
 returns-3 : tie.Need-returns-3 Inv-loop μ-loop
 returns-3 c =
@@ -79,22 +46,6 @@ pub more-digits-spec : {M : Type 1} → statement M
 more-digits-spec =
     tie.close
     (tie.spec
-    Inv-loop
-    μ-loop
-    loop-holds
-    add-digit
-    shared-slice-read-digit
-    digit-requires
-    add-t11
-    returns
-    mul-acc
-    add-acc
-    add-i
-    loop-less
-    loop-again
-    add-digit-2
-    shared-slice-read-digit-2
-    digit-requires-2
-    returns-2
-    add-t14
-    returns-3)
+    Inv-loop μ-loop (λ c. (search needs, search needs, refl)) (λ c. search needs) (λ c. search needs) (λ c κs. search needs) (λ c. search needs)
+    returns mul-acc add-acc (λ c. search needs) (λ c. search needs) loop-again (λ c. search needs) (λ c. search needs) (λ c κs. search needs)
+    returns-2 (λ c. search needs) returns-3)

@@ -4,39 +4,18 @@ use Rattle.text.proofs.Reading.{inner-no, inner-more, inner-zeros, inner-zero}
 use Rattle.lines.proofs.inner.read_number.Statement.{statement}
 use Rattle.lines.proofs.inner.read_number.Tie as tie
 
-shared-slice-read-digit : tie.Need-shared-slice-read-digit
-shared-slice-read-digit c = search needs
-
-digit-requires : tie.Need-digit-requires
-digit-requires c κs = search needs
-
 returns : tie.Need-returns
 returns c = (inner-no _ _ (c .before .before .before .before .pre) (c .before .digit .ensures .1 (c .if1 .taken)), tt)
-
-more-digits-requires : tie.Need-more-digits-requires
-more-digits-requires c κs = search needs
 
 returns-2 : tie.Need-returns-2
 returns-2 c =
     let t = c .before .before .before .digit .ensures .0 (c .before .before .if1 .left) in
     (c .more-digits .ensures .0 ∙ inner-more _ _ (c .before .before .before .before .before .before .pre) _ t (c .before .if2 .taken), c .more-digits .ensures .1)
 
-add-digit : tie.Need-add-digit
-add-digit c = search needs
-
-shared-slice-read-digit-2 : tie.Need-shared-slice-read-digit-2
-shared-slice-read-digit-2 c = search needs
-
-digit-requires-2 : tie.Need-digit-requires-2
-digit-requires-2 c κs = search needs
-
 returns-3 : tie.Need-returns-3
 returns-3 c =
     let t = c .before .before .before .before .before .digit .ensures .0 (c .before .before .before .before .if1 .left) in
     (inner-zeros _ _ (c .before .before .before .before .before .before .before .before .pre) _ t (c .before .before .before .if2 .left) (c .before .digit2 .ensures .0 (c .if3 .taken) .0), tt)
-
-add-t8 : tie.Need-add-t8
-add-t8 c = search needs
 
 returns-4 : tie.Need-returns-4
 returns-4 c =
@@ -47,14 +26,5 @@ pub read-number-spec : {M : Type 1} → statement M
 read-number-spec =
     tie.close
     (tie.spec
-    shared-slice-read-digit
-    digit-requires
-    returns
-    more-digits-requires
-    returns-2
-    add-digit
-    shared-slice-read-digit-2
-    digit-requires-2
-    returns-3
-    add-t8
-    returns-4)
+    (λ c. search needs) (λ c κs. search needs) returns (λ c κs. search needs) returns-2 (λ c. search needs) (λ c. search needs) (λ c κs. search needs)
+    returns-3 (λ c. search needs) returns-4)

@@ -19,35 +19,11 @@ Inv-loop s at k vals₀ end i₀ p₀ vals i p =
 abbrev μ-loop : tie.MeasureT-loop
 μ-loop s at k vals₀ end i₀ p₀ vals i p = k - i
 
-end-of-requires : tie.Need-end-of-requires Inv-loop μ-loop
-end-of-requires c κs = search needs
-
-loop-holds : tie.Need-loop-holds Inv-loop μ-loop
-loop-holds c = (search needs, refl, rw sub-zero (after-none _), refl)
-
-read-last-requires : tie.Need-read-last-requires Inv-loop μ-loop
-read-last-requires c κs = search needs
-
-same-length : tie.Need-same-length Inv-loop μ-loop
-same-length c = search needs
-
 returns : tie.Need-returns Inv-loop μ-loop
 returns c = (
   c .before .before .read-last .ensures .0 ∙ c .before .before .before .before .before .before .loop .inv .2,
   c .before .before .read-last .ensures .1 ∙ c .before .before .before .before .before .before .loop .inv .3,
 )
-
-read-number-requires : tie.Need-read-number-requires Inv-loop μ-loop
-read-number-requires c κs = search needs
-
-enum-known-v : tie.Need-enum-known-v Inv-loop μ-loop
-enum-known-v c = search needs
-
-enum-told : tie.Need-enum-told Inv-loop μ-loop
-enum-told c = search needs
-
-same-length-2 : tie.Need-same-length-2 Inv-loop μ-loop
-same-length-2 c = search needs
 
 returns-2 : tie.Need-returns-2 Inv-loop μ-loop
 returns-2 c =
@@ -56,29 +32,11 @@ returns-2 c =
     let e = sym (c .before .before .read-number .ensures .0) ∙ ap (numberTold s) (c .enum-told .given .1) in
     (numbers-bad document01 s (take (l .i) (l .vals)) _ (l .i) (l .p) (c .before .before .before .before .loop-test .taken) e ∙ l .inv .2, l .inv .3)
 
-mul-vals : tie.Need-mul-vals Inv-loop μ-loop
-mul-vals c = search needs
-
-slice-write-vals : tie.Need-slice-write-vals Inv-loop μ-loop
-slice-write-vals c = search needs
-
-add-i : tie.Need-add-i Inv-loop μ-loop
-add-i c = search needs
-
 shared-slice-read-if2 : tie.Need-shared-slice-read-if2 Inv-loop μ-loop
 shared-slice-read-if2 c =
     let s = c .before .before .before .before .before .before .before .before .before .before .before .args .s .now in
     let w = c .before .before .before .before .before .before .before .before .end-of .ensures in
     inner-place s _ _ _ _ _ w (c .before .before .before .before .before .if1 .left) (c .before .before .before .before .read-number .ensures .1) (c .before .before .v .given .1)
-
-sub-mark-after : tie.Need-sub-mark-after Inv-loop μ-loop
-sub-mark-after c = search needs
-
-mark-after-requires : tie.Need-mark-after-requires Inv-loop μ-loop
-mark-after-requires c κs = search needs
-
-same-length-3 : tie.Need-same-length-3 Inv-loop μ-loop
-same-length-3 c = search needs
 
 returns-3 : tie.Need-returns-3 Inv-loop μ-loop
 returns-3 c =
@@ -99,9 +57,6 @@ add-p c =
     let i = c .before .before .before .before .before .before .before .if1 .left in
     omega (arith, inner-place s _ _ _ _ _ w i (c .before .before .before .before .before .before .read-number .ensures .1) (c .before .before .before .before .v .given .1))
 
-loop-less : tie.Need-loop-less Inv-loop μ-loop
-loop-less c = search needs
-
 loop-again : tie.Need-loop-again Inv-loop μ-loop
 loop-again c =
     let s = c .before .before .before .before .before .before .before .before .before .before .before .before .before .args .s .now in
@@ -119,9 +74,6 @@ loop-again c =
       drop-set-lt _ (l .vals) (l .i) _ h ∙ l .inv .3,
     )
 
-same-length-4 : tie.Need-same-length-4 Inv-loop μ-loop
-same-length-4 c = search needs
-
 returns-4 : tie.Need-returns-4 Inv-loop μ-loop
 returns-4 c =
     let s = c .before .before .before .before .before .args .s .now in
@@ -134,28 +86,7 @@ pub read-numbers-spec : {M : Type 1} → statement M
 read-numbers-spec =
     tie.close
     (tie.spec
-    Inv-loop
-    μ-loop
-    end-of-requires
-    loop-holds
-    read-last-requires
-    same-length
-    returns
-    read-number-requires
-    enum-known-v
-    enum-told
-    same-length-2
-    returns-2
-    mul-vals
-    slice-write-vals
-    add-i
-    shared-slice-read-if2
-    sub-mark-after
-    mark-after-requires
-    same-length-3
-    returns-3
-    add-p
-    loop-less
-    loop-again
-    same-length-4
-    returns-4)
+    Inv-loop μ-loop (λ c κs. search needs) (λ c. (search needs, refl, rw sub-zero (after-none _), refl)) (λ c κs. search needs) (λ c. search needs)
+    returns (λ c κs. search needs) (λ c. search needs) (λ c. search needs) (λ c. search needs) returns-2 (λ c. search needs) (λ c. search needs)
+    (λ c. search needs) shared-slice-read-if2 (λ c. search needs) (λ c κs. search needs) (λ c. search needs) returns-3 add-p (λ c. search needs)
+    loop-again (λ c. search needs) returns-4)

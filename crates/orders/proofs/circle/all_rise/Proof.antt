@@ -15,26 +15,11 @@ Inv-loop edges i₀ i = (i ≤ length edges) × (all rises (drop i edges) ≡ al
 abbrev μ-loop : tie.MeasureT-loop
 μ-loop edges i₀ i = length edges - i
 
-loop-holds : tie.Need-loop-holds Inv-loop μ-loop
-loop-holds c = (search needs, refl)
-
-mul-c : tie.Need-mul-c Inv-loop μ-loop
-mul-c c = search needs
-
-shared-slice-read-c : tie.Need-shared-slice-read-c Inv-loop μ-loop
-shared-slice-read-c c = search needs
-
 returns : tie.Need-returns Inv-loop μ-loop
 returns c =
     let s = c .before .before .before .before .args .edges .now in
     let l = c .before .before .before .loop in
     sym (all-drop rises s (l .i) 0 (c .before .before .loop-test .taken) ∙ rw (le-ltb _ _ (c .if1 .taken))) ∙ l .inv .1
-
-add-i : tie.Need-add-i Inv-loop μ-loop
-add-i c = search needs
-
-loop-less : tie.Need-loop-less Inv-loop μ-loop
-loop-less c = search needs
 
 loop-again : tie.Need-loop-again Inv-loop μ-loop
 loop-again c =
@@ -52,13 +37,5 @@ pub all-rise-spec : {M : Type 1} → statement M
 all-rise-spec =
     tie.close
     (tie.spec
-    Inv-loop
-    μ-loop
-    loop-holds
-    mul-c
-    shared-slice-read-c
-    returns
-    add-i
-    loop-less
-    loop-again
+    Inv-loop μ-loop (λ c. (search needs, refl)) (λ c. search needs) (λ c. search needs) returns (λ c. search needs) (λ c. search needs) loop-again
     returns-2)

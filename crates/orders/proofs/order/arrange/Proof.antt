@@ -31,9 +31,6 @@ list-entries-requires c κs =
     let pre = c .before .before .before .before .before .before .before .pre in
     (pre .0, c .before .before .link .ensures .1, pre .3, c .before .before .link .ensures .2)
 
-loop-holds : tie.Need-loop-holds Inv-loop μ-loop
-loop-holds c = (c .before .before .before .link .ensures .0, c .list-entries .ensures)
-
 unblock-requires : tie.Need-unblock-requires Inv-loop μ-loop
 unblock-requires c κs =
     let pre = c .before .before .before .before .before .before .before .before .before .before .before .before .before .before .pre in
@@ -51,9 +48,6 @@ add-i c =
 loop-less : tie.Need-loop-less Inv-loop μ-loop
 loop-less c = omega (arith, queue-most (c .before .before .before .before .before .before .loop .inv .1 .queue), c .before .before .before .before .before .loop-test .taken)
 
-loop-again : tie.Need-loop-again Inv-loop μ-loop
-loop-again c = (c .before .before .before .before .before .before .loop .inv .0, c .unblock .ensures)
-
 returns : tie.Need-returns Inv-loop μ-loop
 returns c =
     let l = c .before .loop in
@@ -64,13 +58,5 @@ pub arrange-spec : {M : Type 1} → statement M
 arrange-spec =
     tie.close
     (tie.spec
-    Inv-loop
-    μ-loop
-    link-requires
-    list-entries-requires
-    loop-holds
-    unblock-requires
-    add-i
-    loop-less
-    loop-again
-    returns)
+    Inv-loop μ-loop link-requires list-entries-requires (λ c. (c .before .before .before .link .ensures .0, c .list-entries .ensures))
+    unblock-requires add-i loop-less (λ c. (c .before .before .before .before .before .before .loop .inv .0, c .unblock .ensures)) returns)

@@ -25,57 +25,12 @@ loop-holds : tie.Need-loop-holds Inv-loop μ-loop
 unfolding entering
 loop-holds c = (search needs, c .pre .1, c .pre .2, c .pre .3, linked-none (c .args .edges .now) (λ t h. c .pre .4 t h .0), λ u h. c .pre .4 u h .1)
 
-mul-c : tie.Need-mul-c Inv-loop μ-loop
-mul-c c = search needs
-
-shared-slice-read-c : tie.Need-shared-slice-read-c Inv-loop μ-loop
-shared-slice-read-c c = search needs
-
-mul-next : tie.Need-mul-next Inv-loop μ-loop
-mul-next c = search needs
-
-element-copy-out-next : tie.Need-element-copy-out-next Inv-loop μ-loop
-element-copy-out-next c = search needs
-
-mul-next-2 : tie.Need-mul-next-2 Inv-loop μ-loop
-mul-next-2 c = search needs
-
-element-write-next : tie.Need-element-write-next Inv-loop μ-loop
-element-write-next c = search needs
-
-add-first : tie.Need-add-first Inv-loop μ-loop
-add-first c = search needs
-
-cast-first : tie.Need-cast-first Inv-loop μ-loop
-cast-first c = search needs
-
-mul-first : tie.Need-mul-first Inv-loop μ-loop
-mul-first c = search needs
-
-element-write-first : tie.Need-element-write-first Inv-loop μ-loop
-element-write-first c = search needs
-
-mul-blocked : tie.Need-mul-blocked Inv-loop μ-loop
-mul-blocked c = search needs
-
-element-copy-out-blocked : tie.Need-element-copy-out-blocked Inv-loop μ-loop
-element-copy-out-blocked c = search needs
-
 add-blocked : tie.Need-add-blocked Inv-loop μ-loop
 add-blocked c =
     let args = c .before .before .before .before .before .args in
     let pre = c .before .before .before .before .before .pre in
     let l = c .before .before .before .before .loop in
     omega (arith, counted-most (args .edges .now) (l .blocked) (l .i) (l .inv .5) (toOf (args .edges .now) (l .i)) (mod-lt _ (omega arith)), l .inv .0, pre .0)
-
-element-write-blocked : tie.Need-element-write-blocked Inv-loop μ-loop
-element-write-blocked c = search needs
-
-add-i : tie.Need-add-i Inv-loop μ-loop
-add-i c = search needs
-
-loop-less : tie.Need-loop-less Inv-loop μ-loop
-loop-less c = search needs
 
 loop-again : tie.Need-loop-again Inv-loop μ-loop
 loop-again c =
@@ -103,24 +58,6 @@ pub link-spec : {M : Type 1} → statement M
 link-spec =
     tie.close
     (tie.spec
-    Inv-loop
-    μ-loop
-    loop-holds
-    mul-c
-    shared-slice-read-c
-    mul-next
-    element-copy-out-next
-    mul-next-2
-    element-write-next
-    add-first
-    cast-first
-    mul-first
-    element-write-first
-    mul-blocked
-    element-copy-out-blocked
-    add-blocked
-    element-write-blocked
-    add-i
-    loop-less
-    loop-again
-    returns)
+    Inv-loop μ-loop loop-holds (λ c. search needs) (λ c. search needs) (λ c. search needs) (λ c. search needs) (λ c. search needs) (λ c. search needs)
+    (λ c. search needs) (λ c. search needs) (λ c. search needs) (λ c. search needs) (λ c. search needs) (λ c. search needs) add-blocked
+    (λ c. search needs) (λ c. search needs) (λ c. search needs) loop-again returns)

@@ -18,29 +18,11 @@ Inv-loop edges v blocked order₀ n₀ t₀ order n t = (t ≤ v) × (length ord
 abbrev μ-loop : tie.MeasureT-loop
 μ-loop edges v blocked order₀ n₀ t₀ order n t = v - t
 
-loop-holds : tie.Need-loop-holds Inv-loop μ-loop
-loop-holds c = (search needs, c .pre .2, queue-none)
-
-mul-if1 : tie.Need-mul-if1 Inv-loop μ-loop
-mul-if1 c = search needs
-
-element-copy-out-if1 : tie.Need-element-copy-out-if1 Inv-loop μ-loop
-element-copy-out-if1 c = search needs
-
-cast-order : tie.Need-cast-order Inv-loop μ-loop
-cast-order c = search needs
-
 element-write-order : tie.Need-element-write-order Inv-loop μ-loop
 element-write-order c = omega (arith, queue-most (c .before .before .before .loop .inv .2), c .before .before .loop-test .taken, c .before .before .before .before .pre .0)
 
 add-n : tie.Need-add-n Inv-loop μ-loop
 add-n c = omega (arith, queue-most (c .before .before .before .loop .inv .2), c .before .before .loop-test .taken, c .before .before .before .before .pre .0)
-
-add-t : tie.Need-add-t Inv-loop μ-loop
-add-t c = search needs
-
-loop-less : tie.Need-loop-less Inv-loop μ-loop
-loop-less c = omega (arith, c .before .before .loop-test .taken)
 
 loop-again : tie.Need-loop-again Inv-loop μ-loop
 loop-again c =
@@ -66,15 +48,5 @@ pub list-entries-spec : {M : Type 1} → statement M
 list-entries-spec =
     tie.close
     (tie.spec
-    Inv-loop
-    μ-loop
-    loop-holds
-    mul-if1
-    element-copy-out-if1
-    cast-order
-    element-write-order
-    add-n
-    add-t
-    loop-less
-    loop-again
-    returns)
+    Inv-loop μ-loop (λ c. (search needs, c .pre .2, queue-none)) (λ c. search needs) (λ c. search needs) (λ c. search needs) element-write-order add-n
+    (λ c. search needs) (λ c. omega (arith, c .before .before .loop-test .taken)) loop-again returns)

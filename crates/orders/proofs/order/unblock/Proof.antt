@@ -28,18 +28,6 @@ abbrev μ-loop : tie.MeasureT-loop
 task-below : {v : ℕ} {cells : List ℕ} {i n : ℕ} {blocked order : List ℕ} → Sorting v cells i n blocked order → i < n → nth order i < v
 task-below {i = i} {n} {order = order} s h = s .queue .task-of (nth order i) (place-listed order n i h)
 
-element-copy-out-t : tie.Need-element-copy-out-t Inv-loop μ-loop
-element-copy-out-t c = omega (arith, queue-most (c .pre .4 .queue), c .pre .5, c .pre .0)
-
-cast-t : tie.Need-cast-t Inv-loop μ-loop
-cast-t c = omega (arith, task-below (c .before .pre .4) (c .before .pre .5), c .before .pre .0)
-
-mul-k : tie.Need-mul-k Inv-loop μ-loop
-mul-k c = omega (arith, task-below (c .before .pre .4) (c .before .pre .5), c .before .pre .0)
-
-element-copy-out-k : tie.Need-element-copy-out-k Inv-loop μ-loop
-element-copy-out-k c = omega (arith, task-below (c .before .pre .4) (c .before .pre .5), c .before .pre .0)
-
 cast-k : tie.Need-cast-k Inv-loop μ-loop
 cast-k c =
     let b = task-below (c .before .before .pre .4) (c .before .before .pre .5) in
@@ -50,47 +38,14 @@ loop-holds : tie.Need-loop-holds Inv-loop μ-loop
 loop-holds c =
     releasing-first (c .before .before .pre .3) (c .before .before .pre .4) (c .before .before .pre .5) (omega (arith, task-below (c .before .before .pre .4) (c .before .before .pre .5), c .before .before .pre .0))
 
-sub-u : tie.Need-sub-u Inv-loop μ-loop
-sub-u c = search needs
-
-mul-u : tie.Need-mul-u Inv-loop μ-loop
-mul-u c = search needs
-
-shared-slice-read-u : tie.Need-shared-slice-read-u Inv-loop μ-loop
-shared-slice-read-u c = search needs
-
-mul-b : tie.Need-mul-b Inv-loop μ-loop
-mul-b c = search needs
-
-element-copy-out-b : tie.Need-element-copy-out-b Inv-loop μ-loop
-element-copy-out-b c = search needs
-
 sub-b : tie.Need-sub-b Inv-loop μ-loop
 sub-b c = let l = c .before .before .before .loop in omega (arith, releasing-least (c .before .before .before .before .before .before .pre .3) (l .inv) (l .k - 1) (omega (arith, c .before .before .loop-test .taken)))
-
-mul-blocked : tie.Need-mul-blocked Inv-loop μ-loop
-mul-blocked c = search needs
-
-element-write-blocked : tie.Need-element-write-blocked Inv-loop μ-loop
-element-write-blocked c = search needs
-
-cast-order : tie.Need-cast-order Inv-loop μ-loop
-cast-order c = search needs
 
 element-write-order : tie.Need-element-write-order Inv-loop μ-loop
 element-write-order c = omega (arith, queue-most (c .before .before .before .before .loop .inv .queue), c .before .before .before .before .before .before .before .pre .0)
 
 add-count : tie.Need-add-count Inv-loop μ-loop
 add-count c = omega (arith, queue-most (c .before .before .before .before .loop .inv .queue), c .before .before .before .before .before .before .before .pre .0)
-
-sub-k : tie.Need-sub-k Inv-loop μ-loop
-sub-k c = search needs
-
-mul-k-2 : tie.Need-mul-k-2 Inv-loop μ-loop
-mul-k-2 c = search needs
-
-element-copy-out-k-2 : tie.Need-element-copy-out-k-2 Inv-loop μ-loop
-element-copy-out-k-2 c = search needs
 
 cast-k-2 : tie.Need-cast-k-2 Inv-loop μ-loop
 cast-k-2 c =
@@ -131,29 +86,9 @@ pub unblock-spec : {M : Type 1} → statement M
 unblock-spec =
     tie.close
     (tie.spec
-    Inv-loop
-    μ-loop
-    element-copy-out-t
-    cast-t
-    mul-k
-    element-copy-out-k
-    cast-k
-    loop-holds
-    sub-u
-    mul-u
-    shared-slice-read-u
-    mul-b
-    element-copy-out-b
-    sub-b
-    mul-blocked
-    element-write-blocked
-    cast-order
-    element-write-order
-    add-count
-    sub-k
-    mul-k-2
-    element-copy-out-k-2
-    cast-k-2
-    loop-less
-    loop-again
-    returns)
+    Inv-loop μ-loop (λ c. omega (arith, queue-most (c .pre .4 .queue), c .pre .5, c .pre .0))
+    (λ c. omega (arith, task-below (c .before .pre .4) (c .before .pre .5), c .before .pre .0))
+    (λ c. omega (arith, task-below (c .before .pre .4) (c .before .pre .5), c .before .pre .0))
+    (λ c. omega (arith, task-below (c .before .pre .4) (c .before .pre .5), c .before .pre .0)) cast-k loop-holds (λ c. search needs)
+    (λ c. search needs) (λ c. search needs) (λ c. search needs) (λ c. search needs) sub-b (λ c. search needs) (λ c. search needs) (λ c. search needs)
+    element-write-order add-count (λ c. search needs) (λ c. search needs) (λ c. search needs) cast-k-2 loop-less loop-again returns)

@@ -9,31 +9,10 @@ use Rattle.plans.proofs.plans.check_head.Reads as reads
 use Rattle.plans.proofs.plans.check_head.Lts as lts
 use Rattle.plans.proofs.plans.head_strays.Reads as head-strays-reads
 
-shared-slice-read-tasks : tie.Need-shared-slice-read-tasks
-shared-slice-read-tasks c = search needs
-
-shared-slice-read-processors : tie.Need-shared-slice-read-processors
-shared-slice-read-processors c = search needs
-
-shared-slice-read-losses : tie.Need-shared-slice-read-losses
-shared-slice-read-losses c = search needs
-
-shared-slice-read-head-strays : tie.Need-shared-slice-read-head-strays
-shared-slice-read-head-strays c = search needs
-
-shared-slice-read-head-strays-2 : tie.Need-shared-slice-read-head-strays-2
-shared-slice-read-head-strays-2 c = search needs
-
-head-strays-requires : tie.Need-head-strays-requires
-head-strays-requires c κs = search needs
-
 returns : tie.Need-returns
 returns c =
     let args = c .before .before .before .before .before .before .before .before .before .args in
     head-range (args .mem .now) (planHeadOf (args .head .now)) (sym (c .if1 .taken) ∙ c .before .head-strays .ensures)
-
-shared-slice-read-if2 : tie.Need-shared-slice-read-if2
-shared-slice-read-if2 c = search needs
 
 returns-2 : tie.Need-returns-2
 returns-2 c =
@@ -41,18 +20,12 @@ returns-2 c =
     let head-strays = c .before .before .before .head-strays in
     head-tasks (args .mem .now) (planHeadOf (args .head .now)) (sym (c .before .before .if1 .left) ∙ head-strays .ensures) (c .if2 .taken)
 
-shared-slice-read-if3 : tie.Need-shared-slice-read-if3
-shared-slice-read-if3 c = search needs
-
 returns-3 : tie.Need-returns-3
 returns-3 c =
     let args = c .before .before .before .before .before .before .before .before .before .before .before .before .before .args in
     let head-strays = c .before .before .before .before .before .head-strays in
     let if1 = c .before .before .before .before .if1 in
     head-processors (args .mem .now) (planHeadOf (args .head .now)) (sym (if1 .left) ∙ head-strays .ensures) (c .before .before .if2 .left) (c .if3 .taken)
-
-shared-slice-read-if4 : tie.Need-shared-slice-read-if4
-shared-slice-read-if4 c = search needs
 
 returns-4 : tie.Need-returns-4
 returns-4 c =
@@ -74,17 +47,5 @@ pub check-head-spec : {M : Type 1} → statement M
 check-head-spec =
     tie.close
     (tie.spec
-    shared-slice-read-tasks
-    shared-slice-read-processors
-    shared-slice-read-losses
-    shared-slice-read-head-strays
-    shared-slice-read-head-strays-2
-    head-strays-requires
-    returns
-    shared-slice-read-if2
-    returns-2
-    shared-slice-read-if3
-    returns-3
-    shared-slice-read-if4
-    returns-4
-    returns-5)
+    (λ c. search needs) (λ c. search needs) (λ c. search needs) (λ c. search needs) (λ c. search needs) (λ c κs. search needs) returns
+    (λ c. search needs) returns-2 (λ c. search needs) returns-3 (λ c. search needs) returns-4 returns-5)

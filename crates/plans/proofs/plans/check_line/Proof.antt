@@ -12,29 +12,14 @@ use Rattle.plans.proofs.plans.descends.Reads as descends-reads
 use Rattle.plans.proofs.plans.fed.Reads as fed-reads
 use Rattle.plans.proofs.plans.strays.Reads as strays-reads
 
-mul-line : tie.Need-mul-line
-mul-line c = search needs
-
-strays-requires : tie.Need-strays-requires
-strays-requires c κs = ((_, c .before .pre .0), c .before .pre .2)
-
 returns : tie.Need-returns
 returns c = (λ k s. line-strays (c .before .before .before .args .mem .now) (c .before .before .before .args .a) k s (sym (c .if1 .taken) ∙ c .before .strays .ensures), λ z. absurd (omega arith))
-
-descends-requires : tie.Need-descends-requires
-descends-requires c κs = ((_, c .before .before .before .pre .0), c .before .before .before .pre .2)
 
 returns-2 : tie.Need-returns-2
 returns-2 c =
     let args = c .before .before .before .before .before .args in
     let strays = c .before .before .before .strays in
     (λ k s. line-descends (args .mem .now) (args .a) k s (sym (c .before .before .if1 .left) ∙ strays .ensures) (sym (c .if2 .taken) ∙ c .before .descends .ensures), λ z. absurd (omega arith))
-
-mul-t : tie.Need-mul-t
-mul-t c = search needs
-
-shared-slice-read-t : tie.Need-shared-slice-read-t
-shared-slice-read-t c = search needs
 
 add-if3 : tie.Need-add-if3
 add-if3 c =
@@ -112,17 +97,6 @@ pub check-line-spec : {M : Type 1} → statement M
 check-line-spec =
     tie.close
     (tie.spec
-    mul-line
-    strays-requires
-    returns
-    descends-requires
-    returns-2
-    mul-t
-    shared-slice-read-t
-    add-if3
-    mul-if3
-    shared-slice-read-if3
-    returns-3
-    fed-requires
-    returns-4
-    returns-5)
+    (λ c. search needs) (λ c κs. ((_, c .before .pre .0), c .before .pre .2)) returns
+    (λ c κs. ((_, c .before .before .before .pre .0), c .before .before .before .pre .2)) returns-2 (λ c. search needs) (λ c. search needs) add-if3
+    mul-if3 shared-slice-read-if3 returns-3 fed-requires returns-4 returns-5)

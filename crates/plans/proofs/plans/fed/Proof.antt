@@ -16,26 +16,11 @@ Inv-loop mem rooms t in-next k₀ k = (k ≤ nth mem 2) × (linedFrom rooms mem 
 abbrev μ-loop : tie.MeasureT-loop
 μ-loop mem rooms t in-next k₀ k = k
 
-mul-in-next : tie.Need-mul-in-next Inv-loop μ-loop
-mul-in-next c = search needs
-
-mul-k : tie.Need-mul-k Inv-loop μ-loop
-mul-k c = search needs
-
-add-k : tie.Need-add-k Inv-loop μ-loop
-add-k c = search needs
-
-mul-k-2 : tie.Need-mul-k-2 Inv-loop μ-loop
-mul-k-2 c = search needs
-
 shared-slice-read-k : tie.Need-shared-slice-read-k Inv-loop μ-loop
 shared-slice-read-k c = let w = sizes (c .before .before .pre .0) in omega (arith, w .size, w .tasks-most, c .before .before .pre .2)
 
 loop-holds : tie.Need-loop-holds Inv-loop μ-loop
 loop-holds c = (c .before .before .pre .1 .head-most (c .before .before .args .t) (c .before .before .pre .2), refl)
-
-sub-sender-unplaced : tie.Need-sub-sender-unplaced Inv-loop μ-loop
-sub-sender-unplaced c = search needs
 
 sender-unplaced-requires : tie.Need-sender-unplaced-requires Inv-loop μ-loop
 sender-unplaced-requires c κs = (c .before .before .before .before .pre .0, omega (arith, c .before .loop .inv .0, c .loop-test .taken))
@@ -47,15 +32,6 @@ returns c =
     let loop = c .before .before .before .loop in
     lined-no (args .rooms) (args .mem .now) (args .t) (pre .1) (loop .k) (c .before .before .loop-test .taken) (loop .inv .0) (sym (c .before .sender-unplaced .ensures) ∙ c .if1 .taken)
     ∙ loop .inv .1 ∙ lined-all (args .rooms) (args .mem .now) (args .t) (pre .1) (pre .2)
-
-sub-k : tie.Need-sub-k Inv-loop μ-loop
-sub-k c = omega (arith, c .before .before .loop-test .taken)
-
-add-k-2 : tie.Need-add-k-2 Inv-loop μ-loop
-add-k-2 c = search needs
-
-mul-k-3 : tie.Need-mul-k-3 Inv-loop μ-loop
-mul-k-3 c = search needs
 
 shared-slice-read-k-2 : tie.Need-shared-slice-read-k-2 Inv-loop μ-loop
 shared-slice-read-k-2 c =
@@ -95,21 +71,6 @@ pub fed-spec : {M : Type 1} → statement M
 fed-spec =
     tie.close
     (tie.spec
-    Inv-loop
-    μ-loop
-    mul-in-next
-    mul-k
-    add-k
-    mul-k-2
-    shared-slice-read-k
-    loop-holds
-    sub-sender-unplaced
-    sender-unplaced-requires
-    returns
-    sub-k
-    add-k-2
-    mul-k-3
-    shared-slice-read-k-2
-    loop-less
-    loop-again
-    returns-2)
+    Inv-loop μ-loop (λ c. search needs) (λ c. search needs) (λ c. search needs) (λ c. search needs) shared-slice-read-k loop-holds (λ c. search needs)
+    sender-unplaced-requires returns (λ c. omega (arith, c .before .before .loop-test .taken)) (λ c. search needs) (λ c. search needs)
+    shared-slice-read-k-2 loop-less loop-again returns-2)

@@ -33,4 +33,5 @@ returns-7 c =
 
 pub head-strays-spec : {M : Type 1} → statement M
 head-strays-spec =
-    tie.close (tie.spec returns returns-2 returns-3 returns-4 returns-5 returns-6 returns-7)
+    tie.close (tie.spec
+    returns returns-2 returns-3 returns-4 returns-5 returns-6 returns-7)

@@ -14,20 +14,11 @@ use Rattle.plans.proofs.PlanText.{plan-lines-bad, plan-left-over, plan-
 use Rattle.plans.proofs.plans.load_lines.Statement.{statement}
 use Rattle.plans.proofs.plans.load_lines.Tie as tie
 
-clear-lines-requires : tie.Need-clear-lines-requires
-clear-lines-requires c κs = c .before .before .before .pre .0 .size
-
 read-plan-lines-requires : tie.Need-read-plan-lines-requires
 read-plan-lines-requires c κs =
     let pre = c .before .before .before .before .before .before .before .pre in
     let clear-lines = c .before .before .before .clear-lines in
     cleared-standing (pre .0) (pre .1) (clear-lines .ensures .0) (clear-lines .ensures .1)
-
-enum-known-p : tie.Need-enum-known-p
-enum-known-p c = search needs
-
-same-length : tie.Need-same-length
-same-length c = search needs
 
 returns : tie.Need-returns
 returns c =
@@ -42,12 +33,6 @@ returns c =
       plan-left-over (args .mem .now) (args .s .now) _ _ (args .at) ns (c .before .before .p .given .0 .0) g _ mem (c .if1 .taken),
     )
 
-mul-mem : tie.Need-mul-mem
-mul-mem c = search needs
-
-mul-mem-2 : tie.Need-mul-mem-2
-mul-mem-2 c = search needs
-
 slice-write-mem : tie.Need-slice-write-mem
 slice-write-mem c =
     let pre = c .before .before .before .before .before .before .before .before .before .before .before .before .before .before .pre in
@@ -57,12 +42,6 @@ slice-write-mem c =
     let z = read-plan-lines .ensures .0 .size ∙ clear-lines .ensures .0 .size ∙ w .size in
     omega (arith, z, w .some-task, w .tasks-most)
 
-mul-mem-3 : tie.Need-mul-mem-3
-mul-mem-3 c = search needs
-
-mul-mem-4 : tie.Need-mul-mem-4
-mul-mem-4 c = search needs
-
 slice-write-mem-2 : tie.Need-slice-write-mem-2
 slice-write-mem-2 c =
     let pre = c .before .before .before .before .before .before .before .before .before .before .before .before .before .before .pre in
@@ -71,9 +50,6 @@ slice-write-mem-2 c =
     let w = sizes (pre .0) in
     let z = read-plan-lines .ensures .0 .size ∙ clear-lines .ensures .0 .size ∙ w .size in
     simp length-set (omega (arith, z, w .some-task, w .tasks-most))
-
-enum-known-x : tie.Need-enum-known-x
-enum-known-x c = search needs
 
 same-length-2 : tie.Need-same-length-2
 same-length-2 c =
@@ -98,9 +74,6 @@ returns-2 c =
       plan-good (args .mem .now) (args .s .now) best worst (args .at) ns (c .before .before .p .given .0 .0) g _ (c .if1 .left) (stored-plan mem best worst t) (stored-standing mem best worst t),
     )
 
-same-length-3 : tie.Need-same-length-3
-same-length-3 c = search needs
-
 returns-3 : tie.Need-returns-3
 returns-3 c =
     let args = c .before .before .before .before .before .before .before .before .before .before .before .before .before .args in
@@ -118,19 +91,6 @@ pub load-lines-spec : {M : Type 1} → statement M
 load-lines-spec =
     tie.close
     (tie.spec
-    clear-lines-requires
-    read-plan-lines-requires
-    enum-known-p
-    same-length
-    returns
-    mul-mem
-    mul-mem-2
-    slice-write-mem
-    mul-mem-3
-    mul-mem-4
-    slice-write-mem-2
-    enum-known-x
-    same-length-2
-    returns-2
-    same-length-3
-    returns-3)
+    (λ c κs. c .before .before .before .pre .0 .size) read-plan-lines-requires (λ c. search needs) (λ c. search needs) returns (λ c. search needs)
+    (λ c. search needs) slice-write-mem (λ c. search needs) (λ c. search needs) slice-write-mem-2 (λ c. search needs) same-length-2 returns-2
+    (λ c. search needs) returns-3)

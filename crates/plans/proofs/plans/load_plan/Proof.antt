@@ -13,27 +13,6 @@ use Rattle.plans.proofs.plans.load_plan.Tie as tie
 returns : tie.Need-returns
 returns c = (kept-all, plan-long (c .before .before .before .args .mem .now) (c .before .before .before .args .s .now) _ (c .before .before .before .args .mem .now) (c .if1 .taken))
 
-slice-aggregate-read-line : tie.Need-slice-aggregate-read-line
-slice-aggregate-read-line c = search needs
-
-slice-aggregate-read-line-2 : tie.Need-slice-aggregate-read-line-2
-slice-aggregate-read-line-2 c = search needs
-
-read-line-requires : tie.Need-read-line-requires
-read-line-requires c κs = search needs
-
-enum-known-p : tie.Need-enum-known-p
-enum-known-p c = search needs
-
-slice-aggregate-check-head : tie.Need-slice-aggregate-check-head
-slice-aggregate-check-head c = search needs
-
-check-head-requires : tie.Need-check-head-requires
-check-head-requires c κs = search needs
-
-same-length : tie.Need-same-length
-same-length c = search needs
-
 returns-2 : tie.Need-returns-2
 returns-2 c =
     let args = c .before .before .before .before .before .before .before .before .before .before .before .before .before .before .args in
@@ -48,20 +27,8 @@ returns-2 c =
           (c .before .check-head .ensures) (c .if2 .taken),
     )
 
-array-read-load-lines : tie.Need-array-read-load-lines
-array-read-load-lines c = search needs
-
-array-read-load-lines-2 : tie.Need-array-read-load-lines-2
-array-read-load-lines-2 c = search needs
-
 load-lines-requires : tie.Need-load-lines-requires
 load-lines-requires c κs = c .before .before .before .before .before .before .before .before .before .before .before .before .before .before .before .pre
-
-enum-known-x : tie.Need-enum-known-x
-enum-known-x c = search needs
-
-same-length-2 : tie.Need-same-length-2
-same-length-2 c = search needs
 
 returns-3 : tie.Need-returns-3
 returns-3 c =
@@ -94,19 +61,6 @@ pub load-plan-spec : {M : Type 1} → statement M
 load-plan-spec =
     tie.close
     (tie.spec
-    returns
-    slice-aggregate-read-line
-    slice-aggregate-read-line-2
-    read-line-requires
-    enum-known-p
-    slice-aggregate-check-head
-    check-head-requires
-    same-length
-    returns-2
-    array-read-load-lines
-    array-read-load-lines-2
-    load-lines-requires
-    enum-known-x
-    same-length-2
-    returns-3
+    returns (λ c. search needs) (λ c. search needs) (λ c κs. search needs) (λ c. search needs) (λ c. search needs) (λ c κs. search needs)
+    (λ c. search needs) returns-2 (λ c. search needs) (λ c. search needs) load-lines-requires (λ c. search needs) (λ c. search needs) returns-3
     returns-4)

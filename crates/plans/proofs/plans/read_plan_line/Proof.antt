@@ -12,50 +12,11 @@ use Rattle.plans.proofs.PlanReading.{row-within, row-numbers, line-room
 use Rattle.plans.proofs.plans.read_plan_line.Statement.{statement}
 use Rattle.plans.proofs.plans.read_plan_line.Tie as tie
 
-mul-line : tie.Need-mul-line
-mul-line c = search needs
-
-slice-read-n : tie.Need-slice-read-n
-slice-read-n c = omega (arith, row-within (c .before .before .before .pre .0) (c .before .before .before .pre .1))
-
-mul-n : tie.Need-mul-n
-mul-n c = omega (arith, row-numbers (c .before .before .before .pre .0))
-
-add-n : tie.Need-add-n
-add-n c = omega (arith, row-numbers (c .before .before .before .pre .0))
-
-mul-a : tie.Need-mul-a
-mul-a c = search needs
-
-mul-a-2 : tie.Need-mul-a-2
-mul-a-2 c = search needs
-
-add-a : tie.Need-add-a
-add-a c = search needs
-
 add-b : tie.Need-add-b
 add-b c = omega (arith, row-numbers (c .before .before .before .pre .0), row-within (c .before .before .before .pre .0) (c .before .before .before .pre .1))
 
-slice-aggregate-read-line : tie.Need-slice-aggregate-read-line
-slice-aggregate-read-line c = search needs
-
-mul-read-line : tie.Need-mul-read-line
-mul-read-line c = search needs
-
-sub-read-line : tie.Need-sub-read-line
-sub-read-line c = search needs
-
-part-read-line-start : tie.Need-part-read-line-start
-part-read-line-start c = search needs
-
 part-read-line-end : tie.Need-part-read-line-end
 part-read-line-end c = omega (arith, row-numbers (c .before .before .before .before .pre .0), row-within (c .before .before .before .before .pre .0) (c .before .before .before .before .pre .1))
-
-read-line-requires : tie.Need-read-line-requires
-read-line-requires c κs = search needs
-
-enum-known-p : tie.Need-enum-known-p
-enum-known-p c = search needs
 
 check-line-requires : tie.Need-check-line-requires
 check-line-requires c κs =
@@ -65,9 +26,6 @@ check-line-requires c κs =
     let n = 4 + 3 * nth (args .mem .now) 3 in
     let t = line-standing (pre .0) (pre .1) n refl (read-line .last .1 .1 .1 .1 .0) (read-line .kept .1 .1 .1 .1 .0) in
     (t .job, t .linked, omega (arith, sizes (t .job) .size, sizes (pre .0 .job) .size, row-within (pre .0) (pre .1)))
-
-same-length : tie.Need-same-length
-same-length c = search needs
 
 returns : tie.Need-returns
 returns c =
@@ -81,15 +39,6 @@ returns c =
     let e = sym (read-line .ensures .0 ∙ line-fits _ _ _ _ (line-room (pre .0) (pre .1) n refl ys l)) ∙ ap (told (a .s .now) (take n ys)) (p .given .1) in
     let t = line-standing (pre .0) (pre .1) n refl ys l in
     read-no (pre .0) (pre .1) n refl ys l (a .s .now) (a .at) (p .given .0 .0) e _ (c .before .check-line .ensures .0 (a .k) t) (c .if1 .taken)
-
-mul-t : tie.Need-mul-t
-mul-t c = search needs
-
-slice-read-t : tie.Need-slice-read-t
-slice-read-t c = search needs
-
-add-mem : tie.Need-add-mem
-add-mem c = search needs
 
 add-mem-2 : tie.Need-add-mem-2
 add-mem-2 c =
@@ -115,12 +64,6 @@ slice-write-mem c =
     let b = c .before .before .check-line .ensures .1 (omega (arith, c .before .if1 .left)) .0 in
     line-place (pre .0) (pre .1) (4 + 3 * nth (args .mem .now) 3) refl (read-line .last .1 .1 .1 .1 .0) (read-line .kept .1 .1 .1 .1 .0) b
 
-enum-known-x : tie.Need-enum-known-x
-enum-known-x c = search needs
-
-same-length-2 : tie.Need-same-length-2
-same-length-2 c = search needs
-
 returns-2 : tie.Need-returns-2
 returns-2 c =
     let a = c .before .before .before .before .before .before .before .before .before .before .before .before .before .before .before .args in
@@ -134,9 +77,6 @@ returns-2 c =
     let t = line-standing (pre .0) (pre .1) n refl ys l in
     read-yes (pre .0) (pre .1) n refl ys l (a .s .now) (a .at) (p .given .0 .0) e _ (c .before .before .check-line .ensures .0 (a .k) t) (c .before .if1 .left)
     (c .before .before .check-line .ensures .1 (omega (arith, c .before .if1 .left)))
-
-same-length-3 : tie.Need-same-length-3
-same-length-3 c = search needs
 
 returns-3 : tie.Need-returns-3
 returns-3 c =
@@ -153,32 +93,9 @@ pub read-plan-line-spec : {M : Type 1} → statement M
 read-plan-line-spec =
     tie.close
     (tie.spec
-    mul-line
-    slice-read-n
-    mul-n
-    add-n
-    mul-a
-    mul-a-2
-    add-a
-    add-b
-    slice-aggregate-read-line
-    mul-read-line
-    sub-read-line
-    part-read-line-start
-    part-read-line-end
-    read-line-requires
-    enum-known-p
-    check-line-requires
-    same-length
-    returns
-    mul-t
-    slice-read-t
-    add-mem
-    add-mem-2
-    mul-mem
-    slice-write-mem
-    enum-known-x
-    same-length-2
-    returns-2
-    same-length-3
+    (λ c. search needs) (λ c. omega (arith, row-within (c .before .before .before .pre .0) (c .before .before .before .pre .1)))
+    (λ c. omega (arith, row-numbers (c .before .before .before .pre .0))) (λ c. omega (arith, row-numbers (c .before .before .before .pre .0)))
+    (λ c. search needs) (λ c. search needs) (λ c. search needs) add-b (λ c. search needs) (λ c. search needs) (λ c. search needs) (λ c. search needs)
+    part-read-line-end (λ c κs. search needs) (λ c. search needs) check-line-requires (λ c. search needs) returns (λ c. search needs)
+    (λ c. search needs) (λ c. search needs) add-mem-2 mul-mem slice-write-mem (λ c. search needs) (λ c. search needs) returns-2 (λ c. search needs)
     returns-3)

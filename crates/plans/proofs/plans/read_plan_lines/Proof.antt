@@ -13,20 +13,11 @@ Inv-loop s at mem₀ rooms v p₀ k₀ mem p k = (k ≤ v) × LinesUpTo rooms s 
 abbrev μ-loop : tie.MeasureT-loop
 μ-loop s at mem₀ rooms v p₀ k₀ mem p k = v - k
 
-slice-read-v : tie.Need-slice-read-v Inv-loop μ-loop
-slice-read-v c = search needs
-
 loop-holds : tie.Need-loop-holds Inv-loop μ-loop
 loop-holds c = (omega arith, upto-none (c .before .before .before .args .s .now) (c .before .before .before .args .at) (c .before .before .before .args .mem .now) (c .before .before .before .pre))
 
 read-plan-line-requires : tie.Need-read-plan-line-requires Inv-loop μ-loop
 read-plan-line-requires c κs = (c .before .before .loop .inv .1 .standing, omega (arith, c .before .loop-test .taken, tasks-kept (c .before .before .loop .inv .1)))
-
-enum-known-next : tie.Need-enum-known-next Inv-loop μ-loop
-enum-known-next c = search needs
-
-enum-known-x : tie.Need-enum-known-x Inv-loop μ-loop
-enum-known-x c = search needs
 
 same-length : tie.Need-same-length Inv-loop μ-loop
 same-length c =
@@ -43,21 +34,12 @@ returns c =
       λ m e. let z : _≡_ {A = ℕ} 0 1 = cc in absurd (omega (arith, z)),
     )
 
-add-k : tie.Need-add-k Inv-loop μ-loop
-add-k c = search needs
-
-loop-less : tie.Need-loop-less Inv-loop μ-loop
-loop-less c = search needs
-
 loop-again : tie.Need-loop-again Inv-loop μ-loop
 loop-again c =
     let l = c .before .before .before .before .before .before .before .before .loop in (
       omega (arith, c .before .before .before .before .before .before .before .loop-test .taken),
       upto-next (l .inv .1) (c .before .before .before .before .before .before .before .loop-test .taken) _ _ (c .before .before .before .before .before .read-plan-line .ensures) _ (c .before .next .given .1),
     )
-
-same-length-2 : tie.Need-same-length-2 Inv-loop μ-loop
-same-length-2 c = c .before .loop .inv .1 .kept .size
 
 returns-2 : tie.Need-returns-2 Inv-loop μ-loop
 returns-2 c = let l = c .before .loop in let r = upto-end (l .inv .1) (c .loop-test .left) in (l .inv .1 .kept, r .0, λ m e. r .1)
@@ -66,17 +48,5 @@ pub read-plan-lines-spec : {M : Type 1} → statement M
 read-plan-lines-spec =
     tie.close
     (tie.spec
-    Inv-loop
-    μ-loop
-    slice-read-v
-    loop-holds
-    read-plan-line-requires
-    enum-known-next
-    enum-known-x
-    same-length
-    returns
-    add-k
-    loop-less
-    loop-again
-    same-length-2
-    returns-2)
+    Inv-loop μ-loop (λ c. search needs) loop-holds read-plan-line-requires (λ c. search needs) (λ c. search needs) same-length returns
+    (λ c. search needs) (λ c. search needs) loop-again (λ c. c .before .loop .inv .1 .kept .size) returns-2)

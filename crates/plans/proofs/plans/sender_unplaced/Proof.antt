@@ -24,18 +24,6 @@ shared-slice-read-v c = omega (arith, edge-inside (c .before .args .rooms) (c .b
 shared-slice-read-m : tie.Need-shared-slice-read-m
 shared-slice-read-m c = omega (arith, edge-inside (c .before .before .args .rooms) (c .before .before .args .k) (c .before .before .args .mem .now) (c .before .before .pre .0) (c .before .before .pre .1))
 
-add-g : tie.Need-add-g
-add-g c = let w = sizes (c .before .before .pre .0) in omega (arith, w .tasks-most, w .processors-most)
-
-add-g-2 : tie.Need-add-g-2
-add-g-2 c = let w = sizes (c .before .before .pre .0) in omega (arith, w .processors-most)
-
-mul-g : tie.Need-mul-g
-mul-g c = let w = sizes (c .before .before .pre .0) in omega (arith, w .before-edges)
-
-add-g-3 : tie.Need-add-g-3
-add-g-3 c = let w = sizes (c .before .before .pre .0) in omega (arith, w .before-edges)
-
 add-from : tie.Need-add-from
 add-from c = let w = sizes (c .before .before .pre .0) in omega (arith, w .before-edges, w .edges-most, c .before .before .pre .1)
 
@@ -48,39 +36,18 @@ shared-slice-read-from c =
     let pre = c .before .before .before .pre in
     edge-inside (args .rooms) (args .k) (args .mem .now) (pre .0) (pre .1)
 
-mul-result : tie.Need-mul-result
-mul-result c = search needs
-
-add-result : tie.Need-add-result
-add-result c = search needs
-
-mul-result-2 : tie.Need-mul-result-2
-mul-result-2 c = search needs
-
 shared-slice-read-result : tie.Need-shared-slice-read-result
 shared-slice-read-result c =
     let args = c .before .before .before .before .args in
     let pre = c .before .before .before .before .pre in
     line-inside (args .rooms) (args .k) (args .mem .now) (pre .0) (pre .1)
 
-returns : tie.Need-returns
-returns c = search needs
-
 pub sender-unplaced-spec : {M : Type 1} → statement M
 sender-unplaced-spec =
     tie.close
     (tie.spec
-    shared-slice-read-v
-    shared-slice-read-m
-    add-g
-    add-g-2
-    mul-g
-    add-g-3
-    add-from
-    mul-from
-    shared-slice-read-from
-    mul-result
-    add-result
-    mul-result-2
-    shared-slice-read-result
-    returns)
+    shared-slice-read-v shared-slice-read-m (λ c. let w = sizes (c .before .before .pre .0) in omega (arith, w .tasks-most, w .processors-most))
+    (λ c. let w = sizes (c .before .before .pre .0) in omega (arith, w .processors-most))
+    (λ c. let w = sizes (c .before .before .pre .0) in omega (arith, w .before-edges))
+    (λ c. let w = sizes (c .before .before .pre .0) in omega (arith, w .before-edges)) add-from mul-from shared-slice-read-from (λ c. search needs)
+    (λ c. search needs) (λ c. search needs) shared-slice-read-result (λ c. search needs))

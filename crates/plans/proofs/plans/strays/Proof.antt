@@ -16,47 +16,8 @@ Inv-loop mem a m c₀ c = (c ≤ 8) × (rowStrays mem a c ≡ rowStrays mem a (g
 abbrev μ-loop : tie.MeasureT-loop
 μ-loop mem a m c₀ c = c
 
-mul-if1 : tie.Need-mul-if1 Inv-loop μ-loop
-mul-if1 c = search needs
-
-shared-slice-read-if1 : tie.Need-shared-slice-read-if1 Inv-loop μ-loop
-shared-slice-read-if1 c = search needs
-
-shared-slice-read-if1-2 : tie.Need-shared-slice-read-if1-2 Inv-loop μ-loop
-shared-slice-read-if1-2 c = search needs
-
 returns : tie.Need-returns Inv-loop μ-loop
 returns c = strays-task (c .before .before .before .args .mem .now) (c .before .before .before .args .a) (c .if1 .taken)
-
-shared-slice-read-m : tie.Need-shared-slice-read-m Inv-loop μ-loop
-shared-slice-read-m c = search needs
-
-shared-slice-read-c : tie.Need-shared-slice-read-c Inv-loop μ-loop
-shared-slice-read-c c = search needs
-
-add-c : tie.Need-add-c Inv-loop μ-loop
-add-c c = let s = sizes (c .before .before .before .before .before .pre .0 .1) in omega arith
-
-loop-holds : tie.Need-loop-holds Inv-loop μ-loop
-loop-holds c = let s = sizes (c .before .before .before .before .before .pre .0 .1) in (omega arith, refl)
-
-sub-c : tie.Need-sub-c Inv-loop μ-loop
-sub-c c = search needs
-
-mul-if2 : tie.Need-mul-if2 Inv-loop μ-loop
-mul-if2 c = search needs
-
-add-if2 : tie.Need-add-if2 Inv-loop μ-loop
-add-if2 c = search needs
-
-add-if2-2 : tie.Need-add-if2-2 Inv-loop μ-loop
-add-if2-2 c = search needs
-
-mul-if2-2 : tie.Need-mul-if2-2 Inv-loop μ-loop
-mul-if2-2 c = search needs
-
-shared-slice-read-if2 : tie.Need-shared-slice-read-if2 Inv-loop μ-loop
-shared-slice-read-if2 c = search needs
 
 returns-2 : tie.Need-returns-2 Inv-loop μ-loop
 returns-2 c =
@@ -66,21 +27,6 @@ returns-2 c =
     let mem = args .mem .now in let a = args .a in let k = loop .c in
     stray-processor mem a (k - 1) k (omega arith) (c .if2 .taken) ∙ loop .inv .1 ∙ strays-row mem a (if1 .left)
 
-mul-if3 : tie.Need-mul-if3 Inv-loop μ-loop
-mul-if3 c = search needs
-
-add-if3 : tie.Need-add-if3 Inv-loop μ-loop
-add-if3 c = search needs
-
-add-if3-2 : tie.Need-add-if3-2 Inv-loop μ-loop
-add-if3-2 c = search needs
-
-mul-if3-2 : tie.Need-mul-if3-2 Inv-loop μ-loop
-mul-if3-2 c = search needs
-
-shared-slice-read-if3 : tie.Need-shared-slice-read-if3 Inv-loop μ-loop
-shared-slice-read-if3 c = search needs
-
 returns-3 : tie.Need-returns-3 Inv-loop μ-loop
 returns-3 c =
     let args = c .before .before .before .before .before .before .before .before .before .before .before .args in
@@ -88,21 +34,6 @@ returns-3 c =
     let loop = c .before .before .before .before .before .loop in
     let mem = args .mem .now in let a = args .a in let k = loop .c in
     stray-early mem a (k - 1) k (omega arith) (c .before .before .if2 .left) (c .if3 .taken) ∙ loop .inv .1 ∙ strays-row mem a (if1 .left)
-
-mul-if4 : tie.Need-mul-if4 Inv-loop μ-loop
-mul-if4 c = search needs
-
-add-if4 : tie.Need-add-if4 Inv-loop μ-loop
-add-if4 c = search needs
-
-add-if4-2 : tie.Need-add-if4-2 Inv-loop μ-loop
-add-if4-2 c = search needs
-
-mul-if4-2 : tie.Need-mul-if4-2 Inv-loop μ-loop
-mul-if4-2 c = search needs
-
-shared-slice-read-if4 : tie.Need-shared-slice-read-if4 Inv-loop μ-loop
-shared-slice-read-if4 c = search needs
 
 returns-4 : tie.Need-returns-4 Inv-loop μ-loop
 returns-4 c =
@@ -112,9 +43,6 @@ returns-4 c =
     let if2 = c .before .before .before .before .if2 in
     let mem = args .mem .now in let a = args .a in let k = loop .c in
     stray-late mem a (k - 1) k (omega arith) (if2 .left) (c .before .before .if3 .left) (c .if4 .taken) ∙ loop .inv .1 ∙ strays-row mem a (if1 .left)
-
-loop-less : tie.Need-loop-less Inv-loop μ-loop
-loop-less c = search needs
 
 loop-again : tie.Need-loop-again Inv-loop μ-loop
 loop-again c =
@@ -134,35 +62,9 @@ pub strays-spec : {M : Type 1} → statement M
 strays-spec =
     tie.close
     (tie.spec
-    Inv-loop
-    μ-loop
-    mul-if1
-    shared-slice-read-if1
-    shared-slice-read-if1-2
-    returns
-    shared-slice-read-m
-    shared-slice-read-c
-    add-c
-    loop-holds
-    sub-c
-    mul-if2
-    add-if2
-    add-if2-2
-    mul-if2-2
-    shared-slice-read-if2
-    returns-2
-    mul-if3
-    add-if3
-    add-if3-2
-    mul-if3-2
-    shared-slice-read-if3
-    returns-3
-    mul-if4
-    add-if4
-    add-if4-2
-    mul-if4-2
-    shared-slice-read-if4
-    returns-4
-    loop-less
-    loop-again
-    returns-5)
+    Inv-loop μ-loop (λ c. search needs) (λ c. search needs) (λ c. search needs) returns (λ c. search needs) (λ c. search needs)
+    (λ c. let s = sizes (c .before .before .before .before .before .pre .0 .1) in omega arith)
+    (λ c. let s = sizes (c .before .before .before .before .before .pre .0 .1) in (omega arith, refl)) (λ c. search needs) (λ c. search needs)
+    (λ c. search needs) (λ c. search needs) (λ c. search needs) (λ c. search needs) returns-2 (λ c. search needs) (λ c. search needs)
+    (λ c. search needs) (λ c. search needs) (λ c. search needs) returns-3 (λ c. search needs) (λ c. search needs) (λ c. search needs)
+    (λ c. search needs) (λ c. search needs) returns-4 (λ c. search needs) loop-again returns-5)

@@ -17,18 +17,6 @@ Inv-loop vals room left₀ i₀ left i = (i ≤ length vals) × (left ≤ room) 
 abbrev μ-loop : tie.MeasureT-loop
 μ-loop vals room left₀ i₀ left i = length vals - i
 
-loop-holds : tie.Need-loop-holds Inv-loop μ-loop
-loop-holds c = search needs
-
-mul-width-of : tie.Need-mul-width-of Inv-loop μ-loop
-mul-width-of c = search needs
-
-shared-slice-read-width-of : tie.Need-shared-slice-read-width-of Inv-loop μ-loop
-shared-slice-read-width-of c = search needs
-
-width-of-requires : tie.Need-width-of-requires Inv-loop μ-loop
-width-of-requires c κs = search needs
-
 returns : tie.Need-returns Inv-loop μ-loop
 returns c =
     let args = c .before .before .before .before .before .before .args in
@@ -39,15 +27,6 @@ returns c =
 
 add-left : tie.Need-add-left Inv-loop μ-loop
 add-left c = omega (arith, c .before .width-of .ensures, width-powers document01 (getD (c .before .before .before .before .before .before .args .vals .now) (c .before .before .before .before .loop .i) 0) (omega arith))
-
-sub-left : tie.Need-sub-left Inv-loop μ-loop
-sub-left c = search needs
-
-add-i : tie.Need-add-i Inv-loop μ-loop
-add-i c = search needs
-
-loop-less : tie.Need-loop-less Inv-loop μ-loop
-loop-less c = search needs
 
 loop-again : tie.Need-loop-again Inv-loop μ-loop
 loop-again c =
@@ -67,16 +46,5 @@ pub numbers-fit-spec : {M : Type 1} → statement M
 numbers-fit-spec =
     tie.close
     (tie.spec
-    Inv-loop
-    μ-loop
-    loop-holds
-    mul-width-of
-    shared-slice-read-width-of
-    width-of-requires
-    returns
-    add-left
-    sub-left
-    add-i
-    loop-less
-    loop-again
-    returns-2)
+    Inv-loop μ-loop (λ c. search needs) (λ c. search needs) (λ c. search needs) (λ c κs. search needs) returns add-left (λ c. search needs)
+    (λ c. search needs) (λ c. search needs) loop-again returns-2)

@@ -16,18 +16,6 @@ Inv-loop vals n₀ i₀ n i = (i ≤ length vals) × (n + length (textOf (drop i
 abbrev μ-loop : tie.MeasureT-loop
 μ-loop vals n₀ i₀ n i = length vals - i
 
-loop-holds : tie.Need-loop-holds Inv-loop μ-loop
-loop-holds c = search needs
-
-mul-width-of : tie.Need-mul-width-of Inv-loop μ-loop
-mul-width-of c = search needs
-
-shared-slice-read-width-of : tie.Need-shared-slice-read-width-of Inv-loop μ-loop
-shared-slice-read-width-of c = search needs
-
-width-of-requires : tie.Need-width-of-requires Inv-loop μ-loop
-width-of-requires c κs = search needs
-
 add-n : tie.Need-add-n Inv-loop μ-loop
 add-n c =
     let args = c .before .before .before .before .before .args in
@@ -39,12 +27,6 @@ add-n-2 c =
     let args = c .before .before .before .before .before .args in
     let loop = c .before .before .before .loop in
     let s = args .vals .now in let i = loop .i in let w = c .width-of .ensures in omega (arith, w, length-next s i (c .before .before .loop-test .taken), numbers-most s)
-
-add-i : tie.Need-add-i Inv-loop μ-loop
-add-i c = search needs
-
-loop-less : tie.Need-loop-less Inv-loop μ-loop
-loop-less c = search needs
 
 loop-again : tie.Need-loop-again Inv-loop μ-loop
 loop-again c =
@@ -59,15 +41,5 @@ pub numbers-length-spec : {M : Type 1} → statement M
 numbers-length-spec =
     tie.close
     (tie.spec
-    Inv-loop
-    μ-loop
-    loop-holds
-    mul-width-of
-    shared-slice-read-width-of
-    width-of-requires
-    add-n
-    add-n-2
-    add-i
-    loop-less
-    loop-again
-    returns)
+    Inv-loop μ-loop (λ c. search needs) (λ c. search needs) (λ c. search needs) (λ c κs. search needs) add-n add-n-2 (λ c. search needs)
+    (λ c. search needs) loop-again returns)

@@ -4,16 +4,10 @@ use Rattle.printing.proofs.WriteLaws.{line-room, line-place, line-whole
 use Rattle.printing.proofs.writer.put_line.Statement.{statement}
 use Rattle.printing.proofs.writer.put_line.Tie as tie
 
-write-fixed-requires : tie.Need-write-fixed-requires
-write-fixed-requires c κs = search needs
-
 write-numbers-requires : tie.Need-write-numbers-requires
 write-numbers-requires c κs =
     let a = c .before .before .before .before .before .before .before .before .args in let w = c .before .before .before .write-fixed in
     line-room (a .out .now) (a .opening .now) (a .vals .now) (c .before .before .before .before .before .before .before .before .pre) (w .last .0) (w .result) (w .ensures .1) (w .ensures .0)
-
-same-length : tie.Need-same-length
-same-length c = search needs
 
 returns : tie.Need-returns
 returns c =
@@ -27,4 +21,5 @@ returns c =
 
 pub put-line-spec : {M : Type 1} → statement M
 put-line-spec =
-    tie.close (tie.spec write-fixed-requires write-numbers-requires same-length returns)
+    tie.close (tie.spec
+    (λ c κs. search needs) write-numbers-requires (λ c. search needs) returns)

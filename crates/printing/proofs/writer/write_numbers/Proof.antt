@@ -18,27 +18,6 @@ Inv-loop out₀ at vals n p₀ i₀ out p i =
 abbrev μ-loop : tie.MeasureT-loop
 μ-loop out₀ at vals n p₀ i₀ out p i = n - i
 
-loop-holds : tie.Need-loop-holds Inv-loop μ-loop
-loop-holds c = (search needs, refl, refl, refl, refl)
-
-mul-write-number : tie.Need-mul-write-number Inv-loop μ-loop
-mul-write-number c = search needs
-
-shared-slice-read-write-number : tie.Need-shared-slice-read-write-number Inv-loop μ-loop
-shared-slice-read-write-number c = search needs
-
-write-number-requires : tie.Need-write-number-requires Inv-loop μ-loop
-write-number-requires c κs = search needs
-
-add-i : tie.Need-add-i Inv-loop μ-loop
-add-i c = search needs
-
-sub-mark-after : tie.Need-sub-mark-after Inv-loop μ-loop
-sub-mark-after c = search needs
-
-mark-after-requires : tie.Need-mark-after-requires Inv-loop μ-loop
-mark-after-requires c κs = search needs
-
 slice-write-out : tie.Need-slice-write-out Inv-loop μ-loop
 slice-write-out c =
     let args = c .before .before .before .before .before .before .before .before .before .before .args in
@@ -61,9 +40,6 @@ add-p c =
     let s = args .vals .now in let l = loop in let w = write-number in
     omega (arith, place-turn s (l .i) (loop-test .taken) (l .out) (l .p) (omega arith) (w .last .0) (w .result) (w .ensures .1) (w .ensures .0))
 
-loop-less : tie.Need-loop-less Inv-loop μ-loop
-loop-less c = search needs
-
 loop-again : tie.Need-loop-again Inv-loop μ-loop
 loop-again c =
     let args = c .before .before .before .before .before .before .before .before .before .before .args in
@@ -79,9 +55,6 @@ loop-again c =
       write-turn s (l .i) (loop-test .taken) (l .out) (l .p) r (w .last .0) (w .result) (w .ensures .1) (w .ensures .0) (c .mark-after .result) (c .mark-after .ensures) ∙ l .inv .4,
     )
 
-same-length : tie.Need-same-length Inv-loop μ-loop
-same-length c = c .before .loop .inv .2
-
 returns : tie.Need-returns Inv-loop μ-loop
 returns c =
     let s = c .before .before .before .before .args .vals .now in let l = c .before .loop in
@@ -92,18 +65,5 @@ pub write-numbers-spec : {M : Type 1} → statement M
 write-numbers-spec =
     tie.close
     (tie.spec
-    Inv-loop
-    μ-loop
-    loop-holds
-    mul-write-number
-    shared-slice-read-write-number
-    write-number-requires
-    add-i
-    sub-mark-after
-    mark-after-requires
-    slice-write-out
-    add-p
-    loop-less
-    loop-again
-    same-length
-    returns)
+    Inv-loop μ-loop (λ c. (search needs, refl, refl, refl, refl)) (λ c. search needs) (λ c. search needs) (λ c κs. search needs) (λ c. search needs)
+    (λ c. search needs) (λ c κs. search needs) slice-write-out add-p (λ c. search needs) loop-again (λ c. c .before .loop .inv .2) returns)

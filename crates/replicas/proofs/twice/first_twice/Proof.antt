@@ -15,57 +15,12 @@ Inv-loop lines w n k₀ k = (k ≤ n) × (firstTwice w k lines ≡ [])
 abbrev μ-loop : tie.MeasureT-loop
 μ-loop lines w n k₀ k = n - k
 
-loop-holds : tie.Need-loop-holds Inv-loop μ-loop
-loop-holds c = (omega arith, first-none (c .before .args .w) (c .before .args .lines .now))
-
-mul-a : tie.Need-mul-a Inv-loop μ-loop
-mul-a c = search needs
-
-add-a : tie.Need-add-a Inv-loop μ-loop
-add-a c = search needs
-
-mul-end : tie.Need-mul-end Inv-loop μ-loop
-mul-end c = search needs
-
-add-end : tie.Need-add-end Inv-loop μ-loop
-add-end c = search needs
-
-mul-has-twins : tie.Need-mul-has-twins Inv-loop μ-loop
-mul-has-twins c = search needs
-
-sub-has-twins : tie.Need-sub-has-twins Inv-loop μ-loop
-sub-has-twins c = search needs
-
-part-has-twins-start : tie.Need-part-has-twins-start Inv-loop μ-loop
-part-has-twins-start c = search needs
-
-part-has-twins-end : tie.Need-part-has-twins-end Inv-loop μ-loop
-part-has-twins-end c = search needs
-
-has-twins-requires : tie.Need-has-twins-requires Inv-loop μ-loop
-has-twins-requires c κs = search needs
-
-mul-t15 : tie.Need-mul-t15 Inv-loop μ-loop
-mul-t15 c = search needs
-
-mul-t16 : tie.Need-mul-t16 Inv-loop μ-loop
-mul-t16 c = search needs
-
-shared-slice-read-t18 : tie.Need-shared-slice-read-t18 Inv-loop μ-loop
-shared-slice-read-t18 c = search needs
-
 returns : tie.Need-returns Inv-loop μ-loop
 returns c =
     let a = c .before .before .before .before .before .before .before .args in
     let loop = c .before .before .before .before .before .loop in
     let loop-test = c .before .before .before .before .loop-test in
     first-here (a .w) (a .lines .now) (loop .k) _ (loop-test .taken) (loop .inv .1) (part-cells (a .w) (a .lines .now) (loop .k) (sym (c .before .if1 .taken) ∙ c .before .before .has-twins .ensures))
-
-add-k : tie.Need-add-k Inv-loop μ-loop
-add-k c = search needs
-
-loop-less : tie.Need-loop-less Inv-loop μ-loop
-loop-less c = search needs
 
 loop-again : tie.Need-loop-again Inv-loop μ-loop
 loop-again c =
@@ -83,23 +38,6 @@ pub first-twice-spec : {M : Type 1} → statement M
 first-twice-spec =
     tie.close
     (tie.spec
-    Inv-loop
-    μ-loop
-    loop-holds
-    mul-a
-    add-a
-    mul-end
-    add-end
-    mul-has-twins
-    sub-has-twins
-    part-has-twins-start
-    part-has-twins-end
-    has-twins-requires
-    mul-t15
-    mul-t16
-    shared-slice-read-t18
-    returns
-    add-k
-    loop-less
-    loop-again
-    returns-2)
+    Inv-loop μ-loop (λ c. (omega arith, first-none (c .before .args .w) (c .before .args .lines .now))) (λ c. search needs) (λ c. search needs)
+    (λ c. search needs) (λ c. search needs) (λ c. search needs) (λ c. search needs) (λ c. search needs) (λ c. search needs) (λ c κs. search needs)
+    (λ c. search needs) (λ c. search needs) (λ c. search needs) returns (λ c. search needs) (λ c. search needs) loop-again returns-2)

@@ -7,32 +7,11 @@ use Rattle.replicas.proofs.ResultLaws.{undone-short, undone-whole}
 use Rattle.replicas.proofs.undone.write_undone.Statement.{statement}
 use Rattle.replicas.proofs.undone.write_undone.Tie as tie
 
-width-of-requires : tie.Need-width-of-requires
-width-of-requires c κs = search needs
-
 add-if1 : tie.Need-add-if1
 add-if1 c = omega (arith, c .width-of .ensures, width-powers document01 (c .before .before .args .t) (omega arith))
 
 returns : tie.Need-returns
 returns c = undone-short (c .before .before .before .args .t) (c .before .before .before .args .out .now) (omega (arith, c .if1 .taken, c .before .width-of .ensures))
-
-slice-aggregate-write-fixed : tie.Need-slice-aggregate-write-fixed
-slice-aggregate-write-fixed c = search needs
-
-write-fixed-requires : tie.Need-write-fixed-requires
-write-fixed-requires c κs = search needs
-
-write-number-requires : tie.Need-write-number-requires
-write-number-requires c κs = search needs
-
-slice-aggregate-write-fixed-2 : tie.Need-slice-aggregate-write-fixed-2
-slice-aggregate-write-fixed-2 c = search needs
-
-write-fixed-requires-2 : tie.Need-write-fixed-requires-2
-write-fixed-requires-2 c κs = search needs
-
-same-length : tie.Need-same-length
-same-length c = search needs
 
 returns-2 : tie.Need-returns-2
 returns-2 c =
@@ -54,13 +33,5 @@ pub write-undone-spec : {M : Type 1} → statement M
 write-undone-spec =
     tie.close
     (tie.spec
-    width-of-requires
-    add-if1
-    returns
-    slice-aggregate-write-fixed
-    write-fixed-requires
-    write-number-requires
-    slice-aggregate-write-fixed-2
-    write-fixed-requires-2
-    same-length
-    returns-2)
+    (λ c κs. search needs) add-if1 returns (λ c. search needs) (λ c κs. search needs) (λ c κs. search needs) (λ c. search needs)
+    (λ c κs. search needs) (λ c. search needs) returns-2)

@@ -5,9 +5,6 @@ use Rattle.rounds.proofs.JudgeLaws.{answer-ticks, answer-ends, answer-a
 use Rattle.rounds.proofs.checker.compare.Statement.{statement}
 use Rattle.rounds.proofs.checker.compare.Tie as tie
 
-ticks-agree-requires : tie.Need-ticks-agree-requires
-ticks-agree-requires c κs = (c .before .pre .0, c .before .pre .2)
-
 ends-agree-requires : tie.Need-ends-agree-requires
 ends-agree-requires c κs = (c .before .before .before .pre .0, c .before .before .before .pre .1, c .before .before .before .pre .2, sym (c .before .ticks-agree .ensures) ∙ c .if1 .taken)
 
@@ -33,4 +30,5 @@ returns-3 c =
 
 pub compare-spec : {M : Type 1} → statement M
 compare-spec =
-    tie.close (tie.spec ticks-agree-requires ends-agree-requires returns returns-2 returns-3)
+    tie.close (tie.spec
+    (λ c κs. (c .before .pre .0, c .before .pre .2)) ends-agree-requires returns returns-2 returns-3)

@@ -6,23 +6,11 @@ use Rattle.rounds.proofs.JudgeLaws.{answer-doubled}
 use Rattle.rounds.proofs.checker.judge.Statement.{statement}
 use Rattle.rounds.proofs.checker.judge.Tie as tie
 
-doubled-requires : tie.Need-doubled-requires
-doubled-requires c κs = search needs
-
-enum-told : tie.Need-enum-told
-enum-told c = search needs
-
 compare-requires : tie.Need-compare-requires
 compare-requires c κs = (c .before .before .before .before .pre .0, c .before .before .before .before .pre .1, rw (c .enum-told .given .1) at (c .before .before .doubled .ensures))
 
-enum-known-t : tie.Need-enum-known-t
-enum-known-t c = search needs
-
 cast-t6 : tie.Need-cast-t6
 cast-t6 c = let i = rw (c .before .t .given .1) at (c .before .before .before .doubled .ensures) in omega (arith, i .1)
-
-returns : tie.Need-returns
-returns c = search needs
 
 returns-2 : tie.Need-returns-2
 returns-2 c =
@@ -34,4 +22,5 @@ returns-2 c =
 pub judge-spec : {M : Type 1} → statement M
 judge-spec =
     tie.close
-    (tie.spec doubled-requires enum-told compare-requires enum-known-t cast-t6 returns returns-2)
+    (tie.spec
+    (λ c κs. search needs) (λ c. search needs) compare-requires (λ c. search needs) cast-t6 (λ c. search needs) returns-2)

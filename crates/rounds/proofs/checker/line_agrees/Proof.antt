@@ -18,26 +18,11 @@ Inv-loop mem rooms delays k rows w a t f c₀ c = (c ≤ w) × AgreesTo rooms k 
 abbrev μ-loop : tie.MeasureT-loop
 μ-loop mem rooms delays k rows w a t f c₀ c = w - c
 
-mul-rows : tie.Need-mul-rows Inv-loop μ-loop
-mul-rows c = search needs
-
-shared-slice-read-w : tie.Need-shared-slice-read-w Inv-loop μ-loop
-shared-slice-read-w c = let s = sizes (c .before .before .pre .0 .standing .job) in omega arith
-
-add-w : tie.Need-add-w Inv-loop μ-loop
-add-w c = omega (arith, sizes (c .before .before .pre .0 .standing .job) .losses-most)
-
 mul-a : tie.Need-mul-a Inv-loop μ-loop
 mul-a c = omega (arith, c .before .before .pre .2, sizes (c .before .before .pre .0 .standing .job) .tasks-most .0)
 
-add-a : tie.Need-add-a Inv-loop μ-loop
-add-a c = let s = sizes (c .before .before .pre .0 .standing .job) in omega arith
-
 mul-t : tie.Need-mul-t Inv-loop μ-loop
 mul-t c = omega (arith, c .before .before .pre .2, sizes (c .before .before .pre .0 .standing .job) .tasks-most .0)
-
-shared-slice-read-t : tie.Need-shared-slice-read-t Inv-loop μ-loop
-shared-slice-read-t c = let s = sizes (c .before .before .before .pre .0 .standing .job) in omega arith
 
 finishes-requires : tie.Need-finishes-requires Inv-loop μ-loop
 finishes-requires c κs =
@@ -74,9 +59,6 @@ element-copy-out-if1 c =
     let pre = c .before .before .before .before .before .before .before .pre in
     let args = c .before .before .before .before .before .before .before .args in
     box-most (pre .0) (args .k) (pre .2) (c .before .before .loop .c) (c .before .loop-test .taken)
-
-cast-if1 : tie.Need-cast-if1 Inv-loop μ-loop
-cast-if1 c = search needs
 
 mul-if1-2 : tie.Need-mul-if1-2 Inv-loop μ-loop
 mul-if1-2 c = omega (arith, c .before .before .loop-test .taken, sizes (c .before .before .before .before .before .before .before .before .pre .0 .standing .job) .losses-most)
@@ -165,9 +147,6 @@ add-c c =
     let loop-test = c .before .before .before .before .before .before .before .loop-test in
     omega (arith, loop-test .taken, sizes (pre .0 .standing .job) .losses-most)
 
-loop-less : tie.Need-loop-less Inv-loop μ-loop
-loop-less c = search needs
-
 loop-again : tie.Need-loop-again Inv-loop μ-loop
 loop-again c =
     let pre = c .before .before .before .before .before .before .before .before .before .before .before .before .before .pre in
@@ -191,41 +170,9 @@ pub line-agrees-spec : {M : Type 1} → statement M
 line-agrees-spec =
     tie.close
     (tie.spec
-    Inv-loop
-    μ-loop
-    mul-rows
-    shared-slice-read-w
-    add-w
-    mul-a
-    add-a
-    mul-t
-    shared-slice-read-t
-    finishes-requires
-    loop-holds
-    mul-p
-    add-p
-    add-p-2
-    mul-p-2
-    shared-slice-read-p
-    mul-if1
-    element-copy-out-if1
-    cast-if1
-    mul-if1-2
-    add-if1
-    add-if1-2
-    mul-if1-3
-    shared-slice-read-if1
-    returns
-    mul-if2
-    element-copy-out-if2
-    cast-if2
-    mul-if2-2
-    add-if2
-    add-if2-2
-    mul-if2-3
-    shared-slice-read-if2
-    returns-2
-    add-c
-    loop-less
-    loop-again
-    returns-3)
+    Inv-loop μ-loop (λ c. search needs) (λ c. let s = sizes (c .before .before .pre .0 .standing .job) in omega arith)
+    (λ c. omega (arith, sizes (c .before .before .pre .0 .standing .job) .losses-most)) mul-a
+    (λ c. let s = sizes (c .before .before .pre .0 .standing .job) in omega arith) mul-t
+    (λ c. let s = sizes (c .before .before .before .pre .0 .standing .job) in omega arith) finishes-requires loop-holds mul-p add-p add-p-2 mul-p-2
+    shared-slice-read-p mul-if1 element-copy-out-if1 (λ c. search needs) mul-if1-2 add-if1 add-if1-2 mul-if1-3 shared-slice-read-if1 returns mul-if2
+    element-copy-out-if2 cast-if2 mul-if2-2 add-if2 add-if2-2 mul-if2-3 shared-slice-read-if2 returns-2 add-c (λ c. search needs) loop-again returns-3)

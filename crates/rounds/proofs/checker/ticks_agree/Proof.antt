@@ -19,18 +19,6 @@ Inv-loop mem rooms rows v delays clocks₀ k₀ clocks k =
 abbrev μ-loop : tie.MeasureT-loop
 μ-loop mem rooms rows v delays clocks₀ k₀ clocks k = v - k
 
-mul-rows : tie.Need-mul-rows Inv-loop μ-loop
-mul-rows c = search needs
-
-shared-slice-read-v : tie.Need-shared-slice-read-v Inv-loop μ-loop
-shared-slice-read-v c = let s = sizes (c .before .before .pre .0 .standing .job) in omega arith
-
-delay-table-requires : tie.Need-delay-table-requires Inv-loop μ-loop
-delay-table-requires c κs = (_, c .before .before .pre .0 .standing .job)
-
-new-requires : tie.Need-new-requires Inv-loop μ-loop
-new-requires c κs = search needs
-
 loop-holds : tie.Need-loop-holds Inv-loop μ-loop
 loop-holds c =
     let args = c .before .before .before .before .args in
@@ -65,9 +53,6 @@ returns c =
 add-k : tie.Need-add-k Inv-loop μ-loop
 add-k c = let s = sizes (c .before .before .before .before .before .before .before .before .before .before .pre .0 .standing .job) in omega arith
 
-loop-less : tie.Need-loop-less Inv-loop μ-loop
-loop-less c = search needs
-
 loop-again : tie.Need-loop-again Inv-loop μ-loop
 loop-again c =
     let (a, s) = c .before .before .line-agrees .ensures .0 (c .before .if1 .taken) in
@@ -82,19 +67,6 @@ pub ticks-agree-spec : {M : Type 1} → statement M
 ticks-agree-spec =
     tie.close
     (tie.spec
-    Inv-loop
-    μ-loop
-    mul-rows
-    shared-slice-read-v
-    delay-table-requires
-    new-requires
-    loop-holds
-    line-agrees-requires
-    mul-advance-line
-    add-advance-line
-    advance-line-requires
-    returns
-    add-k
-    loop-less
-    loop-again
-    returns-2)
+    Inv-loop μ-loop (λ c. search needs) (λ c. let s = sizes (c .before .before .pre .0 .standing .job) in omega arith)
+    (λ c κs. (_, c .before .before .pre .0 .standing .job)) (λ c κs. search needs) loop-holds line-agrees-requires mul-advance-line add-advance-line
+    advance-line-requires returns add-k (λ c. search needs) loop-again returns-2)

@@ -19,15 +19,6 @@ abbrev μ-loop : tie.MeasureT-loop
 held : (c : tie.Start Inv-loop μ-loop) → Sizes (c .pre .job .0) (c .args .mem .now)
 held c = sizes (c .pre .job .1)
 
-shared-slice-read-w : tie.Need-shared-slice-read-w Inv-loop μ-loop
-shared-slice-read-w c = let z = held (c .before .before) in omega arith
-
-add-w : tie.Need-add-w Inv-loop μ-loop
-add-w c = let z = held (c .before .before) in omega arith
-
-loop-holds : tie.Need-loop-holds Inv-loop μ-loop
-loop-holds c = (omega arith, clocks-first _ (c .before .before .args .a) (c .before .before .args .mem .now))
-
 mul-p : tie.Need-mul-p Inv-loop μ-loop
 mul-p c = let z = held (c .before .before .before .before) in let y = c .before .before .before .before .pre .within in omega arith
 
@@ -79,15 +70,6 @@ shared-slice-read-late c = let z = held (c .before .before .before .before .befo
 cast-late : tie.Need-cast-late Inv-loop μ-loop
 cast-late c = omega (arith, c .before .before .before .before .before .before .before .pre .ticks (c .before .before .before .before .loop .c) (c .before .before .before .loop-test .taken) .1)
 
-advance-requires : tie.Need-advance-requires Inv-loop μ-loop
-advance-requires c κs = search needs
-
-add-c : tie.Need-add-c Inv-loop μ-loop
-add-c c = let z = held (c .before .before .before .before .before .before .before .before) in omega arith
-
-loop-less : tie.Need-loop-less Inv-loop μ-loop
-loop-less c = search needs
-
 loop-again : tie.Need-loop-again Inv-loop μ-loop
 loop-again c =
     let pre = c .before .before .before .before .before .before .before .before .pre in
@@ -102,30 +84,8 @@ pub advance-line-spec : {M : Type 1} → statement M
 advance-line-spec =
     tie.close
     (tie.spec
-    Inv-loop
-    μ-loop
-    shared-slice-read-w
-    add-w
-    loop-holds
-    mul-p
-    add-p
-    add-p-2
-    mul-p-2
-    shared-slice-read-p
-    mul-early
-    add-early
-    add-early-2
-    mul-early-2
-    shared-slice-read-early
-    cast-early
-    mul-late
-    add-late
-    add-late-2
-    mul-late-2
-    shared-slice-read-late
-    cast-late
-    advance-requires
-    add-c
-    loop-less
-    loop-again
-    returns)
+    Inv-loop μ-loop (λ c. let z = held (c .before .before) in omega arith) (λ c. let z = held (c .before .before) in omega arith)
+    (λ c. (omega arith, clocks-first _ (c .before .before .args .a) (c .before .before .args .mem .now))) mul-p add-p add-p-2 mul-p-2
+    shared-slice-read-p mul-early add-early add-early-2 mul-early-2 shared-slice-read-early cast-early mul-late add-late add-late-2 mul-late-2
+    shared-slice-read-late cast-late (λ c κs. search needs)
+    (λ c. let z = held (c .before .before .before .before .before .before .before .before) in omega arith) (λ c. search needs) loop-again returns)

@@ -16,18 +16,6 @@ Inv-loop mem late a w place acc₀ c₀ acc c = (c ≤ w) × (place ≤ 3) × ((
 abbrev μ-loop : tie.MeasureT-loop
 μ-loop mem late a w place acc₀ c₀ acc c = w - c
 
-shared-slice-read-w : tie.Need-shared-slice-read-w Inv-loop μ-loop
-shared-slice-read-w c = let s = sizes (c .before .before .pre .0 .1) in omega arith
-
-add-w : tie.Need-add-w Inv-loop μ-loop
-add-w c = let s = sizes (c .before .before .pre .0 .1) in omega arith
-
-time-place-requires : tie.Need-time-place-requires Inv-loop μ-loop
-time-place-requires c κs = search needs
-
-chosen-of-none-requires : tie.Need-chosen-of-none-requires Inv-loop μ-loop
-chosen-of-none-requires c κs = search needs
-
 loop-holds : tie.Need-loop-holds Inv-loop μ-loop
 loop-holds c =
     let a = c .before .before .before .before .args in (
@@ -36,30 +24,6 @@ loop-holds c =
       (_, sizes (c .before .before .before .before .pre .0 .1)),
       chosen-first (a .late) (a .a) (a .mem .now) (c .chosen-of-none .result) (c .chosen-of-none .ensures),
     )
-
-mul-chosen-of : tie.Need-mul-chosen-of Inv-loop μ-loop
-mul-chosen-of c = search needs
-
-add-chosen-of : tie.Need-add-chosen-of Inv-loop μ-loop
-add-chosen-of c = search needs
-
-add-chosen-of-2 : tie.Need-add-chosen-of-2 Inv-loop μ-loop
-add-chosen-of-2 c = search needs
-
-mul-chosen-of-2 : tie.Need-mul-chosen-of-2 Inv-loop μ-loop
-mul-chosen-of-2 c = search needs
-
-shared-slice-read-chosen-of : tie.Need-shared-slice-read-chosen-of Inv-loop μ-loop
-shared-slice-read-chosen-of c = search needs
-
-chosen-of-requires : tie.Need-chosen-of-requires Inv-loop μ-loop
-chosen-of-requires c κs = search needs
-
-add-c : tie.Need-add-c Inv-loop μ-loop
-add-c c = search needs
-
-loop-less : tie.Need-loop-less Inv-loop μ-loop
-loop-less c = search needs
 
 loop-again : tie.Need-loop-again Inv-loop μ-loop
 loop-again c =
@@ -82,20 +46,7 @@ pub chosen-in-spec : {M : Type 1} → statement M
 chosen-in-spec =
     tie.close
     (tie.spec
-    Inv-loop
-    μ-loop
-    shared-slice-read-w
-    add-w
-    time-place-requires
-    chosen-of-none-requires
-    loop-holds
-    mul-chosen-of
-    add-chosen-of
-    add-chosen-of-2
-    mul-chosen-of-2
-    shared-slice-read-chosen-of
-    chosen-of-requires
-    add-c
-    loop-less
-    loop-again
-    returns)
+    Inv-loop μ-loop (λ c. let s = sizes (c .before .before .pre .0 .1) in omega arith)
+    (λ c. let s = sizes (c .before .before .pre .0 .1) in omega arith) (λ c κs. search needs) (λ c κs. search needs) loop-holds (λ c. search needs)
+    (λ c. search needs) (λ c. search needs) (λ c. search needs) (λ c. search needs) (λ c κs. search needs) (λ c. search needs) (λ c. search needs)
+    loop-again returns)

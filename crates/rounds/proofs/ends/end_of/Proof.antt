@@ -13,23 +13,11 @@ Inv-loop mem rooms late v acc₀ t₀ acc t = (t ≤ v) × Ending rooms late mem
 abbrev μ-loop : tie.MeasureT-loop
 μ-loop mem rooms late v acc₀ t₀ acc t = v - t
 
-shared-slice-read-v : tie.Need-shared-slice-read-v Inv-loop μ-loop
-shared-slice-read-v c = let w = sizes (c .before .before .pre .0 .job) in omega arith
-
 loop-holds : tie.Need-loop-holds Inv-loop μ-loop
 loop-holds c = (search needs, ending-first (c .before .before .args .rooms) (c .before .before .args .late) (c .before .before .args .mem .now))
 
 exit-time-requires : tie.Need-exit-time-requires Inv-loop μ-loop
 exit-time-requires c κs = (c .before .before .before .before .pre .0, c .before .before .before .before .pre .1, c .loop-test .taken)
-
-chosen-of-requires : tie.Need-chosen-of-requires Inv-loop μ-loop
-chosen-of-requires c κs = search needs
-
-add-t : tie.Need-add-t Inv-loop μ-loop
-add-t c = let w = sizes (c .before .before .before .before .before .before .pre .0 .job) in omega arith
-
-loop-less : tie.Need-loop-less Inv-loop μ-loop
-loop-less c = search needs
 
 loop-again : tie.Need-loop-again Inv-loop μ-loop
 loop-again c =
@@ -48,13 +36,5 @@ pub end-of-spec : {M : Type 1} → statement M
 end-of-spec =
     tie.close
     (tie.spec
-    Inv-loop
-    μ-loop
-    shared-slice-read-v
-    loop-holds
-    exit-time-requires
-    chosen-of-requires
-    add-t
-    loop-less
-    loop-again
-    returns)
+    Inv-loop μ-loop (λ c. let w = sizes (c .before .before .pre .0 .job) in omega arith) loop-holds exit-time-requires (λ c κs. search needs)
+    (λ c. let w = sizes (c .before .before .before .before .before .before .pre .0 .job) in omega arith) (λ c. search needs) loop-again returns)

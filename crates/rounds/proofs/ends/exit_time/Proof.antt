@@ -10,35 +10,8 @@ use Rattle.rounds.proofs.ends.exit_time.Tie as tie
 held : (c : tie.Start) → Sizes (c .args .rooms) (c .args .mem .now)
 held c = sizes (c .pre .0 .job)
 
-mul-out-head : tie.Need-mul-out-head
-mul-out-head c = search needs
-
-mul-rows : tie.Need-mul-rows
-mul-rows c = search needs
-
-mul-line : tie.Need-mul-line
-mul-line c = search needs
-
-add-if1 : tie.Need-add-if1
-add-if1 c = omega (arith, held (c .before))
-
-mul-if1 : tie.Need-mul-if1
-mul-if1 c = omega (arith, held (c .before))
-
-shared-slice-read-if1 : tie.Need-shared-slice-read-if1
-shared-slice-read-if1 c = omega (arith, held (c .before .before))
-
 returns : tie.Need-returns
 returns c = let a = c .before .before .before .args in let h = c .before .before .before .pre in exit-other (a .late) (h .0) (h .1) (a .t) (h .2) (omega (arith, c .if1 .taken))
-
-add-a : tie.Need-add-a
-add-a c = omega (arith, held (c .before .before .before))
-
-mul-a : tie.Need-mul-a
-mul-a c = omega (arith, held (c .before .before .before))
-
-shared-slice-read-a : tie.Need-shared-slice-read-a
-shared-slice-read-a c = omega (arith, held (c .before .before .before .before))
 
 sub-a : tie.Need-sub-a
 sub-a c = omega (arith, all-placed (c .before .before .before .before .pre .0) (c .before .before .before .before .args .t) (c .before .before .before .before .pre .2))
@@ -66,18 +39,7 @@ pub exit-time-spec : {M : Type 1} → statement M
 exit-time-spec =
     tie.close
     (tie.spec
-    mul-out-head
-    mul-rows
-    mul-line
-    add-if1
-    mul-if1
-    shared-slice-read-if1
-    returns
-    add-a
-    mul-a
-    shared-slice-read-a
-    sub-a
-    mul-a-2
-    add-a-2
-    chosen-in-requires
-    returns-2)
+    (λ c. search needs) (λ c. search needs) (λ c. search needs) (λ c. omega (arith, held (c .before))) (λ c. omega (arith, held (c .before)))
+    (λ c. omega (arith, held (c .before .before))) returns (λ c. omega (arith, held (c .before .before .before)))
+    (λ c. omega (arith, held (c .before .before .before))) (λ c. omega (arith, held (c .before .before .before .before))) sub-a mul-a-2 add-a-2
+    chosen-in-requires returns-2)

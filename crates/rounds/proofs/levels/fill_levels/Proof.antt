@@ -17,21 +17,6 @@ Inv-loop mem₀ rooms order total level i₀ mem i = (i ≤ nth mem₀ 0) × (le
 abbrev μ-loop : tie.MeasureT-loop
 μ-loop mem₀ rooms order total level i₀ mem i = i
 
-mul-level : tie.Need-mul-level Inv-loop μ-loop
-mul-level c = search needs
-
-slice-read-i : tie.Need-slice-read-i Inv-loop μ-loop
-slice-read-i c = let s = sizes (c .before .before .pre .0) in omega arith
-
-loop-holds : tie.Need-loop-holds Inv-loop μ-loop
-loop-holds c = (search needs, c .before .before .pre .0 .size, filling-none _ _ refl)
-
-sub-i : tie.Need-sub-i Inv-loop μ-loop
-sub-i c = search needs
-
-element-copy-out-t : tie.Need-element-copy-out-t Inv-loop μ-loop
-element-copy-out-t c = let s = sizes (c .before .before .before .before .pre .0) in omega arith
-
 cast-t : tie.Need-cast-t Inv-loop μ-loop
 cast-t c =
     let pre = c .before .before .before .before .before .pre in
@@ -85,18 +70,12 @@ slice-write-mem c =
     let loop-test = c .before .before .before .before .before .loop-test in
     let s = sizes (pre .0) in omega (arith, filling-task (pre .0) (pre .3) (loop .inv .2) (loop-test .taken) (loop .inv .0), loop .inv .1)
 
-loop-less : tie.Need-loop-less Inv-loop μ-loop
-loop-less c = search needs
-
 loop-again : tie.Need-loop-again Inv-loop μ-loop
 loop-again c =
     let pre = c .before .before .before .before .before .before .before .before .before .pre in
     let loop = c .before .before .before .before .before .before .loop in
     let loop-test = c .before .before .before .before .before .loop-test in
     (search needs, search needs, filling-more (pre .0) (pre .3) (loop .inv .2) (loop-test .taken) (loop .inv .0) _ (omega (arith, c .before .before .scaled-run .ensures, c .longest-after .ensures .0)))
-
-same-length : tie.Need-same-length Inv-loop μ-loop
-same-length c = search needs
 
 returns : tie.Need-returns Inv-loop μ-loop
 returns c = filling-done (c .before .before .before .before .pre .0) (c .before .before .before .before .pre .3) (c .before .loop .inv .2) (omega arith)
@@ -105,21 +84,7 @@ pub fill-levels-spec : {M : Type 1} → statement M
 fill-levels-spec =
     tie.close
     (tie.spec
-    Inv-loop
-    μ-loop
-    mul-level
-    slice-read-i
-    loop-holds
-    sub-i
-    element-copy-out-t
-    cast-t
-    scaled-run-requires
-    longest-after-requires
-    add-mem
-    add-mem-2
-    mul-mem
-    slice-write-mem
-    loop-less
-    loop-again
-    same-length
-    returns)
+    Inv-loop μ-loop (λ c. search needs) (λ c. let s = sizes (c .before .before .pre .0) in omega arith)
+    (λ c. (search needs, c .before .before .pre .0 .size, filling-none _ _ refl)) (λ c. search needs)
+    (λ c. let s = sizes (c .before .before .before .before .pre .0) in omega arith) cast-t scaled-run-requires longest-after-requires add-mem
+    add-mem-2 mul-mem slice-write-mem (λ c. search needs) loop-again (λ c. search needs) returns)

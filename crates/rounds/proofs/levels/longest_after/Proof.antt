@@ -18,21 +18,6 @@ Inv-loop mem rooms t total level g x₀ k₀ x k = (x ≤ 133_714_329_600) × Lo
 abbrev μ-loop : tie.MeasureT-loop
 μ-loop mem rooms t total level g x₀ k₀ x k = k
 
-mul-level : tie.Need-mul-level Inv-loop μ-loop
-mul-level c = search needs
-
-edges-at-requires : tie.Need-edges-at-requires Inv-loop μ-loop
-edges-at-requires c κs = (_, c .before .pre .0)
-
-mul-k : tie.Need-mul-k Inv-loop μ-loop
-mul-k c = search needs
-
-add-k : tie.Need-add-k Inv-loop μ-loop
-add-k c = search needs
-
-mul-k-2 : tie.Need-mul-k-2 Inv-loop μ-loop
-mul-k-2 c = search needs
-
 shared-slice-read-k : tie.Need-shared-slice-read-k Inv-loop μ-loop
 shared-slice-read-k c = let s = sizes (c .before .before .before .pre .0) in omega (arith, s .size, s .tasks-most, c .before .before .before .pre .2)
 
@@ -47,12 +32,6 @@ mul-y c =
     let pre = c .before .before .before .before .before .before .before .pre in
     let loop = c .before .before .before .loop in
     rw (c .before .leaving .ensures .volume-of) (omega (arith, longest-message (pre .0) (pre .1) (pre .2) (loop .inv .1) (c .before .before .loop-test .taken) (pre .3)))
-
-add-y : tie.Need-add-y Inv-loop μ-loop
-add-y c = search needs
-
-mul-y-2 : tie.Need-mul-y-2 Inv-loop μ-loop
-mul-y-2 c = search needs
 
 shared-slice-read-y : tie.Need-shared-slice-read-y Inv-loop μ-loop
 shared-slice-read-y c = let s = sizes (c .before .before .before .before .before .before .before .before .pre .0) in omega (arith, c .before .before .leaving .ensures .to-below, s .size, s .tasks-most)
@@ -129,23 +108,6 @@ pub longest-after-spec : {M : Type 1} → statement M
 longest-after-spec =
     tie.close
     (tie.spec
-    Inv-loop
-    μ-loop
-    mul-level
-    edges-at-requires
-    mul-k
-    add-k
-    mul-k-2
-    shared-slice-read-k
-    loop-holds
-    leaving-requires
-    mul-y
-    add-y
-    mul-y-2
-    shared-slice-read-y
-    add-y-2
-    loop-less
-    loop-again
-    loop-less-2
-    loop-again-2
-    returns)
+    Inv-loop μ-loop (λ c. search needs) (λ c κs. (_, c .before .pre .0)) (λ c. search needs) (λ c. search needs) (λ c. search needs)
+    shared-slice-read-k loop-holds leaving-requires mul-y (λ c. search needs) (λ c. search needs) shared-slice-read-y add-y-2 loop-less loop-again
+    loop-less-2 loop-again-2 returns)

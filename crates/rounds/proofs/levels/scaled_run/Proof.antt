@@ -9,9 +9,6 @@ use Rattle.rounds.proofs.RowSums.{row-room, run-sum-most, row-in, scale
 use Rattle.rounds.proofs.levels.scaled_run.Statement.{statement}
 use Rattle.rounds.proofs.levels.scaled_run.Tie as tie
 
-shared-slice-read-m : tie.Need-shared-slice-read-m
-shared-slice-read-m c = let s = sizes (c .before .before .pre .0 .1) in omega arith
-
 add-a : tie.Need-add-a
 add-a c = let s = sizes (c .before .before .pre .0 .1) in let h = c .before .before .pre .1 in let r = row-room s (c .before .before .args .t) (omega arith) in omega arith
 
@@ -39,18 +36,12 @@ part-total-start c = let s = sizes (c .before .before .pre .0 .1) in let h = c .
 part-total-end : tie.Need-part-total-end
 part-total-end c = let s = sizes (c .before .before .pre .0 .1) in let h = c .before .before .pre .1 in let r = row-room s (c .before .before .args .t) (omega arith) in omega arith
 
-total-requires : tie.Need-total-requires
-total-requires c κs = search needs
-
 returns : tie.Need-returns
 returns c =
     let args = c .before .before .before .before .before .args in
     let pre = c .before .before .before .before .before .pre in
     row-in (args .mem .now) (pre .0 .1) (args .t) (c .before .total .result) (omega (arith, pre .1)) (run-sum-most (args .mem .now) (pre .0 .1) (args .t) (pre .1))
     (c .before .total .ensures) ∙ scaled-one (args .mem .now) (pre .0 .1) (args .t) (pre .1) (c .if1 .taken)
-
-sub-result : tie.Need-sub-result
-sub-result c = let s = sizes (c .before .before .before .before .before .pre .0 .1) in omega arith
 
 mul-result : tie.Need-mul-result
 mul-result c =
@@ -76,18 +67,6 @@ pub scaled-run-spec : {M : Type 1} → statement M
 scaled-run-spec =
     tie.close
     (tie.spec
-    shared-slice-read-m
-    add-a
-    mul-a
-    add-a-2
-    add-a-3
-    add-end
-    mul-total
-    sub-total
-    part-total-start
-    part-total-end
-    total-requires
-    returns
-    sub-result
-    mul-result
-    returns-2)
+    (λ c. let s = sizes (c .before .before .pre .0 .1) in omega arith) add-a mul-a add-a-2 add-a-3 add-end mul-total sub-total part-total-start
+    part-total-end (λ c κs. search needs) returns (λ c. let s = sizes (c .before .before .before .before .before .pre .0 .1) in omega arith)
+    mul-result returns-2)

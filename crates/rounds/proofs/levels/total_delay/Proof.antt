@@ -17,12 +17,6 @@ Inv-loop mem v m x₀ p₀ x p = (p ≤ m) × (m ≤ 16) × (x ≡ sum (map (λ 
 abbrev μ-loop : tie.MeasureT-loop
 μ-loop mem v m x₀ p₀ x p = m - p
 
-shared-slice-read-v : tie.Need-shared-slice-read-v Inv-loop μ-loop
-shared-slice-read-v c = let s = sizes (c .before .before .pre .1) in omega arith
-
-shared-slice-read-m : tie.Need-shared-slice-read-m Inv-loop μ-loop
-shared-slice-read-m c = let s = sizes (c .before .before .before .pre .1) in omega arith
-
 loop-holds : tie.Need-loop-holds Inv-loop μ-loop
 unfolding sum countFrom
 loop-holds c = (search needs, sizes (c .before .before .before .pre .1) .processors-most, refl)
@@ -87,21 +81,12 @@ part-total-end c =
     let r = row-room s (nth d 0 + c .before .loop .p) (omega arith) in
     omega arith
 
-total-requires : tie.Need-total-requires Inv-loop μ-loop
-total-requires c κs = search needs
-
 add-x : tie.Need-add-x Inv-loop μ-loop
 add-x c =
     let d = c .before .before .before .before .before .before .before .args .mem .now in let l = c .before .before .before .loop in
     let b = delay-sum-most d (c .before .before .before .before .before .before .before .pre .1) (l .p) (c .before .before .loop-test .taken) in
     let y = row-in d (c .before .before .before .before .before .before .before .pre .1) (nth d 0 + l .p) (c .total .result) (omega (arith, c .before .before .loop-test .taken)) (omega (arith, b)) (c .total .ensures) in
     omega (arith, y, b, total-most d (c .before .before .before .before .before .before .before .pre .1) (l .p) (l .inv .0))
-
-add-p : tie.Need-add-p Inv-loop μ-loop
-add-p c = search needs
-
-loop-less : tie.Need-loop-less Inv-loop μ-loop
-loop-less c = search needs
 
 loop-again : tie.Need-loop-again Inv-loop μ-loop
 loop-again c =
@@ -120,24 +105,6 @@ pub total-delay-spec : {M : Type 1} → statement M
 total-delay-spec =
     tie.close
     (tie.spec
-    Inv-loop
-    μ-loop
-    shared-slice-read-v
-    shared-slice-read-m
-    loop-holds
-    add-a
-    add-a-2
-    mul-a
-    add-a-3
-    add-a-4
-    add-end
-    mul-total
-    sub-total
-    part-total-start
-    part-total-end
-    total-requires
-    add-x
-    add-p
-    loop-less
-    loop-again
-    returns)
+    Inv-loop μ-loop (λ c. let s = sizes (c .before .before .pre .1) in omega arith)
+    (λ c. let s = sizes (c .before .before .before .pre .1) in omega arith) loop-holds add-a add-a-2 mul-a add-a-3 add-a-4 add-end mul-total sub-total
+    part-total-start part-total-end (λ c κs. search needs) add-x (λ c. search needs) (λ c. search needs) loop-again returns)

@@ -18,21 +18,6 @@ Inv-loop mem rooms v n₀ k₀ n k = (k ≤ v) × (n ≤ 60 + 277 * k) × (n ≡
 abbrev μ-loop : tie.MeasureT-loop
 μ-loop mem rooms v n₀ k₀ n k = v - k
 
-shared-slice-read-v : tie.Need-shared-slice-read-v Inv-loop μ-loop
-shared-slice-read-v c = omega (arith, sizes (c .before .before .pre) .size)
-
-slice-aggregate-line-length : tie.Need-slice-aggregate-line-length Inv-loop μ-loop
-slice-aggregate-line-length c = search needs
-
-plan-head-requires : tie.Need-plan-head-requires Inv-loop μ-loop
-plan-head-requires c κs = c .before .before .before .pre
-
-slice-aggregate-line-length-2 : tie.Need-slice-aggregate-line-length-2 Inv-loop μ-loop
-slice-aggregate-line-length-2 c = search needs
-
-line-length-requires : tie.Need-line-length-requires Inv-loop μ-loop
-line-length-requires c κs = search needs
-
 loop-holds : tie.Need-loop-holds Inv-loop μ-loop
 loop-holds c =
     let args = c .before .before .before .before .before .before .args in
@@ -40,17 +25,11 @@ loop-holds c =
     let (e, m) = head-counted (args .rooms) (args .mem .now) (c .before .before .plan-head .result) (c .line-length .result) (c .before .before .plan-head .ensures) (c .line-length .ensures) in
     (omega arith, omega (arith, m), omega (arith, e, ap length (rows-none (sizes pre))))
 
-row-length-requires : tie.Need-row-length-requires Inv-loop μ-loop
-row-length-requires c κs = (c .before .before .before .before .before .before .before .before .pre, c .loop-test .taken)
-
 add-n : tie.Need-add-n Inv-loop μ-loop
 add-n c = omega (arith, c .before .before .loop .inv .1, c .before .loop-test .taken, c .row-length .ensures .1, sizes (c .before .before .before .before .before .before .before .before .before .pre) .tasks-most .0)
 
 add-k : tie.Need-add-k Inv-loop μ-loop
 add-k c = omega (arith, c .before .loop-test .taken, sizes (c .before .before .before .before .before .before .before .before .before .pre) .tasks-most .0)
-
-loop-less : tie.Need-loop-less Inv-loop μ-loop
-loop-less c = omega (arith, c .before .loop-test .taken)
 
 loop-again : tie.Need-loop-again Inv-loop μ-loop
 loop-again c =
@@ -71,17 +50,7 @@ pub plan-length-spec : {M : Type 1} → statement M
 plan-length-spec =
     tie.close
     (tie.spec
-    Inv-loop
-    μ-loop
-    shared-slice-read-v
-    slice-aggregate-line-length
-    plan-head-requires
-    slice-aggregate-line-length-2
-    line-length-requires
-    loop-holds
-    row-length-requires
-    add-n
-    add-k
-    loop-less
-    loop-again
-    returns)
+    Inv-loop μ-loop (λ c. omega (arith, sizes (c .before .before .pre) .size)) (λ c. search needs) (λ c κs. c .before .before .before .pre)
+    (λ c. search needs) (λ c κs. search needs) loop-holds
+    (λ c κs. (c .before .before .before .before .before .before .before .before .pre, c .loop-test .taken)) add-n add-k
+    (λ c. omega (arith, c .before .loop-test .taken)) loop-again returns)

@@ -9,15 +9,6 @@ use Rattle.rounds.proofs.PlanAnswer.{ends-asked, text-asked, text-most,
 use Rattle.rounds.proofs.plan_text.put_plan.Statement.{statement}
 use Rattle.rounds.proofs.plan_text.put_plan.Tie as tie
 
-mul-best-at : tie.Need-mul-best-at
-mul-best-at c = search needs
-
-mul-worst-at : tie.Need-mul-worst-at
-mul-worst-at c = search needs
-
-draw-plan-requires : tie.Need-draw-plan-requires
-draw-plan-requires c κs = search needs
-
 end-of-requires : tie.Need-end-of-requires
 end-of-requires c κs = ends-asked (c .before .before .before .before .before .before .before .pre .0) (c .before .before .before .draw-plan .ensures .0) (c .before .before .before .draw-plan .ensures .1)
 
@@ -27,17 +18,11 @@ end-of-requires-2 c κs =
     let draw-plan = c .before .before .before .before .before .draw-plan in
     ends-asked (pre .0) (draw-plan .ensures .0) (draw-plan .ensures .1)
 
-mul-mem : tie.Need-mul-mem
-mul-mem c = search needs
-
 slice-write-mem : tie.Need-slice-write-mem
 slice-write-mem c =
     let pre = c .before .before .before .before .before .before .before .before .before .before .pre in
     let draw-plan = c .before .before .before .before .before .before .draw-plan in
     omega (arith, draw-plan .ensures .0 .size, pre .0 .size, draw-plan .ensures .1 .standing .job .fits)
-
-mul-mem-2 : tie.Need-mul-mem-2
-mul-mem-2 c = search needs
 
 slice-write-mem-2 : tie.Need-slice-write-mem-2
 slice-write-mem-2 c =
@@ -64,12 +49,6 @@ write-plan-requires c κs =
     let w = draw-plan .ensures in let x = end-of in let y = end-of2 in
     (text-asked (pre .0) (w .0) (w .1) (x .result) (y .result) (x .ensures) (y .ensures), leb-true _ _ (sym (plan-fits .ensures) ∙ c .before .before .if1 .taken))
 
-same-length : tie.Need-same-length
-same-length c = search needs
-
-same-length-2 : tie.Need-same-length-2
-same-length-2 c = search needs
-
 returns : tie.Need-returns
 returns c =
     let pre = c .before .before .before .before .before .before .before .before .before .before .before .before .before .before .before .before .before .before .pre in
@@ -83,9 +62,6 @@ returns c =
     put-done (pre .0) (w .0) (w .1) (x .result) (y .result) (x .ensures) (y .ensures) (args .out .now) _ refl (leb-true _ _ (sym (plan-fits .ensures) ∙ if1 .taken))
     (c .before .before .write-plan .result) (c .before .before .write-plan .last .0)
     (c .before .before .write-plan .ensures .0) (c .before .before .write-plan .ensures .1)
-
-same-length-3 : tie.Need-same-length-3
-same-length-3 c = search needs
 
 returns-2 : tie.Need-returns-2
 returns-2 c =
@@ -101,19 +77,6 @@ pub put-plan-spec : {M : Type 1} → statement M
 put-plan-spec =
     tie.close
     (tie.spec
-    mul-best-at
-    mul-worst-at
-    draw-plan-requires
-    end-of-requires
-    end-of-requires-2
-    mul-mem
-    slice-write-mem
-    mul-mem-2
-    slice-write-mem-2
-    plan-fits-requires
-    write-plan-requires
-    same-length
-    same-length-2
-    returns
-    same-length-3
+    (λ c. search needs) (λ c. search needs) (λ c κs. search needs) end-of-requires end-of-requires-2 (λ c. search needs) slice-write-mem
+    (λ c. search needs) slice-write-mem-2 plan-fits-requires write-plan-requires (λ c. search needs) (λ c. search needs) returns (λ c. search needs)
     returns-2)

@@ -4,18 +4,6 @@ use Rattle.rounds.proofs.PlanTextLaws.{head-part, rows-room, plan-place
 use Rattle.rounds.proofs.plan_text.write_plan.Statement.{statement}
 use Rattle.rounds.proofs.plan_text.write_plan.Tie as tie
 
-slice-aggregate-write-line : tie.Need-slice-aggregate-write-line
-slice-aggregate-write-line c = search needs
-
-plan-head-requires : tie.Need-plan-head-requires
-plan-head-requires c κs = c .before .before .before .before .pre .0
-
-slice-aggregate-write-line-2 : tie.Need-slice-aggregate-write-line-2
-slice-aggregate-write-line-2 c = search needs
-
-write-line-requires : tie.Need-write-line-requires
-write-line-requires c κs = search needs
-
 write-rows-requires : tie.Need-write-rows-requires
 write-rows-requires c κs =
     let a = c .before .before .before .before .before .before .before .before .before .before .args in
@@ -24,9 +12,6 @@ write-rows-requires c κs =
     let w = c .before .before .before .write-line in
     let q = head-part (a .rooms) (a .mem .now) (plan-head .result) (plan-head .ensures) in
     (pre .0, rows-room (a .rooms) (a .mem .now) (a .out .now) (w .last .0) (w .result) (pre .1) (rw q at (w .ensures .0)) (rw q at (w .ensures .1)))
-
-same-length : tie.Need-same-length
-same-length c = search needs
 
 returns : tie.Need-returns
 returns c =
@@ -46,10 +31,5 @@ pub write-plan-spec : {M : Type 1} → statement M
 write-plan-spec =
     tie.close
     (tie.spec
-    slice-aggregate-write-line
-    plan-head-requires
-    slice-aggregate-write-line-2
-    write-line-requires
-    write-rows-requires
-    same-length
-    returns)
+    (λ c. search needs) (λ c κs. c .before .before .before .before .pre .0) (λ c. search needs) (λ c κs. search needs) write-rows-requires
+    (λ c. search needs) returns)

@@ -18,9 +18,6 @@ Inv-loop out₀ from mem rooms v at₀ k₀ out at k = (k ≤ v) × (at ≡ from
 abbrev μ-loop : tie.MeasureT-loop
 μ-loop out₀ from mem rooms v at₀ k₀ out at k = v - k
 
-shared-slice-read-v : tie.Need-shared-slice-read-v Inv-loop μ-loop
-shared-slice-read-v c = omega (arith, sizes (c .before .before .before .pre .0) .size)
-
 loop-holds : tie.Need-loop-holds Inv-loop μ-loop
 loop-holds c =
     let a = c .before .before .before .args in
@@ -43,9 +40,6 @@ write-row-requires c κs =
 
 add-k : tie.Need-add-k Inv-loop μ-loop
 add-k c = omega (arith, c .before .before .before .before .loop-test .taken, sizes (c .before .before .before .before .before .before .before .before .before .pre .0) .tasks-most .0)
-
-loop-less : tie.Need-loop-less Inv-loop μ-loop
-loop-less c = omega (arith, c .before .before .before .before .loop-test .taken)
 
 loop-again : tie.Need-loop-again Inv-loop μ-loop
 loop-again c =
@@ -84,13 +78,5 @@ pub write-rows-spec : {M : Type 1} → statement M
 write-rows-spec =
     tie.close
     (tie.spec
-    Inv-loop
-    μ-loop
-    shared-slice-read-v
-    loop-holds
-    write-row-requires
-    add-k
-    loop-less
-    loop-again
-    same-length
-    returns)
+    Inv-loop μ-loop (λ c. omega (arith, sizes (c .before .before .before .pre .0) .size)) loop-holds write-row-requires add-k
+    (λ c. omega (arith, c .before .before .before .before .loop-test .taken)) loop-again same-length returns)

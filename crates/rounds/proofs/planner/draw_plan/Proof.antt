@@ -36,21 +36,6 @@ some c = let l = c .before .loop in listed-some (l .inv .3) (omega (arith, c .lo
 last-task : (c : tie.In-loop Inv-loop μ-loop) → nth (c .before .loop .free) (c .before .loop .n - 1) < nth (c .before .loop .mem) 0
 last-task c = let l = c .before .loop in l .inv .6 .tasks .task-of (l .n - 1) (omega (arith, some c))
 
-prepare-requires : tie.Need-prepare-requires Inv-loop μ-loop
-prepare-requires c κs = search needs
-
-slice-read-v : tie.Need-slice-read-v Inv-loop μ-loop
-slice-read-v c = let w = sizes (c .before .before .before .prepare .ensures .1 .standing .job) in omega arith
-
-delay-table-requires : tie.Need-delay-table-requires Inv-loop μ-loop
-delay-table-requires c κs = (_, c .before .before .before .before .prepare .ensures .1 .standing .job)
-
-new-requires : tie.Need-new-requires Inv-loop μ-loop
-new-requires c κs = search needs
-
-slice-aggregate-list-free : tie.Need-slice-aggregate-list-free Inv-loop μ-loop
-slice-aggregate-list-free c = search needs
-
 list-free-requires : tie.Need-list-free-requires Inv-loop μ-loop
 list-free-requires c κs =
     let s = c .before .before .before .before .before .before .before .before .prepare .ensures .1 .standing in
@@ -64,16 +49,10 @@ loop-holds c =
     let s = prepare .ensures in
     (search needs, refl, kept-all, s .1, s .2, outset-clocks (rw (processors-in (prepare .last .0)) (sizes (s .1 .standing .job) .processors-most)) (new .ensures .0) (new .ensures .1), c .before .list-free .ensures)
 
-sub-t : tie.Need-sub-t Inv-loop μ-loop
-sub-t c = some c
-
 array-read-t : tie.Need-array-read-t Inv-loop μ-loop
 array-read-t c =
     let l = c .before .loop in
     omega (arith, l .inv .6 .tasks .size, free-few (l .inv .6 .tasks), sizes (l .inv .3 .standing .job) .tasks-most .0, some c)
-
-cast-t : tie.Need-cast-t Inv-loop μ-loop
-cast-t c = omega (arith, last-task c, sizes (c .before .loop .inv .3 .standing .job) .tasks-most .0)
 
 place-task-requires : tie.Need-place-task-requires Inv-loop μ-loop
 place-task-requires c κs =
@@ -90,12 +69,6 @@ place-task-requires c κs =
       l .inv .5,
     )
 
-slice-aggregate-release : tie.Need-slice-aggregate-release Inv-loop μ-loop
-slice-aggregate-release c = search needs
-
-sub-release : tie.Need-sub-release Inv-loop μ-loop
-sub-release c = some (c .before .before .before .before .before .before .before)
-
 release-requires : tie.Need-release-requires Inv-loop μ-loop
 release-requires c κs =
     let l = c .before .before .before .before .before .before .before .before .loop in
@@ -108,9 +81,6 @@ add-k c =
     let loop = c .before .before .before .before .before .before .before .before .before .before .before .before .loop in
     let loop-test = c .before .before .before .before .before .before .before .before .before .before .before .loop-test in
     omega (arith, loop-test .taken, loop .inv .1, sizes (loop .inv .3 .standing .job) .tasks-most .0)
-
-loop-less : tie.Need-loop-less Inv-loop μ-loop
-loop-less c = search needs
 
 loop-again : tie.Need-loop-again Inv-loop μ-loop
 loop-again c =
@@ -140,24 +110,8 @@ pub draw-plan-spec : {M : Type 1} → statement M
 draw-plan-spec =
     tie.close
     (tie.spec
-    Inv-loop
-    μ-loop
-    prepare-requires
-    slice-read-v
-    delay-table-requires
-    new-requires
-    slice-aggregate-list-free
-    list-free-requires
-    loop-holds
-    sub-t
-    array-read-t
-    cast-t
-    place-task-requires
-    slice-aggregate-release
-    sub-release
-    release-requires
-    add-k
-    loop-less
-    loop-again
-    same-length
-    returns)
+    Inv-loop μ-loop (λ c κs. search needs) (λ c. let w = sizes (c .before .before .before .prepare .ensures .1 .standing .job) in omega arith)
+    (λ c κs. (_, c .before .before .before .before .prepare .ensures .1 .standing .job)) (λ c κs. search needs) (λ c. search needs) list-free-requires
+    loop-holds (λ c. some c) array-read-t (λ c. omega (arith, last-task c, sizes (c .before .loop .inv .3 .standing .job) .tasks-most .0))
+    place-task-requires (λ c. search needs) (λ c. some (c .before .before .before .before .before .before .before)) release-requires add-k
+    (λ c. search needs) loop-again same-length returns)

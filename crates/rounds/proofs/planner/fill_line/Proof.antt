@@ -23,48 +23,15 @@ abbrev μ-loop : tie.MeasureT-loop
 held : (c : tie.Start Inv-loop μ-loop) → Sizes (c .args .rooms) (c .args .mem .now)
 held c = sizes (c .pre .drawn .standing .job)
 
-mul-rows : tie.Need-mul-rows Inv-loop μ-loop
-mul-rows c = search needs
-
-slice-read-m : tie.Need-slice-read-m Inv-loop μ-loop
-slice-read-m c = omega (arith, held (c .before .before))
-
-slice-read-w : tie.Need-slice-read-w Inv-loop μ-loop
-slice-read-w c = omega (arith, held (c .before .before .before))
-
-add-w : tie.Need-add-w Inv-loop μ-loop
-add-w c = omega (arith, held (c .before .before .before))
-
-mul-a : tie.Need-mul-a Inv-loop μ-loop
-mul-a c = omega (arith, held (c .before .before .before))
-
-add-a : tie.Need-add-a Inv-loop μ-loop
-add-a c = omega (arith, held (c .before .before .before))
-
 loop-holds : tie.Need-loop-holds Inv-loop μ-loop
 unfolding keep countFrom
 loop-holds c = (search needs, refl, begun-none)
 
-is-chosen-requires : tie.Need-is-chosen-requires Inv-loop μ-loop
-is-chosen-requires c κs = search needs
-
-mul-put-replica : tie.Need-mul-put-replica Inv-loop μ-loop
-mul-put-replica c = omega (arith, held (c .before .before .before .before .before .before .before .before .before))
-
 array-read-put-replica : tie.Need-array-read-put-replica Inv-loop μ-loop
 array-read-put-replica c = omega (arith, held (c .before .before .before .before .before .before .before .before .before), c .before .before .before .before .before .before .before .before .before .pre .early-size)
 
-cast-put-replica : tie.Need-cast-put-replica Inv-loop μ-loop
-cast-put-replica c = search needs
-
-mul-put-replica-2 : tie.Need-mul-put-replica-2 Inv-loop μ-loop
-mul-put-replica-2 c = omega (arith, held (c .before .before .before .before .before .before .before .before .before))
-
 array-read-put-replica-2 : tie.Need-array-read-put-replica-2 Inv-loop μ-loop
 array-read-put-replica-2 c = omega (arith, held (c .before .before .before .before .before .before .before .before .before), c .before .before .before .before .before .before .before .before .before .pre .late-size)
-
-cast-put-replica-2 : tie.Need-cast-put-replica-2 Inv-loop μ-loop
-cast-put-replica-2 c = search needs
 
 put-replica-requires : tie.Need-put-replica-requires Inv-loop μ-loop
 put-replica-requires c κs =
@@ -88,12 +55,6 @@ add-c c =
     (held (c .before .before .before .before .before .before .before .before .before .before .before .before) .processors-most) (loop-test .taken)) in
     omega (arith, box-room pre (loop-test .taken) (l .inv .1) (l .inv .2) (e ∙ if1 .taken))
 
-add-p : tie.Need-add-p Inv-loop μ-loop
-add-p c = omega (arith, held (c .before .before .before .before .before .before .before .before))
-
-loop-less : tie.Need-loop-less Inv-loop μ-loop
-loop-less c = search needs
-
 loop-again : tie.Need-loop-again Inv-loop μ-loop
 loop-again c =
     let a = c .before .before .before .before .before .before .before .before .args in
@@ -112,9 +73,6 @@ loop-again c =
     (c .if1 .came) in
     (search needs, b .0, b .1)
 
-same-length : tie.Need-same-length Inv-loop μ-loop
-same-length c = search needs
-
 returns : tie.Need-returns Inv-loop μ-loop
 returns c = let l = c .before .loop in boxes-taken (c .before .before .before .before .before .pre) (omega arith) (l .inv .2)
 
@@ -122,26 +80,10 @@ pub fill-line-spec : {M : Type 1} → statement M
 fill-line-spec =
     tie.close
     (tie.spec
-    Inv-loop
-    μ-loop
-    mul-rows
-    slice-read-m
-    slice-read-w
-    add-w
-    mul-a
-    add-a
-    loop-holds
-    is-chosen-requires
-    mul-put-replica
-    array-read-put-replica
-    cast-put-replica
-    mul-put-replica-2
-    array-read-put-replica-2
-    cast-put-replica-2
-    put-replica-requires
-    add-c
-    add-p
-    loop-less
-    loop-again
-    same-length
-    returns)
+    Inv-loop μ-loop (λ c. search needs) (λ c. omega (arith, held (c .before .before))) (λ c. omega (arith, held (c .before .before .before)))
+    (λ c. omega (arith, held (c .before .before .before))) (λ c. omega (arith, held (c .before .before .before)))
+    (λ c. omega (arith, held (c .before .before .before))) loop-holds (λ c κs. search needs)
+    (λ c. omega (arith, held (c .before .before .before .before .before .before .before .before .before))) array-read-put-replica (λ c. search needs)
+    (λ c. omega (arith, held (c .before .before .before .before .before .before .before .before .before))) array-read-put-replica-2
+    (λ c. search needs) put-replica-requires add-c (λ c. omega (arith, held (c .before .before .before .before .before .before .before .before)))
+    (λ c. search needs) loop-again (λ c. search needs) returns)

@@ -20,12 +20,6 @@ small c =
     let w = sizes (p .1 .standing .job) in
     (omega arith, omega (arith, task-below (p .1) (p .3) (p .2) (c .args .t) (p .4)), w .size)
 
-mul-rows : tie.Need-mul-rows
-mul-rows c = search needs
-
-mul-line : tie.Need-mul-line
-mul-line c = search needs
-
 finishes-requires : tie.Need-finishes-requires
 finishes-requires c κs =
     let s = c .before .before in
@@ -42,26 +36,8 @@ finishes-requires c κs =
 fill-line-requires : tie.Need-fill-line-requires
 fill-line-requires c κs = let s = c .before .before .before .before .before .before in let p = s .pre in tried (p .1) (p .3) (p .2) (s .args .t) (p .4) (p .5) (c .before .before .before .finishes .ensures)
 
-mul-mem : tie.Need-mul-mem
-mul-mem c = omega (arith, small (c .before .before .before .before .before .before .before .before .before))
-
-add-mem : tie.Need-add-mem
-add-mem c = omega (arith, small (c .before .before .before .before .before .before .before .before .before))
-
-mul-mem-2 : tie.Need-mul-mem-2
-mul-mem-2 c = omega (arith, small (c .before .before .before .before .before .before .before .before .before))
-
 slice-write-mem : tie.Need-slice-write-mem
 slice-write-mem c = omega (arith, small (c .before .before .before .before .before .before .before .before .before), c .before .before .fill-line .ensures .kept .size)
-
-add-mem-2 : tie.Need-add-mem-2
-add-mem-2 c = omega (arith, small (c .before .before .before .before .before .before .before .before .before))
-
-add-mem-3 : tie.Need-add-mem-3
-add-mem-3 c = omega (arith, small (c .before .before .before .before .before .before .before .before .before))
-
-mul-mem-3 : tie.Need-mul-mem-3
-mul-mem-3 c = omega (arith, small (c .before .before .before .before .before .before .before .before .before))
 
 slice-write-mem-2 : tie.Need-slice-write-mem-2
 slice-write-mem-2 c = simp length-set (omega (arith, small (c .before .before .before .before .before .before .before .before .before), c .before .before .fill-line .ensures .kept .size))
@@ -79,9 +55,6 @@ advance-line-requires c κs =
     let n = drawn-next (p .1) (p .3) (p .2) t (p .4) (laid (p .1) (p .3) (p .2) t (p .4) (c .before .before .before .fill-line .last .0) (c .before .before .before .fill-line .ensures)) in
     line-timed (n .standing) (omega arith) (n .ticks) (c .before .before .before .before .before .before .before .before .before .before .args .k) (omega arith)
 
-same-length : tie.Need-same-length
-same-length c = search needs
-
 returns : tie.Need-returns
 returns c =
     let p = c .before .before .before .before .before .before .before .before .before .before .before .pre in
@@ -98,20 +71,11 @@ pub place-task-spec : {M : Type 1} → statement M
 place-task-spec =
     tie.close
     (tie.spec
-    mul-rows
-    mul-line
-    finishes-requires
-    fill-line-requires
-    mul-mem
-    add-mem
-    mul-mem-2
-    slice-write-mem
-    add-mem-2
-    add-mem-3
-    mul-mem-3
-    slice-write-mem-2
-    mul-advance-line
-    add-advance-line
-    advance-line-requires
-    same-length
-    returns)
+    (λ c. search needs) (λ c. search needs) finishes-requires fill-line-requires
+    (λ c. omega (arith, small (c .before .before .before .before .before .before .before .before .before)))
+    (λ c. omega (arith, small (c .before .before .before .before .before .before .before .before .before)))
+    (λ c. omega (arith, small (c .before .before .before .before .before .before .before .before .before))) slice-write-mem
+    (λ c. omega (arith, small (c .before .before .before .before .before .before .before .before .before)))
+    (λ c. omega (arith, small (c .before .before .before .before .before .before .before .before .before)))
+    (λ c. omega (arith, small (c .before .before .before .before .before .before .before .before .before))) slice-write-mem-2 mul-advance-line
+    add-advance-line advance-line-requires (λ c. search needs) returns)

@@ -10,9 +10,6 @@ use Rattle.rounds.proofs.OutsetLaws.{outset-kept, outset, outset-counts
 use Rattle.rounds.proofs.planner.prepare.Statement.{statement}
 use Rattle.rounds.proofs.planner.prepare.Tie as tie
 
-settle-levels-requires : tie.Need-settle-levels-requires
-settle-levels-requires c κs = (c .before .before .pre .0, c .before .before .pre .2)
-
 fill-far-requires : tie.Need-fill-far-requires
 fill-far-requires c κs = held-kept (c .before .before .before .before .before .before .pre .0) (c .before .before .before .settle-levels .ensures .0) (omega arith)
 
@@ -30,9 +27,6 @@ count-blocked-requires c κs =
     let fill-far = c .before .before .before .before .before .before .before .fill-far in
     let clear-tasks = c .before .before .before .clear-tasks in
     (held-kept (held-kept (held-kept (pre .0) (settle-levels .ensures .0) (omega arith)) (fill-far .ensures .0) (omega arith)) (clear-tasks .ensures .0) (omega arith), clear-tasks .ensures .1 .blocked)
-
-same-length : tie.Need-same-length
-same-length c = search needs
 
 returns : tie.Need-returns
 returns c =
@@ -54,9 +48,5 @@ pub prepare-spec : {M : Type 1} → statement M
 prepare-spec =
     tie.close
     (tie.spec
-    settle-levels-requires
-    fill-far-requires
-    clear-tasks-requires
-    count-blocked-requires
-    same-length
+    (λ c κs. (c .before .before .pre .0, c .before .before .pre .2)) fill-far-requires clear-tasks-requires count-blocked-requires (λ c. search needs)
     returns)

@@ -16,18 +16,6 @@ Inv-loop mem₀ rooms t free₀ count g n₀ k₀ mem free n k = ((i : ℕ) × D
 abbrev μ-loop : tie.MeasureT-loop
 μ-loop mem₀ rooms t free₀ count g n₀ k₀ mem free n k = k
 
-edges-at-requires : tie.Need-edges-at-requires Inv-loop μ-loop
-edges-at-requires c κs = (_, c .before .before .before .pre .0 .1 .standing .job)
-
-mul-k : tie.Need-mul-k Inv-loop μ-loop
-mul-k c = search needs
-
-add-k : tie.Need-add-k Inv-loop μ-loop
-add-k c = search needs
-
-mul-k-2 : tie.Need-mul-k-2 Inv-loop μ-loop
-mul-k-2 c = search needs
-
 slice-read-k : tie.Need-slice-read-k Inv-loop μ-loop
 slice-read-k c = let s = sizes (c .before .before .before .before .before .pre .0 .1 .standing .job) in omega (arith, s .size, s .tasks-most, c .before .before .before .before .before .pre .3)
 
@@ -65,9 +53,6 @@ loop-again c =
     let (e, f) = release-left s r h (leaving .ensures) in
     ((i, s, rw f (unblock .ensures .0 (args .mem .now) i (loop .k) (record { drawn = s; releasing = r; some = h; enters = e }))), unblock .ensures .1)
 
-same-length : tie.Need-same-length Inv-loop μ-loop
-same-length c = c .before .loop .inv .0 .2 .kept .size
-
 same-length-2 : tie.Need-same-length-2 Inv-loop μ-loop
 same-length-2 c = c .before .loop .inv .1 .tasks .size ∙ sym (c .before .before .before .before .before .before .before .pre .2 .tasks .size)
 
@@ -78,18 +63,5 @@ pub release-spec : {M : Type 1} → statement M
 release-spec =
     tie.close
     (tie.spec
-    Inv-loop
-    μ-loop
-    edges-at-requires
-    mul-k
-    add-k
-    mul-k-2
-    slice-read-k
-    loop-holds
-    leaving-requires
-    unblock-requires
-    loop-less
-    loop-again
-    same-length
-    same-length-2
-    returns)
+    Inv-loop μ-loop (λ c κs. (_, c .before .before .before .pre .0 .1 .standing .job)) (λ c. search needs) (λ c. search needs) (λ c. search needs)
+    slice-read-k loop-holds leaving-requires unblock-requires loop-less loop-again (λ c. c .before .loop .inv .0 .2 .kept .size) same-length-2 returns)

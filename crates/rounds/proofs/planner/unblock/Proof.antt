@@ -8,32 +8,14 @@ use Rattle.rounds.proofs.ReleaseLaws.{release-within, release-some, rel
 use Rattle.rounds.proofs.planner.unblock.Statement.{statement}
 use Rattle.rounds.proofs.planner.unblock.Tie as tie
 
-mul-blocked : tie.Need-mul-blocked
-mul-blocked c = search needs
-
-add-b : tie.Need-add-b
-add-b c = search needs
-
-mul-b : tie.Need-mul-b
-mul-b c = search needs
-
 slice-read-b : tie.Need-slice-read-b
 slice-read-b c = let v = c .before .before .before .pre .0 .3 in omega (arith, release-within (v .drawn) (v .releasing) (v .some) _ (v .enters), v .releasing .kept .size, sizes (v .drawn .standing .job) .size)
 
 sub-b : tie.Need-sub-b
 sub-b c = let v = c .before .before .before .pre .0 .3 in omega (arith, release-some (v .drawn) (v .releasing) (v .some) _ (v .enters))
 
-add-mem : tie.Need-add-mem
-add-mem c = search needs
-
-mul-mem : tie.Need-mul-mem
-mul-mem c = search needs
-
 slice-write-mem : tie.Need-slice-write-mem
 slice-write-mem c = let v = c .before .before .before .pre .0 .3 in omega (arith, release-within (v .drawn) (v .releasing) (v .some) _ (v .enters), v .releasing .kept .size, sizes (v .drawn .standing .job) .size)
-
-same-length : tie.Need-same-length
-same-length c = search needs
 
 returns : tie.Need-returns
 returns c =
@@ -45,15 +27,6 @@ returns c =
 top-level-requires : tie.Need-top-level-requires
 top-level-requires c κs = let v = c .before .before .before .before .before .pre .0 .3 in release-asks (v .drawn) (v .releasing) (v .some) _ (v .enters) (omega (arith, c .before .if1 .left))
 
-mul-mem-2 : tie.Need-mul-mem-2
-mul-mem-2 c = search needs
-
-add-mem-2 : tie.Need-add-mem-2
-add-mem-2 c = search needs
-
-mul-mem-3 : tie.Need-mul-mem-3
-mul-mem-3 c = search needs
-
 slice-read-mem : tie.Need-slice-read-mem
 slice-read-mem c =
     let v = c .before .before .before .before .before .before .before .pre .0 .3 in
@@ -64,15 +37,6 @@ add-mem-3 c =
     let pre = c .before .before .before .before .before .before .before .pre in
     let if1 = c .before .before .before .if1 in
     let v = pre .0 .3 in omega (arith, release-level (v .drawn) (v .releasing) (v .some) _ (v .enters) (omega (arith, if1 .left)), c .before .top-level .ensures .1)
-
-mul-mem-4 : tie.Need-mul-mem-4
-mul-mem-4 c = search needs
-
-add-mem-4 : tie.Need-add-mem-4
-add-mem-4 c = search needs
-
-mul-mem-5 : tie.Need-mul-mem-5
-mul-mem-5 c = search needs
 
 slice-write-mem-2 : tie.Need-slice-write-mem-2
 slice-write-mem-2 c =
@@ -100,12 +64,6 @@ add-result c =
     let pre = c .before .before .before .before .before .before .before .before .before .before .before .before .pre in
     let v = pre .0 .3 in omega (arith, list-few (v .drawn) (v .releasing) (pre .1))
 
-same-length-2 : tie.Need-same-length-2
-same-length-2 c = search needs
-
-same-length-3 : tie.Need-same-length-3
-same-length-3 c = search needs
-
 returns-2 : tie.Need-returns-2
 returns-2 c =
     let pre = c .before .before .before .before .before .before .before .before .before .before .before .before .pre in
@@ -121,29 +79,7 @@ pub unblock-spec : {M : Type 1} → statement M
 unblock-spec =
     tie.close
     (tie.spec
-    mul-blocked
-    add-b
-    mul-b
-    slice-read-b
-    sub-b
-    add-mem
-    mul-mem
-    slice-write-mem
-    same-length
-    returns
-    top-level-requires
-    mul-mem-2
-    add-mem-2
-    mul-mem-3
-    slice-read-mem
-    add-mem-3
-    mul-mem-4
-    add-mem-4
-    mul-mem-5
-    slice-write-mem-2
-    cast-put-in
-    put-in-requires
-    add-result
-    same-length-2
-    same-length-3
-    returns-2)
+    (λ c. search needs) (λ c. search needs) (λ c. search needs) slice-read-b sub-b (λ c. search needs) (λ c. search needs) slice-write-mem
+    (λ c. search needs) returns top-level-requires (λ c. search needs) (λ c. search needs) (λ c. search needs) slice-read-mem add-mem-3
+    (λ c. search needs) (λ c. search needs) (λ c. search needs) slice-write-mem-2 cast-put-in put-in-requires add-result (λ c. search needs)
+    (λ c. search needs) returns-2)

@@ -24,15 +24,6 @@ Inv-loop mem₀ rooms far v m p₀ mem p =
 abbrev μ-loop : tie.MeasureT-loop
 μ-loop mem₀ rooms far v m p₀ mem p = m - p
 
-mul-far : tie.Need-mul-far Inv-loop μ-loop
-mul-far c = search needs
-
-slice-read-v : tie.Need-slice-read-v Inv-loop μ-loop
-slice-read-v c = let s = sizes (c .before .before .pre) in omega arith
-
-slice-read-m : tie.Need-slice-read-m Inv-loop μ-loop
-slice-read-m c = let s = sizes (c .before .before .before .pre) in omega arith
-
 loop-holds : tie.Need-loop-holds Inv-loop μ-loop
 loop-holds c = let s = sizes (c .before .before .before .pre) in (search needs, s .processors-most, s .size, kept-all, λ q h. absurd (omega arith))
 
@@ -72,21 +63,6 @@ largest-delay-requires c κs =
     let r = row-room s (nth d 0 + c .before .before .loop .p) (omega arith) in
     omega arith
 
-add-mem : tie.Need-add-mem Inv-loop μ-loop
-add-mem c = search needs
-
-mul-mem : tie.Need-mul-mem Inv-loop μ-loop
-mul-mem c = search needs
-
-slice-write-mem : tie.Need-slice-write-mem Inv-loop μ-loop
-slice-write-mem c = search needs
-
-add-p : tie.Need-add-p Inv-loop μ-loop
-add-p c = search needs
-
-loop-less : tie.Need-loop-less Inv-loop μ-loop
-loop-less c = search needs
-
 loop-again : tie.Need-loop-again Inv-loop μ-loop
 loop-again c =
     let args = c .before .before .before .before .before .before .before .args in
@@ -100,9 +76,6 @@ loop-again c =
       table-more (largestDelay (jobIn d)) (l .mem) (farAt (args .rooms)) (l .p) (x .result) (l .inv .4) (omega arith) (far-kept pre (l .inv .3) (l .p) (x .result) h (x .ensures)),
     )
 
-same-length : tie.Need-same-length Inv-loop μ-loop
-same-length c = c .before .loop .inv .3 .size
-
 returns : tie.Need-returns Inv-loop μ-loop
 returns c =
     let d = c .before .before .before .before .before .args .mem .now in let l = c .before .loop in let s = sizes (c .before .before .before .before .before .pre) in
@@ -112,23 +85,7 @@ pub fill-far-spec : {M : Type 1} → statement M
 fill-far-spec =
     tie.close
     (tie.spec
-    Inv-loop
-    μ-loop
-    mul-far
-    slice-read-v
-    slice-read-m
-    loop-holds
-    add-largest-delay
-    add-largest-delay-2
-    mul-largest-delay
-    add-largest-delay-3
-    add-largest-delay-4
-    largest-delay-requires
-    add-mem
-    mul-mem
-    slice-write-mem
-    add-p
-    loop-less
-    loop-again
-    same-length
-    returns)
+    Inv-loop μ-loop (λ c. search needs) (λ c. let s = sizes (c .before .before .pre) in omega arith)
+    (λ c. let s = sizes (c .before .before .before .pre) in omega arith) loop-holds add-largest-delay add-largest-delay-2 mul-largest-delay
+    add-largest-delay-3 add-largest-delay-4 largest-delay-requires (λ c. search needs) (λ c. search needs) (λ c. search needs) (λ c. search needs)
+    (λ c. search needs) loop-again (λ c. c .before .loop .inv .3 .size) returns)

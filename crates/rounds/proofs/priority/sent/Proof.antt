@@ -6,39 +6,6 @@ use Rattle.rounds.proofs.TopLaws.{sent-on, sent-little}
 use Rattle.rounds.proofs.priority.sent.Statement.{statement}
 use Rattle.rounds.proofs.priority.sent.Tie as tie
 
-mul-far : tie.Need-mul-far
-mul-far c = search needs
-
-mul-p : tie.Need-mul-p
-mul-p c = search needs
-
-add-p : tie.Need-add-p
-add-p c = search needs
-
-add-p-2 : tie.Need-add-p-2
-add-p-2 c = search needs
-
-mul-p-2 : tie.Need-mul-p-2
-mul-p-2 c = search needs
-
-shared-slice-read-p : tie.Need-shared-slice-read-p
-shared-slice-read-p c = search needs
-
-mul-result : tie.Need-mul-result
-mul-result c = search needs
-
-add-result : tie.Need-add-result
-add-result c = search needs
-
-add-result-2 : tie.Need-add-result-2
-add-result-2 c = search needs
-
-mul-result-2 : tie.Need-mul-result-2
-mul-result-2 c = search needs
-
-shared-slice-read-result : tie.Need-shared-slice-read-result
-shared-slice-read-result c = search needs
-
 add-result-3 : tie.Need-add-result-3
 add-result-3 c = omega (arith, sent-on (c .before .before .pre .0) (c .before .before .pre .1) (c .before .before .args .c) (c .before .before .pre .2))
 
@@ -70,20 +37,6 @@ pub sent-spec : {M : Type 1} → statement M
 sent-spec =
     tie.close
     (tie.spec
-    mul-far
-    mul-p
-    add-p
-    add-p-2
-    mul-p-2
-    shared-slice-read-p
-    mul-result
-    add-result
-    add-result-2
-    mul-result-2
-    shared-slice-read-result
-    add-result-3
-    mul-result-3
-    shared-slice-read-result-2
-    mul-result-4
-    add-result-4
-    returns)
+    (λ c. search needs) (λ c. search needs) (λ c. search needs) (λ c. search needs) (λ c. search needs) (λ c. search needs) (λ c. search needs)
+    (λ c. search needs) (λ c. search needs) (λ c. search needs) (λ c. search needs) add-result-3 mul-result-3 shared-slice-read-result-2 mul-result-4
+    add-result-4 returns)

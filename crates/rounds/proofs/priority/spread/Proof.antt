@@ -18,26 +18,11 @@ Inv-loop mem rooms a volume w x₀ c₀ x c = (c ≤ w) × (x ≤ 4296011520) ×
 abbrev μ-loop : tie.MeasureT-loop
 μ-loop mem rooms a volume w x₀ c₀ x c = w - c
 
-shared-slice-read-w : tie.Need-shared-slice-read-w Inv-loop μ-loop
-shared-slice-read-w c = search needs
-
-add-w : tie.Need-add-w Inv-loop μ-loop
-add-w c = search needs
-
-sent-requires : tie.Need-sent-requires Inv-loop μ-loop
-sent-requires c κs = (c .before .before .pre .0, c .before .before .pre .1, omega arith)
-
 loop-holds : tie.Need-loop-holds Inv-loop μ-loop
 loop-holds c = (omega arith, c .sent .ensures .1, spread-first (c .before .before .before .pre .0) (c .before .before .before .pre .1) (c .sent .result) (c .sent .ensures .0))
 
 sent-requires-2 : tie.Need-sent-requires-2 Inv-loop μ-loop
 sent-requires-2 c κs = (c .before .before .before .before .before .pre .0, c .before .before .before .before .before .pre .1, c .loop-test .taken)
-
-add-c : tie.Need-add-c Inv-loop μ-loop
-add-c c = search needs
-
-loop-less : tie.Need-loop-less Inv-loop μ-loop
-loop-less c = search needs
 
 loop-again : tie.Need-loop-again Inv-loop μ-loop
 loop-again c =
@@ -54,14 +39,5 @@ pub spread-spec : {M : Type 1} → statement M
 spread-spec =
     tie.close
     (tie.spec
-    Inv-loop
-    μ-loop
-    shared-slice-read-w
-    add-w
-    sent-requires
-    loop-holds
-    sent-requires-2
-    add-c
-    loop-less
-    loop-again
-    returns)
+    Inv-loop μ-loop (λ c. search needs) (λ c. search needs) (λ c κs. (c .before .before .pre .0, c .before .before .pre .1, omega arith)) loop-holds
+    sent-requires-2 (λ c. search needs) (λ c. search needs) loop-again returns)

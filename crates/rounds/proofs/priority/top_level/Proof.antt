@@ -18,18 +18,6 @@ Inv-loop mem rooms t g x₀ k₀ x k = (x ≤ 4296011520) × Gathering rooms (sp
 abbrev μ-loop : tie.MeasureT-loop
 μ-loop mem rooms t g x₀ k₀ x k = k
 
-edges-at-requires : tie.Need-edges-at-requires Inv-loop μ-loop
-edges-at-requires c κs = (_, c .before .pre .0 .1 .job)
-
-mul-k : tie.Need-mul-k Inv-loop μ-loop
-mul-k c = search needs
-
-add-k : tie.Need-add-k Inv-loop μ-loop
-add-k c = search needs
-
-mul-k-2 : tie.Need-mul-k-2 Inv-loop μ-loop
-mul-k-2 c = search needs
-
 shared-slice-read-k : tie.Need-shared-slice-read-k Inv-loop μ-loop
 shared-slice-read-k c = let s = sizes (c .before .before .before .pre .0 .1 .job) in omega (arith, s .size, s .tasks-most, c .before .before .before .pre .1)
 
@@ -53,9 +41,6 @@ entering-requires c κs =
       most = g .most;
       feeds = gather-edge (spreads (args .rooms) (args .mem .now)) (pre .0 .0) (args .t) (args .mem .now) (pre .0 .1) g h (pre .2);
     }
-
-cast-spread : tie.Need-cast-spread Inv-loop μ-loop
-cast-spread c = search needs
 
 spread-requires : tie.Need-spread-requires Inv-loop μ-loop
 spread-requires c κs =
@@ -145,24 +130,6 @@ pub top-level-spec : {M : Type 1} → statement M
 top-level-spec =
     tie.close
     (tie.spec
-    Inv-loop
-    μ-loop
-    edges-at-requires
-    mul-k
-    add-k
-    mul-k-2
-    shared-slice-read-k
-    loop-holds
-    entering-requires
-    cast-spread
-    spread-requires
-    loop-less
-    loop-again
-    loop-less-2
-    loop-again-2
-    shared-slice-read-m
-    returns
-    sub-result
-    mul-result
-    mul-result-2
-    returns-2)
+    Inv-loop μ-loop (λ c κs. (_, c .before .pre .0 .1 .job)) (λ c. search needs) (λ c. search needs) (λ c. search needs) shared-slice-read-k
+    loop-holds entering-requires (λ c. search needs) spread-requires loop-less loop-again loop-less-2 loop-again-2 shared-slice-read-m returns
+    sub-result mul-result mul-result-2 returns-2)

@@ -12,21 +12,6 @@ use Rattle.rounds.proofs.FirstLaws.{first-seen}
 use Rattle.rounds.proofs.replaying.first_finish.Statement.{statement}
 use Rattle.rounds.proofs.replaying.first_finish.Tie as tie
 
-mul-line : tie.Need-mul-line
-mul-line c = search needs
-
-add-line : tie.Need-add-line
-add-line c = search needs
-
-mul-line-2 : tie.Need-mul-line-2
-mul-line-2 c = search needs
-
-shared-slice-read-line : tie.Need-shared-slice-read-line
-shared-slice-read-line c = omega (arith, sizes (c .before .before .pre .0 .job), c .before .before .pre .2)
-
-mul-a : tie.Need-mul-a
-mul-a c = search needs
-
 sub-a : tie.Need-sub-a
 sub-a c = let (a, b, d) = cells-of-task (c .before .before .pre .0) (c .before .before .args .t) (c .before .before .pre .2) in omega (arith, a, b, d)
 
@@ -54,17 +39,11 @@ add-end-2 c = let (a, b, d) = cells-of-task (c .before .before .before .pre .0) 
 mul-first-finish : tie.Need-mul-first-finish
 mul-first-finish c = let (a, b, d) = cells-of-task (c .before .before .before .pre .0) (c .before .before .before .args .t) (c .before .before .before .pre .2) in omega (arith, a, b, d)
 
-sub-first-finish : tie.Need-sub-first-finish
-sub-first-finish c = search needs
-
 part-first-finish-start : tie.Need-part-first-finish-start
 part-first-finish-start c = let (a, b, d) = cells-of-task (c .before .before .before .pre .0) (c .before .before .before .args .t) (c .before .before .before .pre .2) in omega (arith, a, b, d)
 
 part-first-finish-end : tie.Need-part-first-finish-end
 part-first-finish-end c = let (a, b, d) = cells-of-task (c .before .before .before .pre .0) (c .before .before .before .args .t) (c .before .before .before .pre .2) in omega (arith, a, b, d)
-
-first-finish-requires : tie.Need-first-finish-requires
-first-finish-requires c κs = search needs
 
 returns : tie.Need-returns
 returns c =
@@ -83,22 +62,7 @@ pub first-finish-spec : {M : Type 1} → statement M
 first-finish-spec =
     tie.close
     (tie.spec
-    mul-line
-    add-line
-    mul-line-2
-    shared-slice-read-line
-    mul-a
-    sub-a
-    mul-a-2
-    add-a
-    add-a-2
-    shared-slice-read-end
-    add-end
-    mul-end
-    add-end-2
-    mul-first-finish
-    sub-first-finish
-    part-first-finish-start
-    part-first-finish-end
-    first-finish-requires
-    returns)
+    (λ c. search needs) (λ c. search needs) (λ c. search needs)
+    (λ c. omega (arith, sizes (c .before .before .pre .0 .job), c .before .before .pre .2)) (λ c. search needs) sub-a mul-a-2 add-a add-a-2
+    shared-slice-read-end add-end mul-end add-end-2 mul-first-finish (λ c. search needs) part-first-finish-start part-first-finish-end
+    (λ c κs. search needs) returns)

@@ -30,30 +30,6 @@ step : (c : tie.In-loop Inv-loop μ-loop) → LineStep (start c .args .rooms) (n
     (nth (c .before .loop .mem) (rowAt (start c .args .rooms) (start c .args .k) + (1 + 3 * c .before .loop .c))) (c .before .loop .after .at) (start c .args .mem .now) (c .before .loop .mem)
 step c = line-step (start c .args .k) (c .before .loop .c) (c .before .loop .inv .1) (start c .pre .1 .standing) (start c .pre .2) (start c .pre .3) (c .loop-test .taken)
 
-mul-rows : tie.Need-mul-rows Inv-loop μ-loop
-mul-rows c = search needs
-
-slice-read-w : tie.Need-slice-read-w Inv-loop μ-loop
-slice-read-w c = let z = held (c .before .before .before) in omega arith
-
-add-w : tie.Need-add-w Inv-loop μ-loop
-add-w c = let z = held (c .before .before .before) in omega arith
-
-mul-a : tie.Need-mul-a Inv-loop μ-loop
-mul-a c = omega (arith, c .before .before .before .pre .2, held (c .before .before .before) .tasks-most .0)
-
-add-a : tie.Need-add-a Inv-loop μ-loop
-add-a c = let z = held (c .before .before .before) in omega arith
-
-mul-t : tie.Need-mul-t Inv-loop μ-loop
-mul-t c = omega (arith, c .before .before .before .pre .2, held (c .before .before .before) .tasks-most .0)
-
-slice-read-t : tie.Need-slice-read-t Inv-loop μ-loop
-slice-read-t c = let z = held (c .before .before .before .before) in omega arith
-
-slice-read-b : tie.Need-slice-read-b Inv-loop μ-loop
-slice-read-b c = let z = held (c .before .before .before .before .before) in omega arith
-
 add-b : tie.Need-add-b Inv-loop μ-loop
 add-b c = let z = held (c .before .before .before .before .before) in omega (arith, runs (c .before .before .before .before .before))
 
@@ -93,24 +69,6 @@ mul-p-2 c = let z = held (c .before .before .before .before .before .before .bef
 slice-read-p : tie.Need-slice-read-p Inv-loop μ-loop
 slice-read-p c = let z = held (c .before .before .before .before .before .before .before .before .before .before) in let y = c .before .before .loop .inv .1 .retimed .outside .size in omega arith
 
-mul-finish-of : tie.Need-mul-finish-of Inv-loop μ-loop
-mul-finish-of c = omega (arith, step (c .before) .below)
-
-element-copy-out-finish-of : tie.Need-element-copy-out-finish-of Inv-loop μ-loop
-element-copy-out-finish-of c = omega (arith, step (c .before) .below)
-
-mul-finish-of-2 : tie.Need-mul-finish-of-2 Inv-loop μ-loop
-mul-finish-of-2 c = omega (arith, step (c .before .before) .below)
-
-array-read-finish-of : tie.Need-array-read-finish-of Inv-loop μ-loop
-array-read-finish-of c = omega (arith, step (c .before .before) .below)
-
-add-finish-of : tie.Need-add-finish-of Inv-loop μ-loop
-add-finish-of c = omega (arith, step (c .before .before) .run-below)
-
-mul-finish-of-3 : tie.Need-mul-finish-of-3 Inv-loop μ-loop
-mul-finish-of-3 c = omega (arith, step (c .before .before) .run-below)
-
 slice-read-finish-of : tie.Need-slice-read-finish-of Inv-loop μ-loop
 slice-read-finish-of c =
     let loop = c .before .before .before .before .loop in
@@ -122,15 +80,6 @@ finish-of-requires : tie.Need-finish-of-requires Inv-loop μ-loop
 finish-of-requires c κs =
     let s = step (c .before .before .before) in
     (s .ready-small, c .before .before .before .before .before .first-data .ensures .1 _ (s .processor) .1, s .run-most)
-
-mul-unless-stopped : tie.Need-mul-unless-stopped Inv-loop μ-loop
-mul-unless-stopped c = omega (arith, step (c .before .before .before .before) .below)
-
-shared-slice-read-unless-stopped : tie.Need-shared-slice-read-unless-stopped Inv-loop μ-loop
-shared-slice-read-unless-stopped c = omega (arith, step (c .before .before .before .before .before) .below)
-
-unless-stopped-requires : tie.Need-unless-stopped-requires Inv-loop μ-loop
-unless-stopped-requires c κs = search needs
 
 mul-mem : tie.Need-mul-mem Inv-loop μ-loop
 mul-mem c =
@@ -153,16 +102,10 @@ slice-write-mem c =
     let loop = c .before .before .before .before .before .before .before .loop in
     let z = held (c .before .before .before .before .before .before .before .before .before .before .before .before .before .before .before) in let y = loop .inv .1 .retimed .outside .size in omega arith
 
-advance-requires : tie.Need-advance-requires Inv-loop μ-loop
-advance-requires c κs = search needs
-
 add-c : tie.Need-add-c Inv-loop μ-loop
 add-c c =
     let loop-test = c .before .before .before .before .before .before .before .loop-test in
     omega (arith, loop-test .taken, held (c .before .before .before .before .before .before .before .before .before .before .before .before .before .before .before .before) .losses-most)
-
-loop-less : tie.Need-loop-less Inv-loop μ-loop
-loop-less c = search needs
 
 loop-again : tie.Need-loop-again Inv-loop μ-loop
 loop-again c =
@@ -180,9 +123,6 @@ loop-again c =
           (c .before .unless-stopped .ensures .1)),
     )
 
-same-length : tie.Need-same-length Inv-loop μ-loop
-same-length c = c .before .loop .inv .1 .retimed .outside .size
-
 returns : tie.Need-returns Inv-loop μ-loop
 returns c =
     let pre = c .before .before .before .before .before .before .before .before .before .pre in
@@ -193,46 +133,16 @@ pub run-line-spec : {M : Type 1} → statement M
 run-line-spec =
     tie.close
     (tie.spec
-    Inv-loop
-    μ-loop
-    mul-rows
-    slice-read-w
-    add-w
-    mul-a
-    add-a
-    mul-t
-    slice-read-t
-    slice-read-b
-    add-b
-    mul-b
-    add-b-2
-    add-b-3
-    first-data-requires
-    loop-holds
-    mul-p
-    add-p
-    add-p-2
-    mul-p-2
-    slice-read-p
-    mul-finish-of
-    element-copy-out-finish-of
-    mul-finish-of-2
-    array-read-finish-of
-    add-finish-of
-    mul-finish-of-3
-    slice-read-finish-of
-    finish-of-requires
-    mul-unless-stopped
-    shared-slice-read-unless-stopped
-    unless-stopped-requires
-    mul-mem
-    add-mem
-    add-mem-2
-    mul-mem-2
-    slice-write-mem
-    advance-requires
-    add-c
-    loop-less
-    loop-again
-    same-length
-    returns)
+    Inv-loop μ-loop (λ c. search needs) (λ c. let z = held (c .before .before .before) in omega arith)
+    (λ c. let z = held (c .before .before .before) in omega arith)
+    (λ c. omega (arith, c .before .before .before .pre .2, held (c .before .before .before) .tasks-most .0))
+    (λ c. let z = held (c .before .before .before) in omega arith)
+    (λ c. omega (arith, c .before .before .before .pre .2, held (c .before .before .before) .tasks-most .0))
+    (λ c. let z = held (c .before .before .before .before) in omega arith)
+    (λ c. let z = held (c .before .before .before .before .before) in omega arith) add-b mul-b add-b-2 add-b-3 first-data-requires loop-holds mul-p
+    add-p add-p-2 mul-p-2 slice-read-p (λ c. omega (arith, step (c .before) .below)) (λ c. omega (arith, step (c .before) .below))
+    (λ c. omega (arith, step (c .before .before) .below)) (λ c. omega (arith, step (c .before .before) .below))
+    (λ c. omega (arith, step (c .before .before) .run-below)) (λ c. omega (arith, step (c .before .before) .run-below)) slice-read-finish-of
+    finish-of-requires (λ c. omega (arith, step (c .before .before .before .before) .below))
+    (λ c. omega (arith, step (c .before .before .before .before .before) .below)) (λ c κs. search needs) mul-mem add-mem add-mem-2 mul-mem-2
+    slice-write-mem (λ c κs. search needs) add-c (λ c. search needs) loop-again (λ c. c .before .loop .inv .1 .retimed .outside .size) returns)

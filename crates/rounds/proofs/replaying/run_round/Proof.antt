@@ -13,15 +13,6 @@ Inv-loop mem₀ rooms stops v delays ready₀ k₀ mem ready k = (k ≤ v) × Ro
 abbrev μ-loop : tie.MeasureT-loop
 μ-loop mem₀ rooms stops v delays ready₀ k₀ mem ready k = v - k
 
-slice-read-v : tie.Need-slice-read-v Inv-loop μ-loop
-slice-read-v c = let z = sizes (c .before .before .before .pre .0 .job) in omega arith
-
-delay-table-requires : tie.Need-delay-table-requires Inv-loop μ-loop
-delay-table-requires c κs = (_, c .before .before .before .before .pre .0 .job)
-
-new-requires : tie.Need-new-requires Inv-loop μ-loop
-new-requires c κs = search needs
-
 loop-holds : tie.Need-loop-holds Inv-loop μ-loop
 loop-holds c = (search needs, rw (c .new .ensures) (round-first (c .before .before .before .before .before .before .args .stops .now) (c .before .before .before .before .before .before .pre .0)))
 
@@ -35,18 +26,12 @@ run-line-requires c κs =
 add-k : tie.Need-add-k Inv-loop μ-loop
 add-k c = let z = sizes (c .before .before .before .before .before .before .before .before .before .before .before .before .before .pre .0 .job) in omega arith
 
-loop-less : tie.Need-loop-less Inv-loop μ-loop
-loop-less c = search needs
-
 loop-again : tie.Need-loop-again Inv-loop μ-loop
 loop-again c =
     let pre = c .before .before .before .before .before .before .before .before .before .before .before .before .before .pre in
     let l = c .before .before .before .before .before .before .loop in
     let loop-test = c .before .before .before .before .before .loop-test in
     (search needs, round-next (l .k) (l .inv .1) (pre .0) (pre .1) (loop-test .taken) (c .before .before .run-line .ensures .0) (c .before .before .run-line .ensures .1))
-
-same-length : tie.Need-same-length Inv-loop μ-loop
-same-length c = c .before .loop .inv .1 .retimed .outside .size
 
 returns : tie.Need-returns Inv-loop μ-loop
 returns c =
@@ -57,15 +42,6 @@ pub run-round-spec : {M : Type 1} → statement M
 run-round-spec =
     tie.close
     (tie.spec
-    Inv-loop
-    μ-loop
-    slice-read-v
-    delay-table-requires
-    new-requires
-    loop-holds
-    run-line-requires
-    add-k
-    loop-less
-    loop-again
-    same-length
-    returns)
+    Inv-loop μ-loop (λ c. let z = sizes (c .before .before .before .pre .0 .job) in omega arith)
+    (λ c κs. (_, c .before .before .before .before .pre .0 .job)) (λ c κs. search needs) loop-holds run-line-requires add-k (λ c. search needs)
+    loop-again (λ c. c .before .loop .inv .1 .retimed .outside .size) returns)

@@ -13,4 +13,5 @@ returns-2 : tie.Need-returns-2
 returns-2 c = (stopped-by (c .before .args .stop) (c .before .args .x) (omega arith) (c .if1 .left) (omega arith), λ b s. s)
 
 pub unless-stopped-spec : {M : Type 1} → statement M
-unless-stopped-spec = tie.close (tie.spec returns returns-2)
+unless-stopped-spec = tie.close (tie.spec
+    returns returns-2)

@@ -8,20 +8,8 @@ use Rattle.rounds.proofs.ReplayLaws.{run-asked, run-short, run-done, ru
 use Rattle.rounds.proofs.results.put_replay.Statement.{statement}
 use Rattle.rounds.proofs.results.put_replay.Tie as tie
 
-slice-read-m : tie.Need-slice-read-m
-slice-read-m c = search needs
-
-slice-aggregate-load-stops : tie.Need-slice-aggregate-load-stops
-slice-aggregate-load-stops c = search needs
-
-load-stops-requires : tie.Need-load-stops-requires
-load-stops-requires c κs = search needs
-
 enum-told : tie.Need-enum-told
 enum-told c = search needs
-
-slice-aggregate-run-round : tie.Need-slice-aggregate-run-round
-slice-aggregate-run-round c = search needs
 
 run-round-requires : tie.Need-run-round-requires
 run-round-requires c κs =
@@ -43,12 +31,6 @@ write-replay-requires c κs =
     let a = run-asked (pre .0) (run-round .ensures) (pre .1) in
     (a .0, a .1, a .2, leb-true _ _ (sym (replay-fits .ensures) ∙ c .before .before .if1 .taken))
 
-same-length : tie.Need-same-length
-same-length c = search needs
-
-same-length-2 : tie.Need-same-length-2
-same-length-2 c = search needs
-
 returns : tie.Need-returns
 returns c =
     let args = c .before .before .before .before .before .before .before .before .before .before .before .before .before .before .before .before .before .before .before .before .before .before .args in
@@ -62,12 +44,6 @@ returns c =
     run-done (pre .0) (run-round .ensures) (args .stops .now) (args .out .now) _ _ (load-stops .kept .1 .1 .0)
     (rw (enum-told .given .1) at (load-stops .ensures (jobIn d) (processors-in d))) refl (leb-true _ _ (sym (replay-fits .ensures) ∙ if1 .taken))
     (w .result) (w .last .0) (w .ensures .0) (w .ensures .1)
-
-enum-known-x : tie.Need-enum-known-x
-enum-known-x c = search needs
-
-same-length-3 : tie.Need-same-length-3
-same-length-3 c = search needs
 
 returns-2 : tie.Need-returns-2
 returns-2 c =
@@ -92,18 +68,5 @@ pub put-replay-spec : {M : Type 1} → statement M
 put-replay-spec =
     tie.close
     (tie.spec
-    slice-read-m
-    slice-aggregate-load-stops
-    load-stops-requires
-    enum-told
-    slice-aggregate-run-round
-    run-round-requires
-    replay-fits-requires
-    write-replay-requires
-    same-length
-    same-length-2
-    returns
-    enum-known-x
-    same-length-3
-    returns-2
-    returns-3)
+    (λ c. search needs) (λ c. search needs) (λ c κs. search needs) enum-told (λ c. search needs) run-round-requires replay-fits-requires
+    write-replay-requires (λ c. search needs) (λ c. search needs) returns (λ c. search needs) (λ c. search needs) returns-2 returns-3)

@@ -10,11 +10,6 @@ use Rattle.rounds.proofs.results.replay_fits.Tie as tie
 returns : tie.Need-returns
 returns c = sym (le-leb _ (c .before .before .args .room) (omega (arith, answer-most (c .before .before .pre .0), c .if1 .taken)))
 
-replay-length-requires : tie.Need-replay-length-requires
-replay-length-requires c κs = search needs
-
-returns-2 : tie.Need-returns-2
-returns-2 c = rw (c .replay-length .ensures)
-
 pub replay-fits-spec : {M : Type 1} → statement M
-replay-fits-spec = tie.close (tie.spec returns replay-length-requires returns-2)
+replay-fits-spec = tie.close (tie.spec
+    returns (λ c κs. search needs) (λ c. rw (c .replay-length .ensures)))

@@ -18,26 +18,17 @@ Inv-loop mem rooms v n₀ t₀ n t = (t ≤ v) × (n ≤ 35 * t) × (n ≡ lengt
 abbrev μ-loop : tie.MeasureT-loop
 μ-loop mem rooms v n₀ t₀ n t = v - t
 
-shared-slice-read-v : tie.Need-shared-slice-read-v Inv-loop μ-loop
-shared-slice-read-v c = omega (arith, sizes (c .before .before .pre .0 .job) .size)
-
 loop-holds : tie.Need-loop-holds Inv-loop μ-loop
 loop-holds c = (omega arith, omega arith, omega (arith, ap length (tasks-none (c .before .before .args .rooms) (c .before .before .args .mem .now))))
 
 first-finish-requires : tie.Need-first-finish-requires Inv-loop μ-loop
 first-finish-requires c κs = (c .before .before .before .before .pre .0, c .before .before .before .before .pre .1, c .loop-test .taken)
 
-result-length-requires : tie.Need-result-length-requires Inv-loop μ-loop
-result-length-requires c κs = search needs
-
 add-n : tie.Need-add-n Inv-loop μ-loop
 add-n c = omega (arith, c .before .before .before .loop .inv .1, c .before .before .loop-test .taken, c .result-length .ensures .1, sizes (c .before .before .before .before .before .before .pre .0 .job) .tasks-most .0)
 
 add-t : tie.Need-add-t Inv-loop μ-loop
 add-t c = omega (arith, c .before .before .loop-test .taken, sizes (c .before .before .before .before .before .before .pre .0 .job) .tasks-most .0)
-
-loop-less : tie.Need-loop-less Inv-loop μ-loop
-loop-less c = omega (arith, c .before .before .loop-test .taken)
 
 loop-again : tie.Need-loop-again Inv-loop μ-loop
 loop-again c =
@@ -46,12 +37,6 @@ loop-again c =
     let n = length-next (λ i. taskLines (a .rooms) i (a .mem .now)) (λ i. taskLine (a .rooms) i (a .mem .now)) (nth (a .mem .now) 0) (tasks-next (a .rooms) (a .mem .now)) (l .t) (c .before .before .loop-test .taken) in
     let r = c .result-length .ensures in
     (omega (arith, c .before .before .loop-test .taken), omega (arith, l .inv .1, r .1), omega (arith, l .inv .2, r .0, n, ap length (task-line (c .before .first-finish .ensures))))
-
-end-of-requires : tie.Need-end-of-requires Inv-loop μ-loop
-end-of-requires c κs = (c .before .before .before .before .pre .0, c .before .before .before .before .pre .2)
-
-end-length-requires : tie.Need-end-length-requires Inv-loop μ-loop
-end-length-requires c κs = search needs
 
 add-result : tie.Need-add-result Inv-loop μ-loop
 add-result c =
@@ -70,17 +55,6 @@ pub replay-length-spec : {M : Type 1} → statement M
 replay-length-spec =
     tie.close
     (tie.spec
-    Inv-loop
-    μ-loop
-    shared-slice-read-v
-    loop-holds
-    first-finish-requires
-    result-length-requires
-    add-n
-    add-t
-    loop-less
-    loop-again
-    end-of-requires
-    end-length-requires
-    add-result
-    returns)
+    Inv-loop μ-loop (λ c. omega (arith, sizes (c .before .before .pre .0 .job) .size)) loop-holds first-finish-requires (λ c κs. search needs) add-n
+    add-t (λ c. omega (arith, c .before .before .loop-test .taken)) loop-again
+    (λ c κs. (c .before .before .before .before .pre .0, c .before .before .before .before .pre .2)) (λ c κs. search needs) add-result returns)

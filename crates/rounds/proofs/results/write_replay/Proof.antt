@@ -31,12 +31,6 @@ part-write-end-start c =
     let w = c .before .before .before .write-tasks in
     omega (arith, end-room (args .rooms) (args .mem .now) (c .end-of .result) (c .end-of .ensures) (args .out .now) (w .last .0) (w .result) (pre .3) (w .ensures .0) (w .ensures .1))
 
-part-write-end-end : tie.Need-part-write-end-end
-part-write-end-end c = search needs
-
-write-end-requires : tie.Need-write-end-requires
-write-end-requires c κs = search needs
-
 add-result : tie.Need-add-result
 add-result c =
     let args = c .before .before .before .before .before .before .before .before .before .before .before .args in
@@ -47,9 +41,6 @@ add-result c =
     let r = end-room (args .rooms) (args .mem .now) (end-of .result) (end-of .ensures) (args .out .now) (w .last .0) (w .result) (pre .3) (w .ensures .0) (w .ensures .1) in
     let p = part-written (w .last .0) (w .result) (endLine document01 (timeIn (end-of .result))) r (e .result) (e .last .0) (e .ensures .0) (e .ensures .1) .0 in
     omega (arith, p, r, w .kept .0)
-
-same-length : tie.Need-same-length
-same-length c = search needs
 
 returns : tie.Need-returns
 returns c =
@@ -69,12 +60,5 @@ pub write-replay-spec : {M : Type 1} → statement M
 write-replay-spec =
     tie.close
     (tie.spec
-    write-tasks-requires
-    end-of-requires
-    sub-write-end
-    part-write-end-start
-    part-write-end-end
-    write-end-requires
-    add-result
-    same-length
+    write-tasks-requires end-of-requires sub-write-end part-write-end-start (λ c. search needs) (λ c κs. search needs) add-result (λ c. search needs)
     returns)

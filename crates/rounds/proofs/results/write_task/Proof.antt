@@ -10,21 +10,6 @@ use Rattle.rounds.proofs.ResultLaws.{task-line}
 use Rattle.rounds.proofs.results.write_task.Statement.{statement}
 use Rattle.rounds.proofs.results.write_task.Tie as tie
 
-first-finish-requires : tie.Need-first-finish-requires
-first-finish-requires c κs = (c .before .before .pre .0, c .before .before .pre .1, c .before .before .pre .2)
-
-sub-write-result : tie.Need-sub-write-result
-sub-write-result c = search needs
-
-part-write-result-start : tie.Need-part-write-result-start
-part-write-result-start c = search needs
-
-part-write-result-end : tie.Need-part-write-result-end
-part-write-result-end c = search needs
-
-write-result-requires : tie.Need-write-result-requires
-write-result-requires c κs = search needs
-
 add-result : tie.Need-add-result
 add-result c =
     let a = c .before .before .before .before .before .before .before .args in
@@ -34,9 +19,6 @@ add-result c =
     let q = task-line (first-finish .ensures) in
     let r = part-written (a .out .now) (a .at) (taskLine (a .rooms) (a .t) (a .mem .now)) (pre .3) (w .result) (w .last .0) (rw q (w .ensures .0)) (rw q (w .ensures .1)) in
     omega (arith, pre .3, r .0)
-
-same-length : tie.Need-same-length
-same-length c = search needs
 
 returns : tie.Need-returns
 returns c =
@@ -50,11 +32,5 @@ pub write-task-spec : {M : Type 1} → statement M
 write-task-spec =
     tie.close
     (tie.spec
-    first-finish-requires
-    sub-write-result
-    part-write-result-start
-    part-write-result-end
-    write-result-requires
-    add-result
-    same-length
-    returns)
+    (λ c κs. (c .before .before .pre .0, c .before .before .pre .1, c .before .before .pre .2)) (λ c. search needs) (λ c. search needs)
+    (λ c. search needs) (λ c κs. search needs) add-result (λ c. search needs) returns)

@@ -18,9 +18,6 @@ Inv-loop out₀ mem rooms v at₀ t₀ out at t = (t ≤ v) × (at ≡ 0 + lengt
 abbrev μ-loop : tie.MeasureT-loop
 μ-loop out₀ mem rooms v at₀ t₀ out at t = v - t
 
-shared-slice-read-v : tie.Need-shared-slice-read-v Inv-loop μ-loop
-shared-slice-read-v c = omega (arith, sizes (c .before .before .before .pre .0 .job) .size)
-
 loop-holds : tie.Need-loop-holds Inv-loop μ-loop
 loop-holds c =
     let a = c .before .before .before .args in
@@ -43,9 +40,6 @@ write-task-requires c κs =
 
 add-t : tie.Need-add-t Inv-loop μ-loop
 add-t c = omega (arith, c .before .before .before .before .loop-test .taken, sizes (c .before .before .before .before .before .before .before .before .before .pre .0 .job) .tasks-most .0)
-
-loop-less : tie.Need-loop-less Inv-loop μ-loop
-loop-less c = omega (arith, c .before .before .before .before .loop-test .taken)
 
 loop-again : tie.Need-loop-again Inv-loop μ-loop
 loop-again c =
@@ -85,13 +79,5 @@ pub write-tasks-spec : {M : Type 1} → statement M
 write-tasks-spec =
     tie.close
     (tie.spec
-    Inv-loop
-    μ-loop
-    shared-slice-read-v
-    loop-holds
-    write-task-requires
-    add-t
-    loop-less
-    loop-again
-    same-length
-    returns)
+    Inv-loop μ-loop (λ c. omega (arith, sizes (c .before .before .before .pre .0 .job) .size)) loop-holds write-task-requires add-t
+    (λ c. omega (arith, c .before .before .before .before .loop-test .taken)) loop-again same-length returns)

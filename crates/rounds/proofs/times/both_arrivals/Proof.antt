@@ -19,74 +19,14 @@ abbrev μ-loop : tie.MeasureT-loop
 held : (c : tie.Start Inv-loop μ-loop) → Sizes (c .pre .0 .0) (c .args .mem .now)
 held c = sizes (c .pre .0 .1)
 
-shared-slice-read-w : tie.Need-shared-slice-read-w Inv-loop μ-loop
-shared-slice-read-w c = omega (arith, held (c .before .before))
-
-add-w : tie.Need-add-w Inv-loop μ-loop
-add-w c = omega (arith, held (c .before .before))
-
 loop-holds : tie.Need-loop-holds Inv-loop μ-loop
 loop-holds c = let a = c .before .before .args in let s = held (c .before .before) in (search needs, (_, s), offer-none (a .volume) (a .a) (a .mem .now) (a .late .now) s (c .before .before .pre .7))
-
-mul-q : tie.Need-mul-q Inv-loop μ-loop
-mul-q c = search needs
-
-add-q : tie.Need-add-q Inv-loop μ-loop
-add-q c = search needs
-
-add-q-2 : tie.Need-add-q-2 Inv-loop μ-loop
-add-q-2 c = search needs
-
-mul-q-2 : tie.Need-mul-q-2 Inv-loop μ-loop
-mul-q-2 c = search needs
-
-shared-slice-read-q : tie.Need-shared-slice-read-q Inv-loop μ-loop
-shared-slice-read-q c = search needs
-
-mul-x : tie.Need-mul-x Inv-loop μ-loop
-mul-x c = search needs
-
-add-x : tie.Need-add-x Inv-loop μ-loop
-add-x c = search needs
-
-add-x-2 : tie.Need-add-x-2 Inv-loop μ-loop
-add-x-2 c = search needs
-
-mul-x-2 : tie.Need-mul-x-2 Inv-loop μ-loop
-mul-x-2 c = search needs
-
-shared-slice-read-x : tie.Need-shared-slice-read-x Inv-loop μ-loop
-shared-slice-read-x c = search needs
 
 cast-x : tie.Need-cast-x Inv-loop μ-loop
 cast-x c = omega (arith, c .before .before .before .before .before .before .pre .5 (c .before .before .before .loop .c) (omega arith) .0)
 
-mul-y : tie.Need-mul-y Inv-loop μ-loop
-mul-y c = search needs
-
-add-y : tie.Need-add-y Inv-loop μ-loop
-add-y c = search needs
-
-add-y-2 : tie.Need-add-y-2 Inv-loop μ-loop
-add-y-2 c = search needs
-
-mul-y-2 : tie.Need-mul-y-2 Inv-loop μ-loop
-mul-y-2 c = search needs
-
-shared-slice-read-y : tie.Need-shared-slice-read-y Inv-loop μ-loop
-shared-slice-read-y c = search needs
-
 cast-y : tie.Need-cast-y Inv-loop μ-loop
 cast-y c = omega (arith, c .before .before .before .before .before .before .before .pre .5 (c .before .before .before .before .loop .c) (omega arith) .1)
-
-offer-both-requires : tie.Need-offer-both-requires Inv-loop μ-loop
-offer-both-requires c κs = search needs
-
-add-c : tie.Need-add-c Inv-loop μ-loop
-add-c c = search needs
-
-loop-less : tie.Need-loop-less Inv-loop μ-loop
-loop-less c = search needs
 
 loop-again : tie.Need-loop-again Inv-loop μ-loop
 loop-again c =
@@ -105,9 +45,6 @@ loop-again c =
       offer-next (a .volume) (a .a) m (a .late .now) (l .inv .1 .1) o (a .delays .now) _ _ d r b v (omega arith) i j (λ p g. (low p g, high p g)),
     )
 
-raise-requires : tie.Need-raise-requires Inv-loop μ-loop
-raise-requires c κs = search needs
-
 returns : tie.Need-returns Inv-loop μ-loop
 returns c =
     let a = c .before .before .before .before .before .before .before .args in
@@ -119,31 +56,7 @@ pub both-arrivals-spec : {M : Type 1} → statement M
 both-arrivals-spec =
     tie.close
     (tie.spec
-    Inv-loop
-    μ-loop
-    shared-slice-read-w
-    add-w
-    loop-holds
-    mul-q
-    add-q
-    add-q-2
-    mul-q-2
-    shared-slice-read-q
-    mul-x
-    add-x
-    add-x-2
-    mul-x-2
-    shared-slice-read-x
-    cast-x
-    mul-y
-    add-y
-    add-y-2
-    mul-y-2
-    shared-slice-read-y
-    cast-y
-    offer-both-requires
-    add-c
-    loop-less
-    loop-again
-    raise-requires
-    returns)
+    Inv-loop μ-loop (λ c. omega (arith, held (c .before .before))) (λ c. omega (arith, held (c .before .before))) loop-holds (λ c. search needs)
+    (λ c. search needs) (λ c. search needs) (λ c. search needs) (λ c. search needs) (λ c. search needs) (λ c. search needs) (λ c. search needs)
+    (λ c. search needs) (λ c. search needs) cast-x (λ c. search needs) (λ c. search needs) (λ c. search needs) (λ c. search needs) (λ c. search needs)
+    cast-y (λ c κs. search needs) (λ c. search needs) (λ c. search needs) loop-again (λ c κs. search needs) returns)

@@ -11,18 +11,6 @@ Inv-loop mem rooms delays t g early₀ late₀ k₀ early late k = BothGathering
 abbrev μ-loop : tie.MeasureT-loop
 μ-loop mem rooms delays t g early₀ late₀ k₀ early late k = k
 
-edges-at-requires : tie.Need-edges-at-requires Inv-loop μ-loop
-edges-at-requires c κs = (_, c .before .pre .0 .1 .job)
-
-mul-k : tie.Need-mul-k Inv-loop μ-loop
-mul-k c = search needs
-
-add-k : tie.Need-add-k Inv-loop μ-loop
-add-k c = search needs
-
-mul-k-2 : tie.Need-mul-k-2 Inv-loop μ-loop
-mul-k-2 c = search needs
-
 shared-slice-read-k : tie.Need-shared-slice-read-k Inv-loop μ-loop
 shared-slice-read-k c = let s = sizes (c .before .before .before .pre .0 .1 .job) in omega (arith, s .size, s .tasks-most, c .before .before .before .pre .2)
 
@@ -87,16 +75,5 @@ pub both-data-spec : {M : Type 1} → statement M
 both-data-spec =
     tie.close
     (tie.spec
-    Inv-loop
-    μ-loop
-    edges-at-requires
-    mul-k
-    add-k
-    mul-k-2
-    shared-slice-read-k
-    loop-holds
-    entering-requires
-    both-arrivals-requires
-    loop-less
-    loop-again
-    returns)
+    Inv-loop μ-loop (λ c κs. (_, c .before .pre .0 .1 .job)) (λ c. search needs) (λ c. search needs) (λ c. search needs) shared-slice-read-k
+    loop-holds entering-requires both-arrivals-requires loop-less loop-again returns)

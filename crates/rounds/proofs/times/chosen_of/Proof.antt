@@ -20,4 +20,5 @@ returns-4 : tie.Need-returns-4
 returns-4 c = let a = c .before .before .args in (rw (c .before .if1 .left) (sooner-right (a .x) (a .y) (omega arith) (omega arith) (omega arith)), inr refl)
 
 pub chosen-of-spec : {M : Type 1} → statement M
-chosen-of-spec = tie.close (tie.spec returns returns-2 returns-3 returns-4)
+chosen-of-spec = tie.close (tie.spec
+    returns returns-2 returns-3 returns-4)

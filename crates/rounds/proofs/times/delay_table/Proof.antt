@@ -23,32 +23,11 @@ abbrev μ-loop : tie.MeasureT-loop
 cell : {rooms : ℕ} {mem : List ℕ} → Sizes rooms mem → (i : ℕ) → i < 16 * nth mem 1 → i % 16 < nth mem 1 → 4 + (nth mem 0 + i / 16) * (nth mem 1 + 1) + (i % 16 + 1) < jobSize rooms
 cell {rooms} {mem} s i h g = row-below s (nth mem 0 + i / 16) (i % 16) (omega arith) g
 
-shared-slice-read-v : tie.Need-shared-slice-read-v Inv-loop μ-loop
-shared-slice-read-v c = search needs
-
-shared-slice-read-m : tie.Need-shared-slice-read-m Inv-loop μ-loop
-shared-slice-read-m c = search needs
-
-mul-n : tie.Need-mul-n Inv-loop μ-loop
-mul-n c = search needs
-
-loop-holds : tie.Need-loop-holds Inv-loop μ-loop
-loop-holds c = (search needs, refl, (_, sizes (c .before .before .pre .1)), filled-none)
-
-add-delays : tie.Need-add-delays Inv-loop μ-loop
-add-delays c = search needs
-
-add-delays-2 : tie.Need-add-delays-2 Inv-loop μ-loop
-add-delays-2 c = search needs
-
 mul-delays : tie.Need-mul-delays Inv-loop μ-loop
 mul-delays c = omega (arith, cell (c .before .before .loop .inv .2 .1) (c .before .before .loop .i) (c .before .loop-test .taken) (c .if1 .taken))
 
 add-delays-3 : tie.Need-add-delays-3 Inv-loop μ-loop
 add-delays-3 c = omega (arith, cell (c .before .before .loop .inv .2 .1) (c .before .before .loop .i) (c .before .loop-test .taken) (c .if1 .taken))
-
-add-delays-4 : tie.Need-add-delays-4 Inv-loop μ-loop
-add-delays-4 c = search needs
 
 add-delays-5 : tie.Need-add-delays-5 Inv-loop μ-loop
 add-delays-5 c = omega (arith, cell (c .before .before .loop .inv .2 .1) (c .before .before .loop .i) (c .before .loop-test .taken) (c .if1 .taken))
@@ -65,18 +44,6 @@ cast-delays c =
     let loop = c .before .before .before .loop in
     let l = loop in omega (arith, delay-cell (pre .1) (l .i / 16) (l .i % 16) (omega (arith, c .before .before .loop-test .taken)) (c .before .if1 .taken))
 
-mul-delays-3 : tie.Need-mul-delays-3 Inv-loop μ-loop
-mul-delays-3 c = search needs
-
-array-write-delays : tie.Need-array-write-delays Inv-loop μ-loop
-array-write-delays c = search needs
-
-add-i : tie.Need-add-i Inv-loop μ-loop
-add-i c = search needs
-
-loop-less : tie.Need-loop-less Inv-loop μ-loop
-loop-less c = search needs
-
 loop-again : tie.Need-loop-again Inv-loop μ-loop
 loop-again c =
     let args = c .before .before .before .before .before .before .args in
@@ -86,49 +53,17 @@ loop-again c =
     let x = nth d (4 + (nth d 0 + l .i / 16) * (nth d 1 + 1) + (l .i % 16 + 1)) in
     (search needs, search needs, l .inv .2, filled-set (l .inv .3) x (omega arith) (delay-stored (pre .1) (l .i) (omega arith) (c .before .if1 .taken)))
 
-sub-i : tie.Need-sub-i Inv-loop μ-loop
-sub-i c = search needs
-
-add-i-2 : tie.Need-add-i-2 Inv-loop μ-loop
-add-i-2 c = search needs
-
-loop-less-2 : tie.Need-loop-less-2 Inv-loop μ-loop
-loop-less-2 c = search needs
-
 loop-again-2 : tie.Need-loop-again-2 Inv-loop μ-loop
 loop-again-2 c =
     let l = c .before .before .loop in
     (omega (arith, c .before .loop-test .taken), l .inv .1, l .inv .2, delays-end (l .inv .2 .1) none-set (l .inv .3) (c .if1 .left))
 
-returns : tie.Need-returns Inv-loop μ-loop
-returns c = let l = c .before .loop in table-made (l .inv .2 .1) (omega arith) none-set (l .inv .3)
-
 pub delay-table-spec : {M : Type 1} → statement M
 delay-table-spec =
     tie.close
     (tie.spec
-    Inv-loop
-    μ-loop
-    shared-slice-read-v
-    shared-slice-read-m
-    mul-n
-    loop-holds
-    add-delays
-    add-delays-2
-    mul-delays
-    add-delays-3
-    add-delays-4
-    add-delays-5
-    mul-delays-2
-    shared-slice-read-delays
-    cast-delays
-    mul-delays-3
-    array-write-delays
-    add-i
-    loop-less
-    loop-again
-    sub-i
-    add-i-2
-    loop-less-2
-    loop-again-2
-    returns)
+    Inv-loop μ-loop (λ c. search needs) (λ c. search needs) (λ c. search needs)
+    (λ c. (search needs, refl, (_, sizes (c .before .before .pre .1)), filled-none)) (λ c. search needs) (λ c. search needs) mul-delays add-delays-3
+    (λ c. search needs) add-delays-5 mul-delays-2 shared-slice-read-delays cast-delays (λ c. search needs) (λ c. search needs) (λ c. search needs)
+    (λ c. search needs) loop-again (λ c. search needs) (λ c. search needs) (λ c. search needs) loop-again-2
+    (λ c. let l = c .before .loop in table-made (l .inv .2 .1) (omega arith) none-set (l .inv .3)))

@@ -7,9 +7,6 @@ use Rattle.rounds.proofs.TimeLaws.{small-one, small-wider}
 use Rattle.rounds.proofs.times.finish_of.Statement.{statement}
 use Rattle.rounds.proofs.times.finish_of.Tie as tie
 
-chosen-of-requires : tie.Need-chosen-of-requires
-chosen-of-requires c κs = search needs
-
 put-off-requires : tie.Need-put-off-requires
 put-off-requires c κs =
     let a = c .before .args in let h = c .before .pre .2 in
@@ -23,4 +20,5 @@ returns c =
     (c .put-off .ensures .0 ∙ rw (c .before .chosen-of .ensures .0), small-wider (5000000000 + a .n) 6000000000 (c .put-off .result) (omega arith) (c .put-off .ensures .1 5000000000 s))
 
 pub finish-of-spec : {M : Type 1} → statement M
-finish-of-spec = tie.close (tie.spec chosen-of-requires put-off-requires returns)
+finish-of-spec = tie.close (tie.spec
+    (λ c κs. search needs) put-off-requires returns)

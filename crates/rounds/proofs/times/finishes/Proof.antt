@@ -5,15 +5,6 @@ use Rattle.rounds.proofs.BothLaws.{finish-made}
 use Rattle.rounds.proofs.times.finishes.Statement.{statement}
 use Rattle.rounds.proofs.times.finishes.Tie as tie
 
-both-data-requires : tie.Need-both-data-requires
-both-data-requires c κs = (c .before .pre .0, c .before .pre .1, c .before .pre .2, c .before .pre .3)
-
-run-times-requires : tie.Need-run-times-requires
-run-times-requires c κs = ((_, c .before .before .pre .0 .1 .job), c .before .before .pre .2)
-
-finish-requires : tie.Need-finish-requires
-finish-requires c κs = search needs
-
 returns : tie.Need-returns
 returns c =
     let a = c .before .before .before .before .args in
@@ -25,7 +16,5 @@ pub finishes-spec : {M : Type 1} → statement M
 finishes-spec =
     tie.close
     (tie.spec
-    both-data-requires
-    run-times-requires
-    finish-requires
-    returns)
+    (λ c κs. (c .before .pre .0, c .before .pre .1, c .before .pre .2, c .before .pre .3))
+    (λ c κs. ((_, c .before .before .pre .0 .1 .job), c .before .before .pre .2)) (λ c κs. search needs) returns)

@@ -25,46 +25,10 @@ Inv-loop mem delays a volume w low₀ c₀ low c =
 abbrev μ-loop : tie.MeasureT-loop
 μ-loop mem delays a volume w low₀ c₀ low c = w - c
 
-shared-slice-read-w : tie.Need-shared-slice-read-w Inv-loop μ-loop
-shared-slice-read-w c = let s = sizes (c .before .before .pre .0 .1) in omega arith
-
-add-w : tie.Need-add-w Inv-loop μ-loop
-add-w c = let s = sizes (c .before .before .pre .0 .1) in omega arith
-
 loop-holds : tie.Need-loop-holds Inv-loop μ-loop
 loop-holds c =
     let a = c .before .before .args in let s = sizes (c .before .before .pre .0 .1) in
     (search needs, refl, (_, s), λ p h. rw (getD-replicate 16 p shortNever 0 (omega arith)) (chosen-none false (λ q. a .volume * delay (jobIn (a .mem .now)) q p) (a .a) (a .mem .now) neverCell none-early))
-
-mul-x : tie.Need-mul-x Inv-loop μ-loop
-mul-x c = search needs
-
-add-x : tie.Need-add-x Inv-loop μ-loop
-add-x c = search needs
-
-add-x-2 : tie.Need-add-x-2 Inv-loop μ-loop
-add-x-2 c = search needs
-
-mul-x-2 : tie.Need-mul-x-2 Inv-loop μ-loop
-mul-x-2 c = search needs
-
-shared-slice-read-x : tie.Need-shared-slice-read-x Inv-loop μ-loop
-shared-slice-read-x c = search needs
-
-mul-q : tie.Need-mul-q Inv-loop μ-loop
-mul-q c = search needs
-
-add-q : tie.Need-add-q Inv-loop μ-loop
-add-q c = search needs
-
-add-q-2 : tie.Need-add-q-2 Inv-loop μ-loop
-add-q-2 c = search needs
-
-mul-q-2 : tie.Need-mul-q-2 Inv-loop μ-loop
-mul-q-2 c = search needs
-
-shared-slice-read-q : tie.Need-shared-slice-read-q Inv-loop μ-loop
-shared-slice-read-q c = search needs
 
 cast-offer-sooner : tie.Need-cast-offer-sooner Inv-loop μ-loop
 cast-offer-sooner c =
@@ -73,15 +37,6 @@ cast-offer-sooner c =
     let loop = c .before .before .before .before .before .loop in
     let loop-test = c .before .before .before .before .loop-test in
     omega (arith, small-tick 4200000000 (nth (args .mem .now) (args .a + (2 + 3 * loop .c))) (c .before .before .if1 .taken) (pre .5 (loop .c) (loop-test .taken)))
-
-offer-sooner-requires : tie.Need-offer-sooner-requires Inv-loop μ-loop
-offer-sooner-requires c κs = search needs
-
-add-c : tie.Need-add-c Inv-loop μ-loop
-add-c c = search needs
-
-loop-less : tie.Need-loop-less Inv-loop μ-loop
-loop-less c = search needs
 
 loop-again : tie.Need-loop-again Inv-loop μ-loop
 loop-again c =
@@ -115,24 +70,7 @@ pub first-arrivals-spec : {M : Type 1} → statement M
 first-arrivals-spec =
     tie.close
     (tie.spec
-    Inv-loop
-    μ-loop
-    shared-slice-read-w
-    add-w
-    loop-holds
-    mul-x
-    add-x
-    add-x-2
-    mul-x-2
-    shared-slice-read-x
-    mul-q
-    add-q
-    add-q-2
-    mul-q-2
-    shared-slice-read-q
-    cast-offer-sooner
-    offer-sooner-requires
-    add-c
-    loop-less
-    loop-again
-    returns)
+    Inv-loop μ-loop (λ c. let s = sizes (c .before .before .pre .0 .1) in omega arith)
+    (λ c. let s = sizes (c .before .before .pre .0 .1) in omega arith) loop-holds (λ c. search needs) (λ c. search needs) (λ c. search needs)
+    (λ c. search needs) (λ c. search needs) (λ c. search needs) (λ c. search needs) (λ c. search needs) (λ c. search needs) (λ c. search needs)
+    cast-offer-sooner (λ c κs. search needs) (λ c. search needs) (λ c. search needs) loop-again returns)

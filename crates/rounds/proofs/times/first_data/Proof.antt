@@ -30,18 +30,6 @@ Inv-loop mem rooms delays t g high₀ k₀ high k =
 abbrev μ-loop : tie.MeasureT-loop
 μ-loop mem rooms delays t g high₀ k₀ high k = k
 
-edges-at-requires : tie.Need-edges-at-requires Inv-loop μ-loop
-edges-at-requires c κs = (_, c .before .pre .0 .1 .job)
-
-mul-k : tie.Need-mul-k Inv-loop μ-loop
-mul-k c = search needs
-
-add-k : tie.Need-add-k Inv-loop μ-loop
-add-k c = search needs
-
-mul-k-2 : tie.Need-mul-k-2 Inv-loop μ-loop
-mul-k-2 c = search needs
-
 shared-slice-read-k : tie.Need-shared-slice-read-k Inv-loop μ-loop
 shared-slice-read-k c = let s = sizes (c .before .before .before .pre .0 .1 .job) in omega (arith, s .size, s .tasks-most, c .before .before .before .pre .2)
 
@@ -83,9 +71,6 @@ first-arrivals-requires c κs =
     let i = gather-enters (arrives (args .rooms) false 0 (args .mem .now)) (pre .0 .0) (args .t) (args .mem .now) s g h in
     ((_, s .job), pre .1, rw (e .row-of) (f .row), omega (arith, e .within, sizes (s .job) .size), rw (e .volume-of) (f .volume-most), rw (e .row-of) (pre .3 (edgeOf (c .before .before .loop .k) (args .mem .now)) i .1))
 
-raise-requires : tie.Need-raise-requires Inv-loop μ-loop
-raise-requires c κs = search needs
-
 loop-less : tie.Need-loop-less Inv-loop μ-loop
 loop-less c =
     let pre = c .before .before .before .before .before .before .before .before .before .before .pre in
@@ -118,9 +103,6 @@ loop-again c =
           ∙ ap (λ (z : Time). later z (shortIn (nth (l .high) p))) (rw (e .row-of, e .volume-of) at (first-arrivals .ensures .1 p h))))),
     )
 
-widened-requires : tie.Need-widened-requires Inv-loop μ-loop
-widened-requires c κs = search needs
-
 returns : tie.Need-returns Inv-loop μ-loop
 unfolding dataIn
 returns c =
@@ -140,18 +122,5 @@ pub first-data-spec : {M : Type 1} → statement M
 first-data-spec =
     tie.close
     (tie.spec
-    Inv-loop
-    μ-loop
-    edges-at-requires
-    mul-k
-    add-k
-    mul-k-2
-    shared-slice-read-k
-    loop-holds
-    entering-requires
-    first-arrivals-requires
-    raise-requires
-    loop-less
-    loop-again
-    widened-requires
-    returns)
+    Inv-loop μ-loop (λ c κs. (_, c .before .pre .0 .1 .job)) (λ c. search needs) (λ c. search needs) (λ c. search needs) shared-slice-read-k
+    loop-holds entering-requires first-arrivals-requires (λ c κs. search needs) loop-less loop-again (λ c κs. search needs) returns)

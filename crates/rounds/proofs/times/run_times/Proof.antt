@@ -29,24 +29,6 @@ cell c p h = row-below (held c) (c .args .t) p (omega (arith, c .pre .1)) h
 run : (c : tie.Start Inv-loop μ-loop) (p : ℕ) → p < nth (c .args .mem .now) 1 → nth (c .args .mem .now) (4 + c .args .t * (nth (c .args .mem .now) 1 + 1) + (p + 1)) ≤ 1000000
 run c p h = run-cell (c .pre .0 .1) (c .args .t) p (c .pre .1) h
 
-shared-slice-read-m : tie.Need-shared-slice-read-m Inv-loop μ-loop
-shared-slice-read-m c = omega (arith, held (c .before))
-
-add-a : tie.Need-add-a Inv-loop μ-loop
-add-a c = omega (arith, held (c .before))
-
-mul-a : tie.Need-mul-a Inv-loop μ-loop
-mul-a c = omega (arith, held (c .before), cell (c .before) 0 (omega (arith, held (c .before))))
-
-add-a-2 : tie.Need-add-a-2 Inv-loop μ-loop
-add-a-2 c = omega (arith, held (c .before), cell (c .before) 0 (omega (arith, held (c .before))))
-
-loop-holds : tie.Need-loop-holds Inv-loop μ-loop
-loop-holds c = (omega arith, refl, held (c .before) .processors-most, λ q h. absurd (omega arith))
-
-add-runs : tie.Need-add-runs Inv-loop μ-loop
-add-runs c = omega (arith, c .loop-test .taken, c .before .loop .inv .2)
-
 add-runs-2 : tie.Need-add-runs-2 Inv-loop μ-loop
 add-runs-2 c = omega (arith, held (c .before .before .before), cell (c .before .before .before) (c .before .loop .p) (c .loop-test .taken))
 
@@ -59,17 +41,8 @@ shared-slice-read-runs c = omega (arith, held (c .before .before .before .before
 cast-runs : tie.Need-cast-runs Inv-loop μ-loop
 cast-runs c = omega (arith, run (c .before .before .before .before) (c .before .before .loop .p) (c .before .loop-test .taken))
 
-mul-runs-2 : tie.Need-mul-runs-2 Inv-loop μ-loop
-mul-runs-2 c = omega (arith, c .before .loop-test .taken, c .before .before .loop .inv .2)
-
 array-write-runs : tie.Need-array-write-runs Inv-loop μ-loop
 array-write-runs c = omega (arith, c .before .loop-test .taken, c .before .before .loop .inv .2, c .before .before .loop .inv .1)
-
-add-p : tie.Need-add-p Inv-loop μ-loop
-add-p c = omega (arith, c .before .loop-test .taken, c .before .before .loop .inv .2)
-
-loop-less : tie.Need-loop-less Inv-loop μ-loop
-loop-less c = search needs
 
 loop-again : tie.Need-loop-again Inv-loop μ-loop
 loop-again c =
@@ -90,21 +63,10 @@ pub run-times-spec : {M : Type 1} → statement M
 run-times-spec =
     tie.close
     (tie.spec
-    Inv-loop
-    μ-loop
-    shared-slice-read-m
-    add-a
-    mul-a
-    add-a-2
-    loop-holds
-    add-runs
-    add-runs-2
-    mul-runs
-    shared-slice-read-runs
-    cast-runs
-    mul-runs-2
-    array-write-runs
-    add-p
-    loop-less
-    loop-again
-    returns)
+    Inv-loop μ-loop (λ c. omega (arith, held (c .before))) (λ c. omega (arith, held (c .before)))
+    (λ c. omega (arith, held (c .before), cell (c .before) 0 (omega (arith, held (c .before)))))
+    (λ c. omega (arith, held (c .before), cell (c .before) 0 (omega (arith, held (c .before)))))
+    (λ c. (omega arith, refl, held (c .before) .processors-most, λ q h. absurd (omega arith)))
+    (λ c. omega (arith, c .loop-test .taken, c .before .loop .inv .2)) add-runs-2 mul-runs shared-slice-read-runs cast-runs
+    (λ c. omega (arith, c .before .loop-test .taken, c .before .before .loop .inv .2)) array-write-runs
+    (λ c. omega (arith, c .before .loop-test .taken, c .before .before .loop .inv .2)) (λ c. search needs) loop-again returns)

@@ -9,12 +9,6 @@ use Rattle.rows.proofs.row.check_row.Reads as reads
 use Rattle.rows.proofs.row.check_row.Lts as lts
 use Rattle.rows.proofs.row.off_range.Reads as off-range-reads
 
-shared-slice-read-misplaced : tie.Need-shared-slice-read-misplaced
-shared-slice-read-misplaced c = search needs
-
-off-range-requires : tie.Need-off-range-requires
-off-range-requires c κs = search needs
-
 returns : tie.Need-returns
 returns c seen l = out-of-turn seen (c .before .before .before .before .args .row .now) (c .before .before .before .before .args .i) l (c .before .before .before .before .args .kind) (c .if1 .taken)
 
@@ -22,12 +16,6 @@ returns-2 : tie.Need-returns-2
 returns-2 c seen l =
     let args = c .before .before .before .before .before .args in
     out-of-range seen (args .row .now) (args .i) l (c .before .if1 .left) (args .kind) (sym (c .if2 .taken) ∙ c .before .before .off-range .ensures)
-
-enum-told : tie.Need-enum-told
-enum-told c = search needs
-
-enum-told-2 : tie.Need-enum-told-2
-enum-told-2 c = search needs
 
 add-if3 : tie.Need-add-if3
 add-if3 c = omega (arith, c .before .before .before .before .before .before .before .pre .1 (c .enum-told2 .given .1))
@@ -65,15 +53,5 @@ pub check-row-spec : {M : Type 1} → statement M
 check-row-spec =
     tie.close
     (tie.spec
-    shared-slice-read-misplaced
-    off-range-requires
-    returns
-    returns-2
-    enum-told
-    enum-told-2
-    add-if3
-    mul-if3
-    shared-slice-read-if3
-    returns-3
-    returns-4
-    returns-5)
+    (λ c. search needs) (λ c κs. search needs) returns returns-2 (λ c. search needs) (λ c. search needs) add-if3 mul-if3 shared-slice-read-if3
+    returns-3 returns-4 returns-5)

@@ -37,34 +37,10 @@ loop-holds : tie.Need-loop-holds Inv-loop μ-loop
 unfolding rows
 loop-holds c = (omega arith, refl, rw sub-zero)
 
-mul-a : tie.Need-mul-a Inv-loop μ-loop
-mul-a c = omega (arith, ends (c))
-
-mul-read-row : tie.Need-mul-read-row Inv-loop μ-loop
-mul-read-row c = omega (arith, ends (c))
-
-sub-read-row : tie.Need-sub-read-row Inv-loop μ-loop
-sub-read-row c = omega (arith, ends (c))
-
-part-read-row-start : tie.Need-part-read-row-start Inv-loop μ-loop
-part-read-row-start c = omega (arith, ends (c))
-
-part-read-row-end : tie.Need-part-read-row-end Inv-loop μ-loop
-part-read-row-end c = search needs
-
 read-row-requires : tie.Need-read-row-requires Inv-loop μ-loop
 read-row-requires c κs =
     let pre = c .before .before .before .before .before .before .pre in
     (pre .0, simp (length-take, length-drop) (omega (arith, ends (c .before))), λ e. omega (arith, c .before .loop-test .taken, pre .2 e))
-
-enum-known-next : tie.Need-enum-known-next Inv-loop μ-loop
-enum-known-next c = search needs
-
-enum-known-x : tie.Need-enum-known-x Inv-loop μ-loop
-enum-known-x c = search needs
-
-same-length : tie.Need-same-length Inv-loop μ-loop
-same-length c = search needs
 
 returns : tie.Need-returns Inv-loop μ-loop
 returns c =
@@ -74,12 +50,6 @@ returns c =
     let read-row = c .before .before .before .before .before .read-row in
     let e = sym (read-row .ensures (rows (a .k) (l .i) (l .mem)) (length-rows (a .k) (l .i) (l .mem))) ∙ ap (told (a .s .now) (take (a .k) (read-row .last .1 .1 .1 .1 .1 .1 .0))) (c .before .x .given .1) in
     lines-no (line document01 (a .opening .now) (a .k)) (ruleOf (a .kind)) (a .n) (l .i) (rows (a .k) (l .i) (l .mem)) (drop (l .p) (a .s .now)) (loop-test .taken) _ e ∙ l .inv .2
-
-add-i : tie.Need-add-i Inv-loop μ-loop
-add-i c = search needs
-
-loop-less : tie.Need-loop-less Inv-loop μ-loop
-loop-less c = search needs
 
 loop-again : tie.Need-loop-again Inv-loop μ-loop
 loop-again c =
@@ -95,9 +65,6 @@ loop-again c =
           (lines-next (line document01 (a .opening .now) (a .k)) (ruleOf (a .kind)) (a .n) (l .i) (rows (a .k) (l .i) (l .mem)) (drop (l .p) (a .s .now)) (loop-test .taken) (take (a .k) ys) _ e ∙ l .inv .2),
     )
 
-same-length-2 : tie.Need-same-length-2 Inv-loop μ-loop
-same-length-2 c = search needs
-
 returns-2 : tie.Need-returns-2 Inv-loop μ-loop
 returns-2 c =
     let a = c .before .before .before .before .before .args in
@@ -111,21 +78,6 @@ pub fill-rows-spec : {M : Type 1} → statement M
 fill-rows-spec =
     tie.close
     (tie.spec
-    Inv-loop
-    μ-loop
-    loop-holds
-    mul-a
-    mul-read-row
-    sub-read-row
-    part-read-row-start
-    part-read-row-end
-    read-row-requires
-    enum-known-next
-    enum-known-x
-    same-length
-    returns
-    add-i
-    loop-less
-    loop-again
-    same-length-2
-    returns-2)
+    Inv-loop μ-loop loop-holds (λ c. omega (arith, ends (c))) (λ c. omega (arith, ends (c))) (λ c. omega (arith, ends (c)))
+    (λ c. omega (arith, ends (c))) (λ c. search needs) read-row-requires (λ c. search needs) (λ c. search needs) (λ c. search needs) returns
+    (λ c. search needs) (λ c. search needs) loop-again (λ c. search needs) returns-2)

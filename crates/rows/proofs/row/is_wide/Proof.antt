@@ -4,17 +4,6 @@ use mathlib.Core.Path.{refl}
 use Rattle.rows.proofs.row.is_wide.Statement.{statement}
 use Rattle.rows.proofs.row.is_wide.Tie as tie
 
-enum-told : tie.Need-enum-told
-enum-told c = search needs
-
-enum-told-2 : tie.Need-enum-told-2
-enum-told-2 c = search needs
-
-returns : tie.Need-returns
-returns c = rw (c .enum-told .given .1) refl
-
-returns-2 : tie.Need-returns-2
-returns-2 c = rw (c .enum-told2 .given .1) refl
-
 pub is-wide-spec : {M : Type 1} → statement M
-is-wide-spec = tie.close (tie.spec enum-told enum-told-2 returns returns-2)
+is-wide-spec = tie.close (tie.spec
+    (λ c. search needs) (λ c. search needs) (λ c. rw (c .enum-told .given .1) refl) (λ c. rw (c .enum-told2 .given .1) refl))

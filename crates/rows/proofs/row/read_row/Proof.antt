@@ -12,12 +12,6 @@ use Rattle.rows.specs.Rows.{ruleOf}
 use Rattle.rows.proofs.row.read_row.Statement.{statement}
 use Rattle.rows.proofs.row.read_row.Tie as tie
 
-read-line-requires : tie.Need-read-line-requires
-read-line-requires c κs = search needs
-
-enum-known-p : tie.Need-enum-known-p
-enum-known-p c = search needs
-
 slice-reshare-prefix-check-row : tie.Need-slice-reshare-prefix-check-row
 slice-reshare-prefix-check-row c = omega (arith, c .before .before .before .before .before .before .before .before .before .before .pre .1, c .before .before .before .before .before .read-line .kept .1 .1 .1 .1 .0)
 
@@ -36,9 +30,6 @@ check-row-requires c κs =
     let l = length-take-le (args .k) (read-line .last .1 .1 .1 .1 .0) (omega (arith, pre .1, read-line .kept .1 .1 .1 .1 .0)) in
     (omega (arith, l, pre .0), λ e. omega (arith, l, pre .2 e))
 
-same-length : tie.Need-same-length
-same-length c = search needs
-
 returns : tie.Need-returns
 returns c =
     let a = c .before .before .before .before .before .before .before .before .before .before .before .before .before .args in
@@ -50,12 +41,6 @@ returns c =
     let e = sym (read-line .ensures .0 ∙ line-fits _ _ _ _ (pre .1)) ∙ ap (told (a .s .now) (take (a .k) ys)) (p .given .1) in
     ruled-no (line document01 (a .opening .now) (a .k)) (ruleOf (a .kind)) seen (drop (a .at) (a .s .now)) (take (a .k) ys) _ e _ (c .before .check-row .ensures seen l) (c .if1 .taken)
 
-enum-known-x : tie.Need-enum-known-x
-enum-known-x c = search needs
-
-same-length-2 : tie.Need-same-length-2
-same-length-2 c = search needs
-
 returns-2 : tie.Need-returns-2
 returns-2 c =
     let a = c .before .before .before .before .before .before .before .before .before .before .before .before .before .args in
@@ -66,9 +51,6 @@ returns-2 c =
     let ys = read-line .last .1 .1 .1 .1 .0 in
     let e = sym (read-line .ensures .0 ∙ line-fits _ _ _ _ (pre .1)) ∙ ap (told (a .s .now) (take (a .k) ys)) (p .given .1) in
     ruled-yes (line document01 (a .opening .now) (a .k)) (ruleOf (a .kind)) seen (drop (a .at) (a .s .now)) (take (a .k) ys) _ e _ (c .before .check-row .ensures seen l) (c .if1 .left)
-
-same-length-3 : tie.Need-same-length-3
-same-length-3 c = search needs
 
 returns-3 : tie.Need-returns-3
 returns-3 c =
@@ -84,15 +66,5 @@ pub read-row-spec : {M : Type 1} → statement M
 read-row-spec =
     tie.close
     (tie.spec
-    read-line-requires
-    enum-known-p
-    slice-reshare-prefix-check-row
-    slice-aggregate-check-row
-    check-row-requires
-    same-length
-    returns
-    enum-known-x
-    same-length-2
-    returns-2
-    same-length-3
-    returns-3)
+    (λ c κs. search needs) (λ c. search needs) slice-reshare-prefix-check-row slice-aggregate-check-row check-row-requires (λ c. search needs) returns
+    (λ c. search needs) (λ c. search needs) returns-2 (λ c. search needs) returns-3)

@@ -20,4 +20,5 @@ returns-4 : tie.Need-returns-4
 returns-4 c = (λ j seen e f. stop-good j seen (record { processor = c .before .before .before .args .processor; tick = c .before .before .before .args .tick }) (omega arith) (omega arith) (omega arith), search needs)
 
 pub check-stop-spec : {M : Type 1} → statement M
-check-stop-spec = tie.close (tie.spec returns returns-2 returns-3 returns-4)
+check-stop-spec = tie.close (tie.spec
+    returns returns-2 returns-3 returns-4)

@@ -16,42 +16,13 @@ Inv-loop stops₀ i₀ stops i = (i ≤ length stops₀) × (length stops ≡ le
 abbrev μ-loop : tie.MeasureT-loop
 μ-loop stops₀ i₀ stops i = length stops₀ - i
 
-loop-holds : tie.Need-loop-holds Inv-loop μ-loop
-loop-holds c = search needs
-
-mul-stops : tie.Need-mul-stops Inv-loop μ-loop
-mul-stops c = search needs
-
-slice-write-stops : tie.Need-slice-write-stops Inv-loop μ-loop
-slice-write-stops c = search needs
-
-add-i : tie.Need-add-i Inv-loop μ-loop
-add-i c = search needs
-
-loop-less : tie.Need-loop-less Inv-loop μ-loop
-loop-less c = search needs
-
 loop-again : tie.Need-loop-again Inv-loop μ-loop
 loop-again c =
     (omega (arith, c .loop-test .taken, c .before .loop .inv .1), simp length-set (c .before .loop .inv .1), never-more (c .before .loop .stops) (c .before .loop .i) (c .loop-test .taken) (c .before .loop .inv .2))
-
-same-length : tie.Need-same-length Inv-loop μ-loop
-same-length c = search needs
-
-returns : tie.Need-returns Inv-loop μ-loop
-returns c = λ q h. c .before .loop .inv .2 q (omega (arith, h, c .loop-test .left))
 
 pub clear-spec : {M : Type 1} → statement M
 clear-spec =
     tie.close
     (tie.spec
-    Inv-loop
-    μ-loop
-    loop-holds
-    mul-stops
-    slice-write-stops
-    add-i
-    loop-less
-    loop-again
-    same-length
-    returns)
+    Inv-loop μ-loop (λ c. search needs) (λ c. search needs) (λ c. search needs) (λ c. search needs) (λ c. search needs) loop-again (λ c. search needs)
+    (λ c. λ q h. c .before .loop .inv .2 q (omega (arith, h, c .loop-test .left))))

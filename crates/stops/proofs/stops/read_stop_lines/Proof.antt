@@ -18,21 +18,6 @@ abbrev μ-loop : tie.MeasureT-loop
 loop-holds : tie.Need-loop-holds Inv-loop μ-loop
 loop-holds c = (search needs, refl, stops-none (c .before .before .args .s .now) (c .before .before .args .m) (c .before .before .args .stops .now) (c .before .before .pre .0) (c .before .before .pre .1))
 
-slice-aggregate-read-line : tie.Need-slice-aggregate-read-line Inv-loop μ-loop
-slice-aggregate-read-line c = search needs
-
-slice-aggregate-read-line-2 : tie.Need-slice-aggregate-read-line-2 Inv-loop μ-loop
-slice-aggregate-read-line-2 c = search needs
-
-read-line-requires : tie.Need-read-line-requires Inv-loop μ-loop
-read-line-requires c κs = search needs
-
-enum-known-x : tie.Need-enum-known-x Inv-loop μ-loop
-enum-known-x c = search needs
-
-same-length : tie.Need-same-length Inv-loop μ-loop
-same-length c = search needs
-
 returns : tie.Need-returns Inv-loop μ-loop
 returns c =
     let args = c .before .before .before .before .before .before .before .before .before .before .before .args in
@@ -41,21 +26,6 @@ returns c =
     let read-line = c .before .before .before .before .read-line in
     stops-bad (loop .inv .2) (loop-test .taken) _ (sym (read-line .ensures .0 ∙ line-fits (length (loop .line)) _ 2 _ (omega (arith, loop .inv .0)))
     ∙ ap (told (args .s .now) (take 2 (read-line .last .1 .1 .1 .1 .0))) (c .before .x .given .1))
-
-enum-known-next : tie.Need-enum-known-next Inv-loop μ-loop
-enum-known-next c = search needs
-
-array-read-processor : tie.Need-array-read-processor Inv-loop μ-loop
-array-read-processor c = search needs
-
-array-read-tick : tie.Need-array-read-tick Inv-loop μ-loop
-array-read-tick c = search needs
-
-check-stop-requires : tie.Need-check-stop-requires Inv-loop μ-loop
-check-stop-requires c κs = search needs
-
-same-length-2 : tie.Need-same-length-2 Inv-loop μ-loop
-same-length-2 c = search needs
 
 returns-2 : tie.Need-returns-2 Inv-loop μ-loop
 returns-2 c =
@@ -104,35 +74,10 @@ loop-again c =
     let k = c .before .check-stop .ensures .1 z in
     (search needs, simp length-set (loop .inv .1), stops-next (loop .inv .2) (loop-test .taken) ys (next .given .0 .0) b (k .0) (k .1) (k .2) (λ j seen e f. sym z ∙ c .before .check-stop .ensures .0 j seen e f))
 
-same-length-3 : tie.Need-same-length-3 Inv-loop μ-loop
-same-length-3 c = search needs
-
-returns-3 : tie.Need-returns-3 Inv-loop μ-loop
-returns-3 c = stops-end (c .before .loop .inv .2) (c .loop-test .left)
-
 pub read-stop-lines-spec : {M : Type 1} → statement M
 read-stop-lines-spec =
     tie.close
     (tie.spec
-    Inv-loop
-    μ-loop
-    loop-holds
-    slice-aggregate-read-line
-    slice-aggregate-read-line-2
-    read-line-requires
-    enum-known-x
-    same-length
-    returns
-    enum-known-next
-    array-read-processor
-    array-read-tick
-    check-stop-requires
-    same-length-2
-    returns-2
-    mul-stops
-    slice-write-stops
-    add-least
-    loop-less
-    loop-again
-    same-length-3
-    returns-3)
+    Inv-loop μ-loop loop-holds (λ c. search needs) (λ c. search needs) (λ c κs. search needs) (λ c. search needs) (λ c. search needs) returns
+    (λ c. search needs) (λ c. search needs) (λ c. search needs) (λ c κs. search needs) (λ c. search needs) returns-2 mul-stops slice-write-stops
+    add-least loop-less loop-again (λ c. search needs) (λ c. stops-end (c .before .loop .inv .2) (c .loop-test .left)))

@@ -5,14 +5,6 @@ use Rattle.ticks.proofs.LaneLaws.{message-fits}
 use Rattle.ticks.proofs.lanes.arrival.Statement.{statement}
 use Rattle.ticks.proofs.lanes.arrival.Tie as tie
 
-mul-n : tie.Need-mul-n
-mul-n c = omega (arith, message-fits (c .args .volume) (c .args .delay) (omega arith) (omega arith))
-
-wrapping-add-u32-requires : tie.Need-wrapping-add-u32-requires
-wrapping-add-u32-requires c κs = search needs
-
-returns : tie.Need-returns
-returns c = search needs
-
 pub arrival-spec : {M : Type 1} → statement M
-arrival-spec = tie.close (tie.spec mul-n wrapping-add-u32-requires returns)
+arrival-spec = tie.close (tie.spec
+    (λ c. omega (arith, message-fits (c .args .volume) (c .args .delay) (omega arith) (omega arith))) (λ c κs. search needs) (λ c. search needs))

@@ -17,63 +17,6 @@ Inv-loop clocks supplied₀ runs p₀ supplied p =
 abbrev μ-loop : tie.MeasureT-loop
 μ-loop clocks supplied₀ runs p₀ supplied p = 16 - p
 
-loop-holds : tie.Need-loop-holds Inv-loop μ-loop
-loop-holds c = (omega arith, lanes-none _ _, lanes-none _ _)
-
-mul-n : tie.Need-mul-n Inv-loop μ-loop
-mul-n c = omega (arith, c .loop-test .taken)
-
-array-read-n : tie.Need-array-read-n Inv-loop μ-loop
-array-read-n c = omega (arith, c .loop-test .taken)
-
-mul-finish-tick : tie.Need-mul-finish-tick Inv-loop μ-loop
-mul-finish-tick c = omega (arith, c .loop-test .taken)
-
-element-copy-out-finish-tick : tie.Need-element-copy-out-finish-tick Inv-loop μ-loop
-element-copy-out-finish-tick c = omega (arith, c .loop-test .taken)
-
-mul-finish-tick-2 : tie.Need-mul-finish-tick-2 Inv-loop μ-loop
-mul-finish-tick-2 c = omega (arith, c .before .loop-test .taken)
-
-element-copy-out-finish-tick-2 : tie.Need-element-copy-out-finish-tick-2 Inv-loop μ-loop
-element-copy-out-finish-tick-2 c = omega (arith, c .before .loop-test .taken)
-
-finish-tick-requires : tie.Need-finish-tick-requires Inv-loop μ-loop
-finish-tick-requires c κs = search needs
-
-mul-supplied : tie.Need-mul-supplied Inv-loop μ-loop
-mul-supplied c = omega (arith, c .before .before .before .loop-test .taken)
-
-element-write-supplied : tie.Need-element-write-supplied Inv-loop μ-loop
-element-write-supplied c = omega (arith, c .before .before .before .loop-test .taken)
-
-mul-finish-tick-3 : tie.Need-mul-finish-tick-3 Inv-loop μ-loop
-mul-finish-tick-3 c = omega (arith, c .before .before .before .loop-test .taken)
-
-element-copy-out-finish-tick-3 : tie.Need-element-copy-out-finish-tick-3 Inv-loop μ-loop
-element-copy-out-finish-tick-3 c = omega (arith, c .before .before .before .loop-test .taken)
-
-mul-finish-tick-4 : tie.Need-mul-finish-tick-4 Inv-loop μ-loop
-mul-finish-tick-4 c = omega (arith, c .before .before .before .before .loop-test .taken)
-
-element-copy-out-finish-tick-4 : tie.Need-element-copy-out-finish-tick-4 Inv-loop μ-loop
-element-copy-out-finish-tick-4 c = omega (arith, c .before .before .before .before .loop-test .taken)
-
-finish-tick-requires-2 : tie.Need-finish-tick-requires-2 Inv-loop μ-loop
-finish-tick-requires-2 c κs = search needs
-
-mul-supplied-2 : tie.Need-mul-supplied-2 Inv-loop μ-loop
-mul-supplied-2 c = omega (arith, c .before .before .before .before .before .before .loop-test .taken)
-
-element-write-supplied-2 : tie.Need-element-write-supplied-2 Inv-loop μ-loop
-element-write-supplied-2 c = omega (arith, c .before .before .before .before .before .before .loop-test .taken)
-
-add-p : tie.Need-add-p Inv-loop μ-loop
-add-p c = omega (arith, c .before .before .before .before .before .before .loop-test .taken)
-
-loop-less : tie.Need-loop-less Inv-loop μ-loop
-loop-less c = omega (arith, c .before .before .before .before .before .before .loop-test .taken)
-
 loop-again : tie.Need-loop-again Inv-loop μ-loop
 loop-again c =
     let loop = c .before .before .before .before .before .before .before .loop in
@@ -90,26 +33,14 @@ pub finish-spec : {M : Type 1} → statement M
 finish-spec =
     tie.close
     (tie.spec
-    Inv-loop
-    μ-loop
-    loop-holds
-    mul-n
-    array-read-n
-    mul-finish-tick
-    element-copy-out-finish-tick
-    mul-finish-tick-2
-    element-copy-out-finish-tick-2
-    finish-tick-requires
-    mul-supplied
-    element-write-supplied
-    mul-finish-tick-3
-    element-copy-out-finish-tick-3
-    mul-finish-tick-4
-    element-copy-out-finish-tick-4
-    finish-tick-requires-2
-    mul-supplied-2
-    element-write-supplied-2
-    add-p
-    loop-less
-    loop-again
-    returns)
+    Inv-loop μ-loop (λ c. (omega arith, lanes-none _ _, lanes-none _ _)) (λ c. omega (arith, c .loop-test .taken))
+    (λ c. omega (arith, c .loop-test .taken)) (λ c. omega (arith, c .loop-test .taken)) (λ c. omega (arith, c .loop-test .taken))
+    (λ c. omega (arith, c .before .loop-test .taken)) (λ c. omega (arith, c .before .loop-test .taken)) (λ c κs. search needs)
+    (λ c. omega (arith, c .before .before .before .loop-test .taken)) (λ c. omega (arith, c .before .before .before .loop-test .taken))
+    (λ c. omega (arith, c .before .before .before .loop-test .taken)) (λ c. omega (arith, c .before .before .before .loop-test .taken))
+    (λ c. omega (arith, c .before .before .before .before .loop-test .taken))
+    (λ c. omega (arith, c .before .before .before .before .loop-test .taken)) (λ c κs. search needs)
+    (λ c. omega (arith, c .before .before .before .before .before .before .loop-test .taken))
+    (λ c. omega (arith, c .before .before .before .before .before .before .loop-test .taken))
+    (λ c. omega (arith, c .before .before .before .before .before .before .loop-test .taken))
+    (λ c. omega (arith, c .before .before .before .before .before .before .loop-test .taken)) loop-again returns)

@@ -4,17 +4,6 @@ use borrow.Author.Tests.{lt-ltb, le-ltb}
 use Rattle.ticks.proofs.clocks.Ready.advance.Statement.{statement}
 use Rattle.ticks.proofs.clocks.Ready.advance.Tie as tie
 
-mul-self : tie.Need-mul-self
-mul-self c = search needs
-
-element-write-self : tie.Need-element-write-self
-element-write-self c = search needs
-
-returns : tie.Need-returns
-returns c = rw (lt-ltb _ _ (c .if1 .taken))
-
-returns-2 : tie.Need-returns-2
-returns-2 c = rw (le-ltb _ _ (c .if1 .left))
-
 pub advance-spec : {M : Type 1} → statement M
-advance-spec = tie.close (tie.spec mul-self element-write-self returns returns-2)
+advance-spec = tie.close (tie.spec
+    (λ c. search needs) (λ c. search needs) (λ c. rw (lt-ltb _ _ (c .if1 .taken))) (λ c. rw (le-ltb _ _ (c .if1 .left))))
