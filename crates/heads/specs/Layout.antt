@@ -66,6 +66,23 @@ priorityAt rooms = 281 * rooms
 abbrev pub rowAt : ℕ → ℕ → ℕ
 rowAt rooms i = 289 * rooms + i * 25
 
+-- In the line at a, replica c: its processor, its early and its late time; the place after it.
+abbrev pub processorAt : ℕ → ℕ → ℕ
+processorAt a c = a + (1 + 3 * c)
+
+abbrev pub earlyAt : ℕ → ℕ → ℕ
+earlyAt a c = a + (2 + 3 * c)
+
+abbrev pub lateAt : ℕ → ℕ → ℕ
+lateAt a c = a + (3 + 3 * c)
+
+abbrev pub replicaEnd : ℕ → ℕ → ℕ
+replicaEnd a c = a + (4 + 3 * c)
+
+-- Its late time or its early one.
+abbrev pub timeAt : Bool → ℕ → ℕ → ℕ
+timeAt late a c = a + ((if late then 3 else 2) + 3 * c)
+
 -- For each processor its largest delay to any processor, after the last line.
 abbrev pub farAt : ℕ → ℕ
 farAt rooms = 489 * rooms

@@ -12,7 +12,7 @@ use Rattle.definitions.specs.Job.{Edge, Job, runTime, delay}
 use Rattle.definitions.proofs.Lists.{below-in, length-count, map-in}
 use Rattle.orders.specs.Edges.{edgeIn}
 use Rattle.heads.specs.Layout.{memorySize, jobSize, outHeadAt, outNextAt, levelAt}
-use Rattle.jobs.specs.Held.{edgeAt, jobIn, chain, Chained, JobHeld, LinkedOut}
+use Rattle.jobs.specs.Held.{numberAt, runAt, delayAt, edgeAt, jobIn, chain, Chained, JobHeld, LinkedOut}
 use Rattle.lists.specs.Kept.{KeptOutside}
 use Rattle.rows.proofs.RowLaws.{row-ends}
 use Rattle.lists.proofs.Counting.{getD-below, below-same, zero-or-more}
@@ -41,17 +41,17 @@ module _ (mem : List ℕ) where
   unfolding jobIn
   length-edges = length-map (below (nth mem 2)) (λ i. edgeIn (nth mem (edgeAt mem i))) ∙ length-count 0 (nth mem 2)
 
-  pub run-in : (t p : ℕ) → t < nth mem 0 → p < nth mem 1 → runTime (jobIn mem) t p ≡ nth mem (4 + t * (nth mem 1 + 1) + (p + 1))
+  pub run-in : (t p : ℕ) → t < nth mem 0 → p < nth mem 1 → runTime (jobIn mem) t p ≡ nth mem (runAt mem t p)
   unfolding jobIn runTime
   run-in t p h g =
-      let row : ℕ → List ℕ = λ t. map (λ p. nth mem (4 + t * (nth mem 1 + 1) + (p + 1))) (below (nth mem 1)) in
-      ap (λ (r : List ℕ). nth r p) (getD-below row (nth mem 0) t [] h) ∙ getD-below (λ p. nth mem (4 + t * (nth mem 1 + 1) + (p + 1))) (nth mem 1) p 0 g
+      let row : ℕ → List ℕ = λ t. map (λ p. nth mem (runAt mem t p)) (below (nth mem 1)) in
+      ap (λ (r : List ℕ). nth r p) (getD-below row (nth mem 0) t [] h) ∙ getD-below (λ p. nth mem (runAt mem t p)) (nth mem 1) p 0 g
 
-  pub delay-in : (p q : ℕ) → p < nth mem 1 → q < nth mem 1 → delay (jobIn mem) p q ≡ nth mem (4 + (nth mem 0 + p) * (nth mem 1 + 1) + (q + 1))
+  pub delay-in : (p q : ℕ) → p < nth mem 1 → q < nth mem 1 → delay (jobIn mem) p q ≡ nth mem (delayAt mem p q)
   unfolding jobIn delay
   delay-in p q h g =
-      let row : ℕ → List ℕ = λ p. map (λ q. nth mem (4 + (nth mem 0 + p) * (nth mem 1 + 1) + (q + 1))) (below (nth mem 1)) in
-      ap (λ (r : List ℕ). nth r q) (getD-below row (nth mem 1) p [] h) ∙ getD-below (λ q. nth mem (4 + (nth mem 0 + p) * (nth mem 1 + 1) + (q + 1))) (nth mem 1) q 0 g
+      let row : ℕ → List ℕ = λ p. map (λ q. nth mem (delayAt mem p q)) (below (nth mem 1)) in
+      ap (λ (r : List ℕ). nth r q) (getD-below row (nth mem 1) p [] h) ∙ getD-below (λ q. nth mem (delayAt mem p q)) (nth mem 1) q 0 g
 
   -- Each cell of an edge holds a member.
   pub edge-in : (i : ℕ) → i < nth mem 2 → In (edgeIn (nth mem (edgeAt mem i))) (jobIn mem .edges)
@@ -93,10 +93,10 @@ sizes {mem} h =
 module _ {rooms : ℕ} {mem : List ℕ} (s : Sizes rooms mem) where
   -- The cells of row r, before the edges: the rows of the tasks, then those of the processors.
   pub row-cell : (r p : ℕ) → r < nth mem 0 + nth mem 1 → p < nth mem 1
-      → 4 + r * (nth mem 1 + 1) + (p + 1) < 4 + (nth mem 0 + nth mem 1) * (nth mem 1 + 1)
+      → numberAt mem r p < 4 + (nth mem 0 + nth mem 1) * (nth mem 1 + 1)
   row-cell r p h g = omega (arith, row-ends r (nth mem 0 + nth mem 1) (nth mem 1 + 1) h)
 
-  pub row-below : (r p : ℕ) → r < nth mem 0 + nth mem 1 → p < nth mem 1 → 4 + r * (nth mem 1 + 1) + (p + 1) < jobSize rooms
+  pub row-below : (r p : ℕ) → r < nth mem 0 + nth mem 1 → p < nth mem 1 → numberAt mem r p < jobSize rooms
   row-below r p h g = omega (arith, row-cell r p h g)
 
   pub edge-below : (i : ℕ) → i < nth mem 2 → edgeAt mem i < jobSize rooms
@@ -111,22 +111,22 @@ module _ {rooms : ℕ} {mem : List ℕ} (s : Sizes rooms mem) where
     edge-same i h = rw (edgeAt-same i, k .cell (edgeAt mem i) (omega arith) (edge-below i h))
 
     runs-same : (t : ℕ) → t < nth mem 0
-        → map (λ p. nth e (4 + t * (nth e 1 + 1) + (p + 1))) (below (nth e 1)) ≡ map (λ p. nth mem (4 + t * (nth mem 1 + 1) + (p + 1))) (below (nth mem 1))
+        → map (λ p. nth e (runAt e t p)) (below (nth e 1)) ≡ map (λ p. nth mem (runAt mem t p)) (below (nth mem 1))
     runs-same t h =
-        below-same (λ p. nth e (4 + t * (nth e 1 + 1) + (p + 1))) (λ p. nth mem (4 + t * (nth mem 1 + 1) + (p + 1))) (k .cell 1 (omega arith) (omega arith))
-        (λ p g. rw (k .cell 1 (omega arith) (omega arith)) (k .cell (4 + t * (nth mem 1 + 1) + (p + 1)) (omega arith) (row-below t p (omega arith) g)))
+        below-same (λ p. nth e (runAt e t p)) (λ p. nth mem (runAt mem t p)) (k .cell 1 (omega arith) (omega arith))
+        (λ p g. rw (k .cell 1 (omega arith) (omega arith)) (k .cell (runAt mem t p) (omega arith) (row-below t p (omega arith) g)))
 
     delays-same : (p : ℕ) → p < nth mem 1
-        → map (λ q. nth e (4 + (nth e 0 + p) * (nth e 1 + 1) + (q + 1))) (below (nth e 1)) ≡ map (λ q. nth mem (4 + (nth mem 0 + p) * (nth mem 1 + 1) + (q + 1))) (below (nth mem 1))
+        → map (λ q. nth e (delayAt e p q)) (below (nth e 1)) ≡ map (λ q. nth mem (delayAt mem p q)) (below (nth mem 1))
     delays-same p h =
-        below-same (λ q. nth e (4 + (nth e 0 + p) * (nth e 1 + 1) + (q + 1))) (λ q. nth mem (4 + (nth mem 0 + p) * (nth mem 1 + 1) + (q + 1))) (k .cell 1 (omega arith) (omega arith))
-        (λ q g. rw (k .cell 0 (omega arith) (omega arith), k .cell 1 (omega arith) (omega arith)) (k .cell (4 + (nth mem 0 + p) * (nth mem 1 + 1) + (q + 1)) (omega arith) (row-below (nth mem 0 + p) q (omega arith) g)))
+        below-same (λ q. nth e (delayAt e p q)) (λ q. nth mem (delayAt mem p q)) (k .cell 1 (omega arith) (omega arith))
+        (λ q g. rw (k .cell 0 (omega arith) (omega arith), k .cell 1 (omega arith) (omega arith)) (k .cell (delayAt mem p q) (omega arith) (row-below (nth mem 0 + p) q (omega arith) g)))
 
     pub job-same : jobIn e ≡ jobIn mem
     unfolding jobIn
     job-same =
-        let run : List ℕ → ℕ → List ℕ = λ x t. map (λ p. nth x (4 + t * (nth x 1 + 1) + (p + 1))) (below (nth x 1)) in
-        let late : List ℕ → ℕ → List ℕ = λ x p. map (λ q. nth x (4 + (nth x 0 + p) * (nth x 1 + 1) + (q + 1))) (below (nth x 1)) in
+        let run : List ℕ → ℕ → List ℕ = λ x t. map (λ p. nth x (runAt x t p)) (below (nth x 1)) in
+        let late : List ℕ → ℕ → List ℕ = λ x p. map (λ q. nth x (delayAt x p q)) (below (nth x 1)) in
         let edge : List ℕ → ℕ → Edge = λ x i. edgeIn (nth x (edgeAt x i)) in
         let a : map (run e) (below (nth e 0)) ≡ map (run mem) (below (nth mem 0)) = below-same (run e) (run mem) (k .cell 0 (omega arith) (omega arith)) runs-same in
         let b : map (late e) (below (nth e 1)) ≡ map (late mem) (below (nth mem 1)) = below-same (late e) (late mem) (k .cell 1 (omega arith) (omega arith)) delays-same in

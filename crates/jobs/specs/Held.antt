@@ -3,13 +3,27 @@ use mathlib.Core.Path.{_≡_}
 use mathlib.Core.List.{List, [], _∷_, map, reverse}
 use Prim.Native.Nat.{ℕ, zero, suc, _+_, _*_, _-_, _<_, _≤_}
 use lib.Dec.{eqb}
-use lib.ListN.{length}
+use lib.ListN.{length, drop}
 use Rattle.definitions.specs.Lists.{if_then_else_, nth, below}
 use Rattle.definitions.specs.Limits.{document01}
 use Rattle.definitions.specs.Job.{Edge, Job, jobHeadOf, incoming, outgoing}
 use Rattle.definitions.proofs.Facts.{JobFacts}
 use Rattle.orders.specs.Edges.{edgeIn}
+use Rattle.orders.specs.Order.{Arranged}
+use Rattle.orders.specs.Links.{Run, outStartAt, inStartAt, orderAt, linksSize}
 use Rattle.heads.specs.Layout.{memorySize, FitsIn, inHeadAt, inNextAt, outHeadAt, outNextAt}
+
+-- The cell of number p of row r, counted over the C lines and then the D lines; a row begins with its own number.
+abbrev pub numberAt : List ℕ → ℕ → ℕ → ℕ
+numberAt mem r p = 4 + r * (nth mem 1 + 1) + (p + 1)
+
+-- The cell of the run time of task t on processor p.
+abbrev pub runAt : List ℕ → ℕ → ℕ → ℕ
+runAt mem t p = numberAt mem t p
+
+-- The cell of the delay from processor p to processor q.
+abbrev pub delayAt : List ℕ → ℕ → ℕ → ℕ
+delayAt mem p q = numberAt mem (nth mem 0 + p) q
 
 -- The cell of edge i.
 abbrev pub edgeAt : List ℕ → ℕ → ℕ
@@ -22,8 +36,8 @@ jobIn mem =
       tasks = nth mem 0;
       processors = nth mem 1;
       losses = nth mem 3;
-      runs = map (λ t. map (λ p. nth mem (4 + t * (nth mem 1 + 1) + (p + 1))) (below (nth mem 1))) (below (nth mem 0));
-      delays = map (λ p. map (λ q. nth mem (4 + (nth mem 0 + p) * (nth mem 1 + 1) + (q + 1))) (below (nth mem 1))) (below (nth mem 1));
+      runs = map (λ t. map (λ p. nth mem (runAt mem t p)) (below (nth mem 1))) (below (nth mem 0));
+      delays = map (λ p. map (λ q. nth mem (delayAt mem p q)) (below (nth mem 1))) (below (nth mem 1));
       edges = map (λ i. edgeIn (nth mem (edgeAt mem i))) (below (nth mem 2));
     }
 
@@ -47,6 +61,15 @@ LinkedIn rooms mem = Chained (incoming (jobIn mem)) (inHeadAt rooms) (inNextAt r
 -- The links to the edges that leave each task.
 abbrev pub LinkedOut : ℕ → List ℕ → Type 0
 LinkedOut rooms mem = Chained (outgoing (jobIn mem)) (outHeadAt rooms) (outNextAt rooms) mem
+
+-- The links of the job in a memory: the run of each task's edges, and an order of the tasks.
+pub record LinksHeld (mem links : List ℕ) : Type 0 where
+  pub size : linksSize (nth mem 0) (nth mem 2) ≤ length links
+  pub outs : (t : ℕ) → t < nth mem 0
+      → Run (edgeAt mem (nth links (outStartAt (nth mem 0) t))) (edgeAt mem (nth links (outStartAt (nth mem 0) (t + 1)))) mem (outgoing (jobIn mem) t)
+  pub ins : (t : ℕ) → t < nth mem 0
+      → Run (nth links (inStartAt (nth mem 0) t)) (nth links (inStartAt (nth mem 0) (t + 1))) links (incoming (jobIn mem) t)
+  pub order : Arranged (nth mem 0) (jobIn mem .edges) (drop (orderAt (nth mem 0) 0) links) (nth mem 0)
 
 -- A job stands in a memory of so many rooms, and fits it.
 pub record JobHeld (rooms : ℕ) (mem : List ℕ) : Type 0 where

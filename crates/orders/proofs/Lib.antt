@@ -1,3 +1,4 @@
 pub mod CircleLaws
+pub mod LinkIn
 pub mod OrderLaws
 pub mod SortLaws

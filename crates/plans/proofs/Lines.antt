@@ -7,7 +7,7 @@ use Prim.Native.Nat.{ℕ, zero, suc, _+_, _*_, _-_, _<_, _≤_}
 use native.Mathlib.Omega.{arith}
 use lib.ListN.{length}
 use Rattle.definitions.specs.Lists.{if_then_else_, nth}
-use Rattle.heads.specs.Layout.{jobSize, inHeadAt, inNextAt, levelAt, lineAt, blockedAt, rowAt}
+use Rattle.heads.specs.Layout.{jobSize, inHeadAt, inNextAt, levelAt, lineAt, blockedAt, rowAt, processorAt, earlyAt, lateAt, timeAt}
 use Rattle.jobs.specs.Held.{jobIn}
 use Rattle.plans.specs.Lines.{rowOutcomes, placedIn, rowReplicas, linesIn, RowHeld, Standing}
 use Rattle.lists.specs.Kept.{KeptOutside}
@@ -17,36 +17,36 @@ use Rattle.jobs.proofs.Held.{sizes, Sizes, job-same, held-same, chained-same}
 -- Lines -------------------------------------------------------------------------------------------------------
 
 module _ (d e : List ℕ) where
-  pub outcomes-same : (late : Bool) (a c : ℕ) → Same a (a + (1 + 3 * c)) d e → rowOutcomes late a c e ≡ rowOutcomes late a c d
+  pub outcomes-same : (late : Bool) (a c : ℕ) → Same a (processorAt a c) d e → rowOutcomes late a c e ≡ rowOutcomes late a c d
   unfolding rowOutcomes
   outcomes-same late a zero k = refl
   outcomes-same late a (suc c) k =
-      rw (k .cell a (omega arith) (omega arith), k .cell (a + (1 + 3 * c)) (omega arith) (omega arith), time late, outcomes-same late a c (same-part a (a + (1 + 3 * c)) k (omega arith) (omega arith)))
+      rw (k .cell a (omega arith) (omega arith), k .cell (processorAt a c) (omega arith) (omega arith), time late, outcomes-same late a c (same-part a (processorAt a c) k (omega arith) (omega arith)))
     where
-      time : (late : Bool) → nth e (a + ((if late then 3 else 2) + 3 * c)) ≡ nth d (a + ((if late then 3 else 2) + 3 * c))
-      time true = k .cell (a + (3 + 3 * c)) (omega arith) (omega arith)
-      time false = k .cell (a + (2 + 3 * c)) (omega arith) (omega arith)
+      time : (late : Bool) → nth e (timeAt late a c) ≡ nth d (timeAt late a c)
+      time true = k .cell (lateAt a c) (omega arith) (omega arith)
+      time false = k .cell (earlyAt a c) (omega arith) (omega arith)
 
   pub placed-same : (rooms : ℕ) (late : Bool) (w k : ℕ) → w ≤ 8 → Same (rowAt rooms 0) (rowAt rooms k) d e → placedIn rooms late w k e ≡ placedIn rooms late w k d
   unfolding placedIn
   placed-same rooms late w zero h s = refl
   placed-same rooms late w (suc k) h s =
       rw (
-        outcomes-same late (rowAt rooms k) w (same-part (rowAt rooms k) (rowAt rooms k + (1 + 3 * w)) s (omega arith) (omega arith)),
+        outcomes-same late (rowAt rooms k) w (same-part (rowAt rooms k) (processorAt (rowAt rooms k) w) s (omega arith) (omega arith)),
         placed-same rooms late w k h
             (same-part (rowAt rooms 0) (rowAt rooms k) s (omega arith) (omega arith)),
       )
 
-  pub replicas-same : (a c : ℕ) → Same a (a + (1 + 3 * c)) d e → rowReplicas a c e ≡ rowReplicas a c d
+  pub replicas-same : (a c : ℕ) → Same a (processorAt a c) d e → rowReplicas a c e ≡ rowReplicas a c d
   unfolding rowReplicas
   replicas-same a zero k = refl
   replicas-same a (suc c) k =
       rw (
-        k .cell (a + (1 + 3 * c)) (omega arith) (omega arith),
-        k .cell (a + (2 + 3 * c)) (omega arith) (omega arith),
-        k .cell (a + (3 + 3 * c)) (omega arith) (omega arith),
+        k .cell (processorAt a c) (omega arith) (omega arith),
+        k .cell (earlyAt a c) (omega arith) (omega arith),
+        k .cell (lateAt a c) (omega arith) (omega arith),
         replicas-same
-            a c (same-part a (a + (1 + 3 * c)) k (omega arith) (omega arith)),
+            a c (same-part a (processorAt a c) k (omega arith) (omega arith)),
       )
 
   pub lines-same : (rooms : ℕ) (w k : ℕ) → w ≤ 8 → Same (rowAt rooms 0) (rowAt rooms k) d e → linesIn rooms w k e ≡ linesIn rooms w k d
@@ -55,7 +55,7 @@ module _ (d e : List ℕ) where
   lines-same rooms w (suc k) h s =
       rw (
         s .cell (rowAt rooms k) (omega arith) (omega arith),
-        replicas-same (rowAt rooms k) w (same-part (rowAt rooms k) (rowAt rooms k + (1 + 3 * w)) s (omega arith) (omega arith)),
+        replicas-same (rowAt rooms k) w (same-part (rowAt rooms k) (processorAt (rowAt rooms k) w) s (omega arith) (omega arith)),
         lines-same rooms w k h (same-part (rowAt rooms 0) (rowAt rooms k) s (omega arith) (omega arith)),
       )
 
@@ -66,9 +66,9 @@ row-held-same {d} {e} a s j x r =
     let m : nth e 1 ≡ nth d 1 = j .cell 1 (omega arith) (omega arith) in
     let l : nth e 3 ≡ nth d 3 = j .cell 3 (omega arith) (omega arith) in
     record {
-      processor-of = λ c h. rw (m, x .cell (a + (1 + 3 * c)) (omega arith) (omega arith)) (r .processor-of c (rw l at h));
-      early-of = λ c h. rw (x .cell (a + (2 + 3 * c)) (omega arith) (omega arith)) (r .early-of c (rw l at h));
-      late-of = λ c h. rw (x .cell (a + (3 + 3 * c)) (omega arith) (omega arith)) (r .late-of c (rw l at h));
+      processor-of = λ c h. rw (m, x .cell (processorAt a c) (omega arith) (omega arith)) (r .processor-of c (rw l at h));
+      early-of = λ c h. rw (x .cell (earlyAt a c) (omega arith) (omega arith)) (r .early-of c (rw l at h));
+      late-of = λ c h. rw (x .cell (lateAt a c) (omega arith) (omega arith)) (r .late-of c (rw l at h));
     }
 
 -- The job with its links, the table of lines and the first k lines are as they were.

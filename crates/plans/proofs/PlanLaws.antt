@@ -14,7 +14,7 @@ use Rattle.definitions.specs.Text.{firstOf}
 use Rattle.definitions.specs.Job.{incoming, outside}
 use Rattle.definitions.specs.Plan.{Replica, Line, processorsOf, descends, PlanHead, planHeadRule, strays, planLineRule}
 use Rattle.definitions.proofs.Lists.{neither, inside, not-outside, either-right, in-append, append-left, append-right, in-has, has-not, in-keep}
-use Rattle.heads.specs.Layout.{inHeadAt, inNextAt, lineAt, rowAt}
+use Rattle.heads.specs.Layout.{inHeadAt, inNextAt, lineAt, rowAt, processorAt, earlyAt, lateAt}
 use Rattle.jobs.specs.Held.{edgeAt, jobIn, chain, LinkedIn}
 use Rattle.plans.specs.Lines.{rowReplicas, linesIn, RowHeld, Standing}
 use Rattle.plans.specs.Loading.{lineIn}
@@ -101,7 +101,7 @@ unfoldable pub rowStrays : List ℕ → ℕ → ℕ → Bool
 rowStrays mem a c = any (strayed mem) (rowReplicas a c mem)
 
 abbrev replicaAt : List ℕ → ℕ → ℕ → Replica
-replicaAt mem a c = record { processor = nth mem (a + (1 + 3 * c)); early = nth mem (a + (2 + 3 * c)); late = nth mem (a + (3 + 3 * c)) }
+replicaAt mem a c = record { processor = nth mem (processorAt a c); early = nth mem (earlyAt a c); late = nth mem (lateAt a c) }
 
 module _ (mem : List ℕ) (a : ℕ) where
   strays-last : (c : ℕ) → rowStrays mem a (suc c) ≡ (rowStrays mem a c || strayed mem (replicaAt mem a c))
@@ -113,24 +113,24 @@ module _ (mem : List ℕ) (a : ℕ) where
 
   -- Replica c is the last of n.
   module _ (c n : ℕ) (q : n ≡ suc c) where
-    pub stray-processor : nth mem 1 ≤ nth mem (a + (1 + 3 * c)) → true ≡ rowStrays mem a n
+    pub stray-processor : nth mem 1 ≤ nth mem (processorAt a c) → true ≡ rowStrays mem a n
     stray-processor h = last-strays c n q (rw (le-ltb _ _ h))
 
-    module _ (p : nth mem (a + (1 + 3 * c)) < nth mem 1) where
-      pub stray-early : 4294967295 < nth mem (a + (2 + 3 * c)) → true ≡ rowStrays mem a n
-      stray-early h = last-strays c n q (rw (lt-ltb _ _ p, le-ltb (nth mem (a + (2 + 3 * c))) 0 (omega arith), lt-ltb _ _ h))
+    module _ (p : nth mem (processorAt a c) < nth mem 1) where
+      pub stray-early : 4294967295 < nth mem (earlyAt a c) → true ≡ rowStrays mem a n
+      stray-early h = last-strays c n q (rw (lt-ltb _ _ p, le-ltb (nth mem (earlyAt a c)) 0 (omega arith), lt-ltb _ _ h))
 
-      module _ (e : nth mem (a + (2 + 3 * c)) ≤ 4294967295) where
-        early-good : outside 0 4294967295 (nth mem (a + (2 + 3 * c))) ≡ false
-        early-good = not-outside 0 4294967295 (nth mem (a + (2 + 3 * c))) (omega arith) e
+      module _ (e : nth mem (earlyAt a c) ≤ 4294967295) where
+        early-good : outside 0 4294967295 (nth mem (earlyAt a c)) ≡ false
+        early-good = not-outside 0 4294967295 (nth mem (earlyAt a c)) (omega arith) e
 
-        pub stray-late : 4294967295 < nth mem (a + (3 + 3 * c)) → true ≡ rowStrays mem a n
-        stray-late h = last-strays c n q (rw (lt-ltb _ _ p, early-good, le-ltb (nth mem (a + (3 + 3 * c))) 0 (omega arith), lt-ltb _ _ h))
+        pub stray-late : 4294967295 < nth mem (lateAt a c) → true ≡ rowStrays mem a n
+        stray-late h = last-strays c n q (rw (lt-ltb _ _ p, early-good, le-ltb (nth mem (lateAt a c)) 0 (omega arith), lt-ltb _ _ h))
 
-        pub stray-none : nth mem (a + (3 + 3 * c)) ≤ 4294967295 → rowStrays mem a c ≡ rowStrays mem a n
+        pub stray-none : nth mem (lateAt a c) ≤ 4294967295 → rowStrays mem a c ≡ rowStrays mem a n
         stray-none h =
             let g : strayed mem (replicaAt mem a c) ≡ false =
-            rw (lt-ltb _ _ p, early-good) (not-outside 0 4294967295 (nth mem (a + (3 + 3 * c))) (omega arith) h) in
+            rw (lt-ltb _ _ p, early-good) (not-outside 0 4294967295 (nth mem (lateAt a c)) (omega arith) h) in
             rw (q, strays-last c, g) (sym (or-false (rowStrays mem a c)))
 
   pub strays-none : false ≡ rowStrays mem a 0
@@ -156,11 +156,11 @@ module _ (mem : List ℕ) (a : ℕ) where
   unfolding strays rowStrays jobIn
   strays-not e =
       let (t, r) = neither (not (ltb (nth mem a) (nth mem 0))) (any (strayed mem) (rowReplicas a (nth mem 3 + 1) mem)) e in
-      let cell : (c : ℕ) → c < nth mem 3 + 1 → (nth mem (a + (1 + 3 * c)) < nth mem 1) × (nth mem (a + (2 + 3 * c)) ≤ 4294967295) × (nth mem (a + (3 + 3 * c)) ≤ 4294967295) = λ c h.
+      let cell : (c : ℕ) → c < nth mem 3 + 1 → (nth mem (processorAt a c) < nth mem 1) × (nth mem (earlyAt a c) ≤ 4294967295) × (nth mem (lateAt a c) ≤ 4294967295) = λ c h.
       let g = row-within-range (nth mem 3 + 1) c r h in
-      let (x, late) = neither (not (ltb (nth mem (a + (1 + 3 * c))) (nth mem 1)) || outside 0 4294967295 (nth mem (a + (2 + 3 * c)))) (outside 0 4294967295 (nth mem (a + (3 + 3 * c)))) g in
-      let (place, early) = neither (not (ltb (nth mem (a + (1 + 3 * c))) (nth mem 1))) (outside 0 4294967295 (nth mem (a + (2 + 3 * c)))) x in
-      (ltb-true _ _ (not-false _ place), inside 0 4294967295 (nth mem (a + (2 + 3 * c))) early .1, inside 0 4294967295 (nth mem (a + (3 + 3 * c))) late .1) in (
+      let (x, late) = neither (not (ltb (nth mem (processorAt a c)) (nth mem 1)) || outside 0 4294967295 (nth mem (earlyAt a c))) (outside 0 4294967295 (nth mem (lateAt a c))) g in
+      let (place, early) = neither (not (ltb (nth mem (processorAt a c)) (nth mem 1))) (outside 0 4294967295 (nth mem (earlyAt a c))) x in
+      (ltb-true _ _ (not-false _ place), inside 0 4294967295 (nth mem (earlyAt a c)) early .1, inside 0 4294967295 (nth mem (lateAt a c)) late .1) in (
         ltb-true _ _ (not-false _ t),
         record { processor-of = λ c h. cell c h .0; early-of = λ c h. inr (cell c h .1); late-of = λ c h. inr (cell c h .2) },
       )
@@ -178,22 +178,22 @@ unfoldable pub rowDescends : List ℕ → ℕ → ℕ → Bool
 rowDescends mem a c = descends (map (λ r. r .processor) (rowReplicas a c mem))
 
 module _ (mem : List ℕ) (a : ℕ) where
-  row-last : (c : ℕ) → rowDescends mem a (suc (suc c)) ≡ (rowDescends mem a (suc c) || ltb (nth mem (a + (1 + 3 * suc c))) (nth mem (a + (1 + 3 * c))))
+  row-last : (c : ℕ) → rowDescends mem a (suc (suc c)) ≡ (rowDescends mem a (suc c) || ltb (nth mem (a + (1 + 3 * suc c))) (nth mem (processorAt a c)))
   unfolding rowDescends rowReplicas
   row-last c =
       let ps : List ℕ = map (λ r. r .processor) (rowReplicas a c mem) in
-      let p = nth mem (a + (1 + 3 * c)) in
+      let p = nth mem (processorAt a c) in
       let one : map (λ r. r .processor) (rowReplicas a c mem ++ replicaAt mem a c ∷ []) ≡ ps ++ p ∷ [] = map-append (λ r. r .processor) (rowReplicas a c mem) (replicaAt mem a c ∷ []) in
       let two = map-append (λ r. r .processor) (rowReplicas a c mem ++ replicaAt mem a c ∷ []) (replicaAt mem a (suc c) ∷ []) in
       rw (two, one) (descends-last ps p (nth mem (a + (1 + 3 * suc c))))
 
   -- Processor c is the last but one of n.
   module _ (c n : ℕ) (q : n ≡ suc c) where
-    pub descends-here : nth mem (a + (1 + 3 * n)) < nth mem (a + (1 + 3 * c)) → true ≡ rowDescends mem a (n + 1)
-    descends-here h = let e : nth mem (a + (1 + 3 * suc c)) < nth mem (a + (1 + 3 * c)) = rw q at h in rw (add-one, q, row-last c, lt-ltb _ _ e) (sym (or-true (rowDescends mem a (suc c))))
+    pub descends-here : nth mem (processorAt a n) < nth mem (processorAt a c) → true ≡ rowDescends mem a (n + 1)
+    descends-here h = let e : nth mem (a + (1 + 3 * suc c)) < nth mem (processorAt a c) = rw q at h in rw (add-one, q, row-last c, lt-ltb _ _ e) (sym (or-true (rowDescends mem a (suc c))))
 
-    pub descends-not : nth mem (a + (1 + 3 * c)) ≤ nth mem (a + (1 + 3 * n)) → rowDescends mem a (c + 1) ≡ rowDescends mem a (n + 1)
-    descends-not h = let e : nth mem (a + (1 + 3 * c)) ≤ nth mem (a + (1 + 3 * suc c)) = rw q at h in rw (add-one, add-one, q, row-last c, le-ltb _ _ e) (sym (or-false (rowDescends mem a (suc c))))
+    pub descends-not : nth mem (processorAt a c) ≤ nth mem (processorAt a n) → rowDescends mem a (c + 1) ≡ rowDescends mem a (n + 1)
+    descends-not h = let e : nth mem (processorAt a c) ≤ nth mem (a + (1 + 3 * suc c)) = rw q at h in rw (add-one, add-one, q, row-last c, le-ltb _ _ e) (sym (or-false (rowDescends mem a (suc c))))
 
   pub descends-one : false ≡ rowDescends mem a (0 + 1)
   unfolding rowDescends rowReplicas descends

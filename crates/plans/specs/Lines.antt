@@ -9,14 +9,14 @@ use Rattle.definitions.specs.Limits.{document01}
 use Rattle.definitions.specs.Plan.{Replica, Line}
 use Rattle.definitions.specs.Times.{Outcome}
 use Rattle.ticks.specs.Cells.{timeIn, Small}
-use Rattle.heads.specs.Layout.{lineAt, rowAt}
+use Rattle.heads.specs.Layout.{lineAt, rowAt, processorAt, earlyAt, lateAt, timeAt}
 use Rattle.jobs.specs.Held.{JobHeld, LinkedIn}
 
 -- The first c replicas of the line at a, newest first, with their early or their late times.
 unfoldable pub rowOutcomes : Bool → ℕ → ℕ → List ℕ → List Outcome
 rowOutcomes late a zero mem = []
 rowOutcomes late a (suc c) mem =
-    record { task = nth mem a; processor = nth mem (a + (1 + 3 * c)); time = timeIn (nth mem (a + ((if late then 3 else 2) + 3 * c))) }
+    record { task = nth mem a; processor = nth mem (processorAt a c); time = timeIn (nth mem (timeAt late a c)) }
     ∷ rowOutcomes late a c mem
 
 -- The replicas of the first k lines, w in each, newest first.
@@ -29,7 +29,7 @@ unfoldable pub rowReplicas : ℕ → ℕ → List ℕ → List Replica
 rowReplicas a zero mem = []
 rowReplicas a (suc c) mem =
     rowReplicas a c mem
-    ++ record { processor = nth mem (a + (1 + 3 * c)); early = nth mem (a + (2 + 3 * c)); late = nth mem (a + (3 + 3 * c)) } ∷ []
+    ++ record { processor = nth mem (processorAt a c); early = nth mem (earlyAt a c); late = nth mem (lateAt a c) } ∷ []
 
 -- The first k lines of a plan, w replicas in each.
 unfoldable pub linesIn : ℕ → ℕ → ℕ → List ℕ → List Line
@@ -42,9 +42,9 @@ rowOf rooms t mem = rowAt rooms (nth mem (lineAt rooms + t) - 1)
 
 -- The line at a has processors of the job and ticks of a plan's range.
 pub record RowHeld (a : ℕ) (mem : List ℕ) : Type 0 where
-  pub processor-of : (c : ℕ) → c < nth mem 3 + 1 → nth mem (a + (1 + 3 * c)) < nth mem 1
-  pub early-of : (c : ℕ) → c < nth mem 3 + 1 → Small (document01 .tick) (nth mem (a + (2 + 3 * c)))
-  pub late-of : (c : ℕ) → c < nth mem 3 + 1 → Small (document01 .tick) (nth mem (a + (3 + 3 * c)))
+  pub processor-of : (c : ℕ) → c < nth mem 3 + 1 → nth mem (processorAt a c) < nth mem 1
+  pub early-of : (c : ℕ) → c < nth mem 3 + 1 → Small (document01 .tick) (nth mem (earlyAt a c))
+  pub late-of : (c : ℕ) → c < nth mem 3 + 1 → Small (document01 .tick) (nth mem (lateAt a c))
 
 -- A job with its links, and k lines of a plan, each task in one line at the most.
 pub record Standing (rooms k : ℕ) (mem : List ℕ) : Type 0 where

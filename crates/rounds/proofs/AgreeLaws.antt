@@ -18,7 +18,7 @@ use Rattle.definitions.proofs.Lists.{both, both-true, in-append, map-same}
 use Rattle.definitions.proofs.Tasks.{copyOf}
 use Rattle.definitions.proofs.Bounds.{Bounded, PlacedWithin, least-within, largest-within, finish-most}
 use Rattle.definitions.proofs.Guarantee.{same-times, times-same}
-use Rattle.heads.specs.Layout.{lineAt, rowAt}
+use Rattle.heads.specs.Layout.{lineAt, rowAt, processorAt, earlyAt, lateAt, timeAt}
 use Rattle.jobs.specs.Held.{jobIn, JobHeld}
 use Rattle.ticks.specs.Cells.{timeIn}
 use Rattle.plans.specs.Lines.{rowOutcomes, placedIn, rowReplicas, linesIn, Standing}
@@ -45,7 +45,7 @@ abbrev written : Bool → Replica → ℕ
 written late r = if late then r .late else r .early
 
 abbrev cellOf : Bool → ℕ → ℕ → List ℕ → ℕ
-cellOf late a c mem = nth mem (a + ((if late then 3 else 2) + 3 * c))
+cellOf late a c mem = nth mem (timeAt late a c)
 
 written-at : (late : Bool) (a c : ℕ) (mem : List ℕ) → written late (replicaAt a c mem) ≡ cellOf late a c mem
 written-at true a c mem = refl
@@ -90,7 +90,7 @@ module _ {rooms : ℕ} {mem : List ℕ} (h : PlanHeld rooms mem) (k : ℕ) (l : 
       let (e, x) = h .facts .ticks-most (lineIn (rowAt rooms k) mem) (line-among rooms k (nth mem 0) mem l) (replicaAt (rowAt rooms k) c mem) (in-replicas (rowAt rooms k) w c mem g) in
       by late e x
     where
-      by : (late : Bool) → nth mem (rowAt rooms k + (2 + 3 * c)) ≤ document01 .tick → nth mem (rowAt rooms k + (3 + 3 * c)) ≤ document01 .tick → cellOf late (rowAt rooms k) c mem ≤ document01 .tick
+      by : (late : Bool) → nth mem (earlyAt (rowAt rooms k) c) ≤ document01 .tick → nth mem (lateAt (rowAt rooms k) c) ≤ document01 .tick → cellOf late (rowAt rooms k) c mem ≤ document01 .tick
       by true e x = x
       by false e x = e
 
@@ -127,7 +127,7 @@ module _ {rooms : ℕ} {mem : List ℕ} (h : PlanHeld rooms mem) (k : ℕ) (l : 
   short-here : (late : Bool) (c : ℕ) → c < nth mem 3 + 1 → LineAgrees rooms k mem → cellOf late (rowAt rooms k) c mem ≤ k * lineTicks + lineTicks
   unfolding finishOn
   short-here late c g a =
-      let p = nth mem (rowAt rooms k + (1 + 3 * c)) in
+      let p = nth mem (processorAt (rowAt rooms k) c) in
       rw (a late c g ∙ tick-in h k l late c g) at
       (finish-most document01 (jobIn mem) (h .standing .job .facts) (choiceOf late) (by late) [] (k * lineTicks) (placedIn rooms late (nth mem 3 + 1) k mem) (nth mem (rowAt rooms k)) p
       (rw (tasks-in mem) (h .standing .task-of k l)) (rw (processors-in mem) (h .standing .row k l .processor-of c g)) (placed-short h k (omega arith) s late))
@@ -155,13 +155,13 @@ clocks-new clocks mem h e f = outset-clocks (h .facts .processors-most) e f
 
 module _ {rooms : ℕ} {mem : List ℕ} (h : PlanHeld rooms mem) (k : ℕ) (l : k < nth mem 0) (c : ℕ) (g : c < nth mem 3 + 1) where
   abbrev here : ℕ
-  here = nth mem (rowAt rooms k + (1 + 3 * c))
+  here = nth mem (processorAt (rowAt rooms k) c)
 
   -- The processor of replica c.
-  box-below : nth mem (rowAt rooms k + (1 + 3 * c)) < nth mem 1
+  box-below : nth mem (processorAt (rowAt rooms k) c) < nth mem 1
   box-below = h .standing .row k l .processor-of c g
 
-  pub box-most : nth mem (rowAt rooms k + (1 + 3 * c)) < 16
+  pub box-most : nth mem (processorAt (rowAt rooms k) c) < 16
   box-most = omega (arith, box-below, sizes (h .standing .job) .processors-most)
 
   -- It is ready at x, and what the code computes is the finish by the equations.
@@ -176,7 +176,7 @@ module _ {rooms : ℕ} {mem : List ℕ} (h : PlanHeld rooms mem) (k : ℕ) (l : 
     late-found : tick (nth ls here) ≡ finishIn rooms true k c mem
     late-found = finish-found true (nth (clocks .late) here) (s .late-ready here (rw (processors-in mem) box-below)) (nth ls here) (b .late-finish here box-below)
 
-    pub agrees-next : nth es (nth mem (rowAt rooms k + (1 + 3 * c))) ≡ nth mem (rowAt rooms k + (2 + 3 * c)) → nth ls (nth mem (rowAt rooms k + (1 + 3 * c))) ≡ nth mem (rowAt rooms k + (3 + 3 * c))
+    pub agrees-next : nth es (nth mem (processorAt (rowAt rooms k) c)) ≡ nth mem (earlyAt (rowAt rooms k) c) → nth ls (nth mem (processorAt (rowAt rooms k) c)) ≡ nth mem (lateAt (rowAt rooms k) c)
         → AgreesTo rooms k c mem → AgreesTo rooms k (c + 1) mem
     agrees-next p q a late i m =
         ⊎-elim (λ (o : i ≡ c). rw o (by late)) (λ (o : i < c). a late i o) (last-or-before c i (omega arith))
@@ -186,10 +186,10 @@ module _ {rooms : ℕ} {mem : List ℕ} (h : PlanHeld rooms mem) (k : ℕ) (l : 
         by false = sym early-found ∙ ap tick p ∙ sym (tick-in h k l false c g)
 
     -- A tick that differs from the equations'.
-    pub early-not : (nth es (nth mem (rowAt rooms k + (1 + 3 * c))) ≡ nth mem (rowAt rooms k + (2 + 3 * c)) → ⊥) → LineAgrees rooms k mem → ⊥
+    pub early-not : (nth es (nth mem (processorAt (rowAt rooms k) c)) ≡ nth mem (earlyAt (rowAt rooms k) c) → ⊥) → LineAgrees rooms k mem → ⊥
     early-not n a = n (ap tickOf (early-found ∙ a false c g ∙ tick-in h k l false c g))
 
-    pub late-not : (nth ls (nth mem (rowAt rooms k + (1 + 3 * c))) ≡ nth mem (rowAt rooms k + (3 + 3 * c)) → ⊥) → LineAgrees rooms k mem → ⊥
+    pub late-not : (nth ls (nth mem (processorAt (rowAt rooms k) c)) ≡ nth mem (lateAt (rowAt rooms k) c) → ⊥) → LineAgrees rooms k mem → ⊥
     late-not n a = n (ap tickOf (late-found ∙ a true c g ∙ tick-in h k l true c g))
 
 pub agrees-none : (rooms : ℕ) (k : ℕ) (mem : List ℕ) → AgreesTo rooms k 0 mem
@@ -298,7 +298,7 @@ module _ {rooms : ℕ} {mem : List ℕ} (h : PlanHeld rooms mem) (one : doubledT
       line-walk late k l
       ∙ map-same (λ r. outcomeOn (jobIn mem) (choiceOf late) (placedIn rooms late wide k mem) (line k .task) (r .processor)) (outcomeOf late (line k .task)) (line k .replicas)
       (λ r i. let (c, g, e) = replicas-in (rowAt rooms k) wide mem r i in
-      rw (← e) (ap (outcome (copyOf (jobIn mem) (line k .task) (nth mem (rowAt rooms k + (1 + 3 * c))))) (a late c g ∙ ap timeIn (sym (written-at late (rowAt rooms k) c mem)))))
+      rw (← e) (ap (outcome (copyOf (jobIn mem) (line k .task) (nth mem (processorAt (rowAt rooms k) c)))) (a late c g ∙ ap timeIn (sym (written-at late (rowAt rooms k) c mem)))))
       ∙ outcomes-line late (rowAt rooms k) wide mem
 
   -- Lines whose ticks are the equations' walk to what is written.

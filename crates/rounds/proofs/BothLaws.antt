@@ -9,8 +9,8 @@ use Rattle.definitions.specs.Lists.{nth}
 use Rattle.definitions.specs.Job.{Edge, runTime, delay}
 use Rattle.definitions.specs.Times.{Time, tick, later, after, least, largest}
 use Rattle.orders.specs.Edges.{edgeIn}
-use Rattle.heads.specs.Layout.{inHeadAt, inNextAt}
-use Rattle.jobs.specs.Held.{edgeAt, jobIn}
+use Rattle.heads.specs.Layout.{inHeadAt, inNextAt, processorAt, earlyAt, lateAt}
+use Rattle.jobs.specs.Held.{runAt, edgeAt, jobIn}
 use Rattle.ticks.specs.Cells.{timeIn}
 use Rattle.plans.specs.Lines.{rowOutcomes, rowOf, RowHeld, Standing}
 use Rattle.rounds.specs.Schedule.{dataIn}
@@ -53,13 +53,13 @@ module _ {rooms : ℕ} (volume a : ℕ) (mem l : List ℕ) (s : Sizes rooms mem)
     pub offer-next : (delays u h : List ℕ) → DelayTable delays mem → RowHeld a mem → BothShort a mem → volume ≤ 4095 → c < nth mem 3 + 1
         → length u ≡ 16 → length h ≡ 16
         → ((p : ℕ) → p < 16
-        → (nth u p ≡ min (nth low p) (nth mem (a + (2 + 3 * c)) + volume * nth delays (nth mem (a + (1 + 3 * c)) * 16 + p)))
-        × (nth h p ≡ max (nth g p) (nth mem (a + (3 + 3 * c)) + volume * nth delays (nth mem (a + (1 + 3 * c)) * 16 + p))))
+        → (nth u p ≡ min (nth low p) (nth mem (earlyAt a c) + volume * nth delays (nth mem (processorAt a c) * 16 + p)))
+        × (nth h p ≡ max (nth g p) (nth mem (lateAt a c) + volume * nth delays (nth mem (processorAt a c) * 16 + p))))
         → Offered volume a mem l (c + 1) u h
     offer-next delays u h d r b v i m n e =
-        let q = nth mem (a + (1 + 3 * c)) in
-        let x = nth mem (a + (2 + 3 * c)) in
-        let y = nth mem (a + (3 + 3 * c)) in
+        let q = nth mem (processorAt a c) in
+        let x = nth mem (earlyAt a c) in
+        let y = nth mem (lateAt a c) in
         let ticks : ℕ → ℕ → ℕ = λ p q. volume * delay (jobIn mem) q p in
         let k : ℕ → ℕ = λ p. volume * nth delays (q * 16 + p) in
         let same : (p : ℕ) → p < nth mem 1 → k p ≡ ticks p q = λ p j. ap (volume *_) (d .cell q p (r .processor-of c i) j) in
@@ -177,7 +177,7 @@ Finish rooms late t clocks mem p x = tick x ≡ after (runTime (jobIn mem) t p) 
 
 finish-cell : (rooms : ℕ) (late : Bool) (t : ℕ) (clocks mem : List ℕ) (p y n x : ℕ) → t < nth mem 0 → p < nth mem 1
     → tick y ≡ dataIn rooms late t p mem
-    → n ≡ nth mem (4 + t * (nth mem 1 + 1) + (p + 1))
+    → n ≡ nth mem (runAt mem t p)
     → x ≡ max (nth clocks p) y + n
     → Finish rooms late t clocks mem p x
 finish-cell rooms late t clocks mem p y n x h g d r e = rw (e, r, run-in mem t p h g, ← d)

@@ -16,7 +16,7 @@ use Rattle.definitions.specs.Refusals.{doubledTasks}
 use Rattle.definitions.proofs.Lists.{neither, neither-false, append-left, append-right, in-append, apart-head, head-apart, map-in, keep-in}
 use Rattle.definitions.proofs.Facts.{Ordered, LineFacts}
 use Rattle.definitions.proofs.Tasks.{lineTasks}
-use Rattle.heads.specs.Layout.{rowAt}
+use Rattle.heads.specs.Layout.{rowAt, processorAt, earlyAt, lateAt, replicaEnd}
 use Rattle.jobs.specs.Held.{jobIn}
 use Rattle.plans.specs.Lines.{rowReplicas, linesIn}
 use Rattle.plans.specs.Loading.{lineIn, planIn}
@@ -70,11 +70,11 @@ rowProcessors a c mem = map (λ r. r .processor) (rowReplicas a c mem)
 
 module _ (a : ℕ) (mem : List ℕ) where
   abbrev on : ℕ → ℕ
-  on c = nth mem (a + (1 + 3 * c))
+  on c = nth mem (processorAt a c)
 
   processors-more : (c : ℕ) → rowProcessors a (suc c) mem ≡ rowProcessors a c mem ++ on c ∷ []
   unfolding rowProcessors rowReplicas
-  processors-more c = map-append (λ r. r .processor) (rowReplicas a c mem) (record { processor = on c; early = nth mem (a + (2 + 3 * c)); late = nth mem (a + (3 + 3 * c)) } ∷ [])
+  processors-more c = map-append (λ r. r .processor) (rowReplicas a c mem) (record { processor = on c; early = nth mem (earlyAt a c); late = nth mem (lateAt a c) } ∷ [])
 
   -- Of processors that do not descend each is at least the one before.
   ascends : (w c : ℕ) → descends (rowProcessors a w mem) ≡ false → suc c < w → on c ≤ on (suc c)
@@ -105,11 +105,11 @@ module _ (a : ℕ) (mem : List ℕ) where
   rising-first = record { apart = distinct-last [] (on 0) refl (λ i. i); most = λ p. ⊎-elim (λ e. omega arith) absurd }
 
   -- The processor of the next replica.
-  on-next : (c : ℕ) → nth mem (a + (4 + 3 * c)) ≡ on (suc c)
+  on-next : (c : ℕ) → nth mem (replicaEnd a c) ≡ on (suc c)
   on-next c = let e : 4 + 3 * c ≡ 1 + 3 * suc c = omega arith in rw e
 
   module _ (c : ℕ) (l : c + 1 < nth mem 3 + 1) where
-    rising-next : descends (processorsOf (lineIn a mem)) ≡ false → (on c ≡ nth mem (a + (4 + 3 * c)) → ⊥) → Rising c → Rising (c + 1)
+    rising-next : descends (processorsOf (lineIn a mem)) ≡ false → (on c ≡ nth mem (replicaEnd a c) → ⊥) → Rising c → Rising (c + 1)
     unfolding rowProcessors
     rising-next h n r =
         let up = ascends (nth mem 3 + 1) c h (omega arith) in
@@ -123,7 +123,7 @@ module _ (a : ℕ) (mem : List ℕ) where
         rw (add-one c) f
 
     -- Two equal neighbours.
-    rising-twice : on c ≡ nth mem (a + (4 + 3 * c)) → true ≡ not (distinct (processorsOf (lineIn a mem)))
+    rising-twice : on c ≡ nth mem (replicaEnd a c) → true ≡ not (distinct (processorsOf (lineIn a mem)))
     unfolding rowProcessors
     rising-twice e = by (distinct (rowProcessors a (nth mem 3 + 1) mem)) refl
       where
@@ -143,7 +143,7 @@ module _ (a : ℕ) (mem : List ℕ) where
 
   -- The cells of the line's replicas.
   module _ (cells : List ℕ) (on-of : (c : ℕ) → c < nth mem 3 + 1 → nth cells (3 * c) ≡ on c) (up : descends (processorsOf (lineIn a mem)) ≡ false) where
-    next-of : (c : ℕ) → c + 1 < nth mem 3 + 1 → nth cells (3 * c + 3) ≡ nth mem (a + (4 + 3 * c))
+    next-of : (c : ℕ) → c + 1 < nth mem 3 + 1 → nth cells (3 * c + 3) ≡ nth mem (replicaEnd a c)
     next-of c l = let e : 3 * c + 3 ≡ 3 * suc c = omega arith in ap (nth cells) e ∙ on-of (suc c) (omega arith) ∙ sym (on-next c)
 
     rising-to : (c : ℕ) → c < nth mem 3 + 1 → twins c cells ≡ false → Rising c
@@ -260,10 +260,10 @@ module _ {rooms : ℕ} {mem : List ℕ} (h : PlanHeld rooms mem) where
         let s = sizes (h .standing .job) in
         omega (arith, part-length lines (k * 25 + 1) (3 * (nth mem 3 + 1)) (omega (arith, lines-length, s .losses-most)))
 
-    cells-on : (c : ℕ) → c < nth mem 3 + 1 → nth (cells k) (3 * c) ≡ nth mem (rowAt rooms k + (1 + 3 * c))
+    cells-on : (c : ℕ) → c < nth mem 3 + 1 → nth (cells k) (3 * c) ≡ nth mem (processorAt (rowAt rooms k) c)
     cells-on c g =
         let s = sizes (h .standing .job) in
-        let e : 289 * rooms + (k * 25 + 1 + 3 * c) ≡ rowAt rooms k + (1 + 3 * c) = omega arith in
+        let e : 289 * rooms + (k * 25 + 1 + 3 * c) ≡ processorAt (rowAt rooms k) c = omega arith in
         part-nth lines (k * 25 + 1) (3 * (nth mem 3 + 1)) (3 * c) (omega arith) ∙ lines-nth (k * 25 + 1 + 3 * c) (omega (arith, s .losses-most)) ∙ ap (nth mem) e
 
     twice-here : twice (cells k) ≡ not (distinct (processorsOf (lineIn (rowAt rooms k) mem)))

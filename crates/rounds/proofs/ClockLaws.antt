@@ -12,7 +12,7 @@ use lib.Seq.{getD-set-same, getD-set-other}
 use Rattle.definitions.specs.Lists.{if_then_else_, nth}
 use Rattle.definitions.specs.Job.{Job}
 use Rattle.definitions.specs.Times.{tick, Outcome, ready}
-use Rattle.heads.specs.Layout.{rowAt}
+use Rattle.heads.specs.Layout.{rowAt, processorAt, earlyAt, lateAt}
 use Rattle.jobs.specs.Held.{jobIn}
 use Rattle.plans.specs.Lines.{rowOutcomes, placedIn, Standing}
 use Rattle.rounds.specs.Schedule.{ShortTo}
@@ -39,15 +39,15 @@ clocks-first clocks a mem es ls s = s
 
 -- One replica more.
 pub clocks-next : {a : ℕ} {mem : List ℕ} → LineTimed a mem → (clocks next : Clocks) (c : ℕ) → c < nth mem 3 + 1
-    → next .early ≡ (if ltb (nth mem (a + (1 + 3 * c))) 16 then set (clocks .early) (nth mem (a + (1 + 3 * c))) (nth mem (a + (2 + 3 * c))) else clocks .early)
-    → next .late ≡ (if ltb (nth mem (a + (1 + 3 * c))) 16 then set (clocks .late) (nth mem (a + (1 + 3 * c))) (nth mem (a + (3 + 3 * c))) else clocks .late)
+    → next .early ≡ (if ltb (nth mem (processorAt a c)) 16 then set (clocks .early) (nth mem (processorAt a c)) (nth mem (earlyAt a c)) else clocks .early)
+    → next .late ≡ (if ltb (nth mem (processorAt a c)) 16 then set (clocks .late) (nth mem (processorAt a c)) (nth mem (lateAt a c)) else clocks .late)
     → (es ls : List Outcome) → ClocksHeld clocks (jobIn mem) (rowOutcomes false a c mem ++ es) (rowOutcomes true a c mem ++ ls)
     → ClocksHeld next (jobIn mem) (rowOutcomes false a (c + 1) mem ++ es) (rowOutcomes true a (c + 1) mem ++ ls)
 unfolding rowOutcomes
 clocks-next {a} {mem} h clocks next c g e₀ f₀ es ls s =
-    let p = nth mem (a + (1 + 3 * c)) in
-    let x = nth mem (a + (2 + 3 * c)) in
-    let y = nth mem (a + (3 + 3 * c)) in
+    let p = nth mem (processorAt a c) in
+    let x = nth mem (earlyAt a c) in
+    let y = nth mem (lateAt a c) in
     let b = h .row .processor-of c g in
     let m = sizes (h .job .1) .processors-most in
     let (n, o) = h .ticks c g in

@@ -20,7 +20,7 @@ use Rattle.definitions.specs.Planner.{tickOf, Waiting, freeTasks, ranked, scale
 use Rattle.definitions.proofs.Lists.{both, in-map, in-keep, map-same, map-keep, in-append, append-left, append-right, in-below, all-in}
 use Rattle.definitions.proofs.Tasks.{copyOf, in-incoming}
 use Rattle.definitions.proofs.Placing.{placed-count}
-use Rattle.heads.specs.Layout.{memorySize, jobSize, levelAt, lineAt, blockedAt, priorityAt, rowAt, farAt}
+use Rattle.heads.specs.Layout.{memorySize, jobSize, levelAt, lineAt, blockedAt, priorityAt, rowAt, farAt, processorAt, earlyAt, lateAt, timeAt, replicaEnd}
 use Rattle.jobs.specs.Held.{jobIn}
 use Rattle.ticks.specs.Cells.{neverCell, timeIn}
 use Rattle.plans.specs.Lines.{rowOutcomes, placedIn, rowReplicas, linesIn, rowOf, Standing}
@@ -45,7 +45,7 @@ use Rattle.lists.proofs.ListLaws.{all-same}
 
 -- Replica c of a line, as its cells say.
 abbrev pub replicaAt : ℕ → ℕ → List ℕ → Replica
-replicaAt a c mem = record { processor = nth mem (a + (1 + 3 * c)); early = nth mem (a + (2 + 3 * c)); late = nth mem (a + (3 + 3 * c)) }
+replicaAt a c mem = record { processor = nth mem (processorAt a c); early = nth mem (earlyAt a c); late = nth mem (lateAt a c) }
 
 pub in-replicas : (a n c : ℕ) (mem : List ℕ) → c < n → In (replicaAt a c mem) (rowReplicas a n mem)
 unfolding rowReplicas
@@ -71,7 +71,7 @@ outcomes-row late a (suc c) mem =
     rw (back, outcomes-row late a c mem) (by late)
   where
     by : (late : Bool)
-        → _≡_ {A = List Outcome} (record { task = nth mem a; processor = nth mem (a + (1 + 3 * c)); time = timeIn (nth mem (a + ((if late then 3 else 2) + 3 * c))) }
+        → _≡_ {A = List Outcome} (record { task = nth mem a; processor = nth mem (processorAt a c); time = timeIn (nth mem (timeAt late a c)) }
         ∷ reverse (map (outcomeOf late (nth mem a)) (rowReplicas a c mem)))
         (outcomeOf late (nth mem a) (replicaAt a c mem) ∷ reverse (map (outcomeOf late (nth mem a)) (rowReplicas a c mem)))
     by true = refl
@@ -86,12 +86,12 @@ AllCome b ds = (d : Outcome) → In d ds → Comes b (d .time)
 time-back : (x b : ℕ) → x ≤ b → b < neverCell → Comes b (timeIn x)
 time-back x b h g = (x, time-tick x (λ e. omega arith), h)
 
-row-come : (late : Bool) (a c b : ℕ) (mem : List ℕ) → b < neverCell → ((i : ℕ) → i < c → nth mem (a + ((if late then 3 else 2) + 3 * i)) ≤ b) → AllCome b (rowOutcomes late a c mem)
+row-come : (late : Bool) (a c b : ℕ) (mem : List ℕ) → b < neverCell → ((i : ℕ) → i < c → nth mem (timeAt late a i) ≤ b) → AllCome b (rowOutcomes late a c mem)
 unfolding rowOutcomes
-row-come late a (suc c) b mem g h d (inl e) = rw (← e) (time-back (nth mem (a + ((if late then 3 else 2) + 3 * c))) b (h c (omega arith)) g)
+row-come late a (suc c) b mem g h d (inl e) = rw (← e) (time-back (nth mem (timeAt late a c)) b (h c (omega arith)) g)
 row-come late a (suc c) b mem g h d (inr i) = row-come late a c b mem g (λ i l. h i (omega arith)) d i
 
-pub placed-come : (rooms : ℕ) (late : Bool) (w k b : ℕ) (mem : List ℕ) → b < neverCell → ((i c : ℕ) → i < k → c < w → nth mem (rowAt rooms i + ((if late then 3 else 2) + 3 * c)) ≤ b)
+pub placed-come : (rooms : ℕ) (late : Bool) (w k b : ℕ) (mem : List ℕ) → b < neverCell → ((i c : ℕ) → i < k → c < w → nth mem (timeAt late (rowAt rooms i) c) ≤ b)
     → AllCome b (placedIn rooms late w k mem)
 unfolding placedIn
 placed-come rooms late w (suc k) b mem g h d i =
@@ -112,7 +112,7 @@ unfolding rowOutcomes
 row-length late a zero mem = refl
 row-length late a (suc c) mem = ap suc (row-length late a c mem)
 
-pub row-on : (late : Bool) (a c m : ℕ) (mem : List ℕ) → ((i : ℕ) → i < c → nth mem (a + (1 + 3 * i)) < m) → (d : Outcome) → In d (rowOutcomes late a c mem) → d .processor < m
+pub row-on : (late : Bool) (a c m : ℕ) (mem : List ℕ) → ((i : ℕ) → i < c → nth mem (processorAt a i) < m) → (d : Outcome) → In d (rowOutcomes late a c mem) → d .processor < m
 unfolding rowOutcomes
 row-on late a (suc c) m mem h d (inl e) = rw (← e) (h c (omega arith))
 row-on late a (suc c) m mem h d (inr i) = row-on late a c m mem (λ i l. h i (omega arith)) d i
@@ -130,7 +130,7 @@ module _ {rooms n k : ℕ} {mem : List ℕ} (s : Standing rooms n mem) (l : k �
   pub short-most : k * lineTicks ≤ lastShort
   short-most = let w = sizes (s .job) in let c = s .count in omega arith
 
-  pub cells-most : (late : Bool) (i c : ℕ) → i < k → c < nth mem 3 + 1 → nth mem (rowAt rooms i + ((if late then 3 else 2) + 3 * c)) ≤ k * lineTicks
+  pub cells-most : (late : Bool) (i c : ℕ) → i < k → c < nth mem 3 + 1 → nth mem (timeAt late (rowAt rooms i) c) ≤ k * lineTicks
   cells-most true i c g m = h i c g m .1
   cells-most false i c g m = h i c g m .0
 
@@ -239,7 +239,7 @@ drawn-same {rooms} {k} {d} {e} z j r f s =
       ticks = λ i c g m.
           let n : c < nth d 3 + 1 = rw l at m in
           let (x, y) = s .ticks i c g n in
-          (rw (r .cell (rowAt rooms i + (2 + 3 * c)) (omega arith) (omega arith)) x, rw (r .cell (rowAt rooms i + (3 + 3 * c)) (omega arith) (omega arith)) y);
+          (rw (r .cell (earlyAt (rowAt rooms i) c) (omega arith) (omega arith)) x, rw (r .cell (lateAt (rowAt rooms i) c) (omega arith) (omega arith)) y);
       rest = rw (l, v, job-same w a, waiting-same w j, lines-same d e rooms (nth d 3 + 1) k few r, placed-same d e rooms false (nth d 3 + 1) k few r, placed-same d e rooms true (nth d 3 + 1) k few r) (s .rest);
     }
 
@@ -258,19 +258,19 @@ clocks-choice {rooms} {k} {d} {e} c s h =
 
 -- A line that is begun ----------------------------------------------------------------------------------------------
 
-pub wrote : (a c p early late : ℕ) (d : List ℕ) → a + (4 + 3 * c) ≤ length d
-    → Wrote a c p early late d (set (set (set d (a + (1 + 3 * c)) p) (a + (2 + 3 * c)) early) (a + (3 + 3 * c)) late)
+pub wrote : (a c p early late : ℕ) (d : List ℕ) → replicaEnd a c ≤ length d
+    → Wrote a c p early late d (set (set (set d (processorAt a c) p) (earlyAt a c) early) (lateAt a c) late)
 wrote a c p early late d h =
-    let one = set d (a + (1 + 3 * c)) p in
-    let two = set one (a + (2 + 3 * c)) early in
-    let x : length one ≡ length d = length-set d (a + (1 + 3 * c)) p in
-    let y : length two ≡ length one = length-set one (a + (2 + 3 * c)) early in
+    let one = set d (processorAt a c) p in
+    let two = set one (earlyAt a c) early in
+    let x : length one ≡ length d = length-set d (processorAt a c) p in
+    let y : length two ≡ length one = length-set one (earlyAt a c) early in
     record {
-      kept = kept-set (a + (3 + 3 * c)) late (kept-set (a + (2 + 3 * c)) early (kept-set (a + (1 + 3 * c)) p kept-all (omega arith) (omega arith)) (omega arith) (omega arith)) (omega arith) (omega arith);
-      processor = getD-set-other two (a + (3 + 3 * c)) (a + (1 + 3 * c)) late 0 (λ q. omega arith) ∙ getD-set-other one (a + (2 + 3 * c)) (a + (1 + 3 * c)) early 0 (λ q. omega arith)
-          ∙ getD-set-same d (a + (1 + 3 * c)) p 0 (omega arith);
-      early-finish = getD-set-other two (a + (3 + 3 * c)) (a + (2 + 3 * c)) late 0 (λ q. omega arith) ∙ getD-set-same one (a + (2 + 3 * c)) early 0 (omega arith);
-      late-finish = getD-set-same two (a + (3 + 3 * c)) late 0 (omega arith);
+      kept = kept-set (lateAt a c) late (kept-set (earlyAt a c) early (kept-set (processorAt a c) p kept-all (omega arith) (omega arith)) (omega arith) (omega arith)) (omega arith) (omega arith);
+      processor = getD-set-other two (lateAt a c) (processorAt a c) late 0 (λ q. omega arith) ∙ getD-set-other one (earlyAt a c) (processorAt a c) early 0 (λ q. omega arith)
+          ∙ getD-set-same d (processorAt a c) p 0 (omega arith);
+      early-finish = getD-set-other two (lateAt a c) (earlyAt a c) late 0 (λ q. omega arith) ∙ getD-set-same one (earlyAt a c) early 0 (omega arith);
+      late-finish = getD-set-same two (lateAt a c) late 0 (omega arith);
     }
 
 module _ {k t : ℕ} {d : List ℕ} where
@@ -289,7 +289,7 @@ module _ {k t : ℕ} {d : List ℕ} where
       let r : replicaAt a c e ≡ replicaOn rooms k d t p = rw (f .processor, f .early-finish, f .late-finish, ← early, ← late) in
       record {
         kept = kept-then (b .kept) (kept-wider (rowAt rooms k) (farAt rooms) (f .kept) (omega arith) (omega arith));
-        replicas = rw (n, replicas-same mem e a c (same-before a (a + (1 + 3 * c)) (f .kept) (omega arith)), r, b .replicas) (sym (map-append (replicaOn rooms k d t) ps (p ∷ [])));
+        replicas = rw (n, replicas-same mem e a c (same-before a (processorAt a c) (f .kept) (omega arith)), r, b .replicas) (sym (map-append (replicaOn rooms k d t) ps (p ∷ [])));
       }
 
 -- Processor by processor.
@@ -310,7 +310,7 @@ module _ {rooms k t : ℕ} {early late : List ℕ} {d : List ℕ} (o : Tried roo
       unfolding jobIn
       box-room = let w = sizes (o .drawn .standing .job) in omega (arith, chosen-room (jobIn d) early (nth d 3 + 1) p (w .enough) l f)
 
-      pub box-within : rowAt rooms k + (4 + 3 * c) ≤ length mem
+      pub box-within : replicaEnd (rowAt rooms k) c ≤ length mem
       box-within = omega (arith, few-tasks, box-room, b .kept .size, o .drawn .standing .job .size)
 
       pub take-box : {e : List ℕ} → Wrote (rowAt rooms k) c p (nth early p) (nth late p) mem e

@@ -13,7 +13,7 @@ use Rattle.definitions.specs.Times.{Time, tick, never, sooner, same, least, Out
 use Rattle.definitions.specs.Replay.{firstFinish, lowest, firstBox}
 use Rattle.definitions.proofs.Lists.{in-map, map-in, in-keep, keep-in}
 use Rattle.definitions.proofs.Guarantee.{time-same}
-use Rattle.heads.specs.Layout.{lineAt, rowAt}
+use Rattle.heads.specs.Layout.{lineAt, rowAt, processorAt, earlyAt}
 use Rattle.ticks.specs.Cells.{neverCell, timeIn}
 use Rattle.plans.specs.Lines.{rowOutcomes, rowOf, Standing}
 use Rattle.replicas.specs.Cells.{leastEarly, leastOn}
@@ -150,12 +150,12 @@ module _ (ds : List Outcome) (x p : ℕ) (f : FirstOf ds x p) (h : x ≤ neverCe
 
 module _ (rooms : ℕ) (mem : List ℕ) (r : RisingIn rooms mem) (i : ℕ) (h : i < nth mem 0) where
   -- A line's processors before a place are not higher than the one at it.
-  rising-row : (c : ℕ) → c < nth mem 3 + 1 → (d : Outcome) → In d (rowOutcomes false (rowAt rooms i) c mem) → d .processor ≤ nth mem (rowAt rooms i + (1 + 3 * c))
+  rising-row : (c : ℕ) → c < nth mem 3 + 1 → (d : Outcome) → In d (rowOutcomes false (rowAt rooms i) c mem) → d .processor ≤ nth mem (processorAt (rowAt rooms i) c)
   unfolding rowOutcomes
   rising-row (suc c) g d m =
-      let up : nth mem (rowAt rooms i + (1 + 3 * c)) ≤ nth mem (rowAt rooms i + (1 + 3 * suc c)) = rw (add-one c) at (r i c h (omega arith)) in
+      let up : nth mem (processorAt (rowAt rooms i) c) ≤ nth mem (rowAt rooms i + (1 + 3 * suc c)) = rw (add-one c) at (r i c h (omega arith)) in
       ⊎-elim
-      (λ e. let q : nth mem (rowAt rooms i + (1 + 3 * c)) ≡ d .processor = ap (λ (d : Outcome). d .processor) e in omega arith)
+      (λ e. let q : nth mem (processorAt (rowAt rooms i) c) ≡ d .processor = ap (λ (d : Outcome). d .processor) e in omega arith)
       (λ k. omega (arith, rising-row c (omega arith) d k))
       m
 
@@ -169,11 +169,11 @@ seen-none rooms mem t p = first-none p
 
 module _ {rooms : ℕ} {mem : List ℕ} (s : Standing rooms (nth mem 0) mem) (r : RisingIn rooms mem) (t : ℕ) (h : t < nth mem 0) where
   module _ (c x p : ℕ) (f : Seen rooms mem t c x p) (g : c < nth mem 3 + 1) (m : x ≤ neverCell) where
-    seen-sooner : nth mem (rowOf rooms t mem + (2 + 3 * c)) < x → Seen rooms mem t (c + 1) (nth mem (rowOf rooms t mem + (2 + 3 * c))) (nth mem (rowOf rooms t mem + (1 + 3 * c)))
+    seen-sooner : nth mem (earlyAt (rowOf rooms t mem) c) < x → Seen rooms mem t (c + 1) (nth mem (earlyAt (rowOf rooms t mem) c)) (nth mem (processorAt (rowOf rooms t mem) c))
     unfolding rowOutcomes
     seen-sooner l = rw (add-one c) (first-sooner _ x p f m _ _ _ l)
 
-    seen-stays : x ≤ nth mem (rowOf rooms t mem + (2 + 3 * c)) → nth mem (rowOf rooms t mem + (2 + 3 * c)) ≤ neverCell → Seen rooms mem t (c + 1) x p
+    seen-stays : x ≤ nth mem (earlyAt (rowOf rooms t mem) c) → nth mem (earlyAt (rowOf rooms t mem) c) ≤ neverCell → Seen rooms mem t (c + 1) x p
     unfolding rowOutcomes
     seen-stays l n =
         rw (add-one c)
@@ -200,8 +200,8 @@ module _ {rooms : ℕ} {mem : List ℕ} (s : Standing rooms (nth mem 0) mem) (r 
       }
 
   -- The cells of the task's replicas, and what is seen in them.
-  module _ (small : (i : ℕ) → nth mem i ≤ neverCell) (cells : List ℕ) (on : (c : ℕ) → c < nth mem 3 + 1 → nth cells (3 * c) ≡ nth mem (rowOf rooms t mem + (1 + 3 * c)))
-      (early : (c : ℕ) → c < nth mem 3 + 1 → nth cells (3 * c + 1) ≡ nth mem (rowOf rooms t mem + (2 + 3 * c))) where
+  module _ (small : (i : ℕ) → nth mem i ≤ neverCell) (cells : List ℕ) (on : (c : ℕ) → c < nth mem 3 + 1 → nth cells (3 * c) ≡ nth mem (processorAt (rowOf rooms t mem) c))
+      (early : (c : ℕ) → c < nth mem 3 + 1 → nth cells (3 * c + 1) ≡ nth mem (earlyAt (rowOf rooms t mem) c)) where
     seen-more : (c : ℕ) → c < nth mem 3 + 1 → Seen rooms mem t c (leastEarly c cells) (leastOn c cells) → leastEarly c cells ≤ neverCell
         → Seen rooms mem t (c + 1) (leastEarly (c + 1) cells) (leastOn (c + 1) cells) × (leastEarly (c + 1) cells ≤ neverCell)
     seen-more c l f m = by (ltb (nth cells (3 * c + 1)) (leastEarly c cells)) refl
@@ -211,11 +211,11 @@ module _ {rooms : ℕ} {mem : List ℕ} (s : Standing rooms (nth mem 0) mem) (r 
         by true e =
             let g = ltb-true _ _ e in
             let (p, q) = least-sooner cells c g in
-            rw (← p, ← q, early c l, on c l) (seen-sooner c _ _ f l m (rw (early c l) at g), small (rowOf rooms t mem + (2 + 3 * c)))
+            rw (← p, ← q, early c l, on c l) (seen-sooner c _ _ f l m (rw (early c l) at g), small (earlyAt (rowOf rooms t mem) c))
         by false e =
             let g = ltb-false _ _ e in
             let (p, q) = least-stays cells c g in
-            rw (← p, ← q) (seen-stays c _ _ f l m (rw (early c l) at g) (small (rowOf rooms t mem + (2 + 3 * c))), m)
+            rw (← p, ← q) (seen-stays c _ _ f l m (rw (early c l) at g) (small (earlyAt (rowOf rooms t mem) c)), m)
 
     seen-to : (c : ℕ) → c ≤ nth mem 3 + 1 → Seen rooms mem t c (leastEarly c cells) (leastOn c cells) × (leastEarly c cells ≤ neverCell)
     seen-to zero l = let (e, f) = least-none cells in rw (e, f) (seen-none rooms mem t 0, omega arith)

@@ -15,7 +15,7 @@ use Rattle.definitions.specs.Replay.{firstFinish, lowest, firstBox, roundEnd, r
 use Rattle.definitions.proofs.Lists.{in-append, in-map, in-keep, in-below, length-count}
 use Rattle.definitions.proofs.Decimal.{width-powers, width-monotone, length-decimal, length-none, length-numbers, length-line}
 use Rattle.definitions.proofs.Tasks.{in-task}
-use Rattle.heads.specs.Layout.{rowAt}
+use Rattle.heads.specs.Layout.{rowAt, processorAt}
 use Rattle.jobs.specs.Held.{jobIn}
 use Rattle.plans.specs.Lines.{rowOutcomes, placedIn, Standing}
 use Rattle.rounds.specs.Replaying.{outcomesIn}
@@ -96,12 +96,12 @@ module _ (ds : List Outcome) (h : (d : Outcome) → In d ds → d .processor ≤
 
 -- The replay in memory ------------------------------------------------------------------------------------------------
 
-row-on : (a c : ℕ) (mem : List ℕ) → ((i : ℕ) → i < c → nth mem (a + (1 + 3 * i)) ≤ 16) → (d : Outcome) → In d (rowOutcomes false a c mem) → d .processor ≤ 16
+row-on : (a c : ℕ) (mem : List ℕ) → ((i : ℕ) → i < c → nth mem (processorAt a i) ≤ 16) → (d : Outcome) → In d (rowOutcomes false a c mem) → d .processor ≤ 16
 unfolding rowOutcomes
 row-on a zero mem h d i = absurd i
 row-on a (suc c) mem h d i =
     ⊎-elim
-    (λ e. let q : nth mem (a + (1 + 3 * c)) ≡ d .processor = ap (λ (d : Outcome). d .processor) e in omega (arith, q, h c (omega arith)))
+    (λ e. let q : nth mem (processorAt a c) ≡ d .processor = ap (λ (d : Outcome). d .processor) e in omega (arith, q, h c (omega arith)))
     (λ k. row-on a c mem (λ n l. h n (omega arith)) d k)
     i
 

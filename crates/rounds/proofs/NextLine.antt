@@ -20,7 +20,7 @@ use Rattle.definitions.specs.Planner.{tickOf, largestDelay, scale, topLevel, tr
 use Rattle.definitions.proofs.Lists.{both, both-true, in-map, in-keep, map-same, map-keep, in-below}
 use Rattle.definitions.proofs.Tasks.{in-incoming}
 use Rattle.definitions.proofs.Chosen.{chosen-count, chosen-below, chosen-distinct}
-use Rattle.heads.specs.Layout.{memorySize, jobSize, inHeadAt, inNextAt, levelAt, lineAt, blockedAt, priorityAt, rowAt, farAt}
+use Rattle.heads.specs.Layout.{memorySize, jobSize, inHeadAt, inNextAt, levelAt, lineAt, blockedAt, priorityAt, rowAt, farAt, processorAt, earlyAt, lateAt}
 use Rattle.jobs.specs.Held.{jobIn}
 use Rattle.ticks.specs.Cells.{timeIn}
 use Rattle.plans.specs.Lines.{rowOutcomes, placedIn, rowReplicas, linesIn, RowHeld, Standing}
@@ -44,7 +44,7 @@ use Rattle.rounds.proofs.Drawing.{free-ranked, replicaAt, in-replicas, 
 row-replicas : (d e : List ℕ) (a c : ℕ) → ((i : ℕ) → a < i → nth e i ≡ nth d i) → rowReplicas a c e ≡ rowReplicas a c d
 unfolding rowReplicas
 row-replicas d e a zero h = refl
-row-replicas d e a (suc c) h = rw (h (a + (1 + 3 * c)) (omega arith), h (a + (2 + 3 * c)) (omega arith), h (a + (3 + 3 * c)) (omega arith), row-replicas d e a c h)
+row-replicas d e a (suc c) h = rw (h (processorAt a c) (omega arith), h (earlyAt a c) (omega arith), h (lateAt a c) (omega arith), row-replicas d e a c h)
 
 and-true : (b : Bool) → (b && true) ≡ b
 and-true true = refl
@@ -169,21 +169,21 @@ module _ {rooms k : ℕ} {d : List ℕ} (s : Drawn rooms k d) (h : k < nth d 0) 
         let (p, i, q) = in-map (replicaOn rooms k d t) (replicaAt (rowAt rooms k) c e) (boxesFor rooms k t d) (rw (← x .replicas) (in-replicas (rowAt rooms k) (nth d 3 + 1) c e l)) in
         (p, box-below p i, q)
 
-    new-box : (c : ℕ) → c < nth d 3 + 1 → nth e (rowAt rooms k + (1 + 3 * c)) < nth d 1
-    new-box c l = let (p, m, q) = new-cells c l in let f : p ≡ nth e (rowAt rooms k + (1 + 3 * c)) = ap (λ r. r .processor) q in omega arith
+    new-box : (c : ℕ) → c < nth d 3 + 1 → nth e (processorAt (rowAt rooms k) c) < nth d 1
+    new-box c l = let (p, m, q) = new-cells c l in let f : p ≡ nth e (processorAt (rowAt rooms k) c) = ap (λ r. r .processor) q in omega arith
 
-    new-early : (c : ℕ) → c < nth d 3 + 1 → nth e (rowAt rooms k + (2 + 3 * c)) ≤ k * lineTicks + lineTicks
+    new-early : (c : ℕ) → c < nth d 3 + 1 → nth e (earlyAt (rowAt rooms k) c) ≤ k * lineTicks + lineTicks
     unfolding finishOn
     new-early c l =
         let (p, m, q) = new-cells c l in
-        let f : tickOf (finishOn rooms false k d t p) ≡ nth e (rowAt rooms k + (2 + 3 * c)) = ap (λ r. r .early) q in
+        let f : tickOf (finishOn rooms false k d t p) ≡ nth e (earlyAt (rowAt rooms k) c) = ap (λ r. r .early) q in
         rw (← f) (tick-most (finish-comes s t p fed low m false))
 
-    new-late : (c : ℕ) → c < nth d 3 + 1 → nth e (rowAt rooms k + (3 + 3 * c)) ≤ k * lineTicks + lineTicks
+    new-late : (c : ℕ) → c < nth d 3 + 1 → nth e (lateAt (rowAt rooms k) c) ≤ k * lineTicks + lineTicks
     unfolding finishOn
     new-late c l =
         let (p, m, q) = new-cells c l in
-        let f : tickOf (finishOn rooms true k d t p) ≡ nth e (rowAt rooms k + (3 + 3 * c)) = ap (λ r. r .late) q in
+        let f : tickOf (finishOn rooms true k d t p) ≡ nth e (lateAt (rowAt rooms k) c) = ap (λ r. r .late) q in
         rw (← f) (tick-most (finish-comes s t p fed low m true))
 
     new-row : RowHeld (rowAt rooms k) e
@@ -316,9 +316,9 @@ module _ {rooms k : ℕ} {d : List ℕ} (s : Drawn rooms k d) (h : k < nth d 0) 
               let few : c < 8 = omega (arith, w .losses-most) in
               ⊎-elim (λ (q : i ≡ k). rw q (let x = new-early c n in let y = new-late c n in (omega arith, omega arith)))
               (λ q. let (x, y) = s .ticks i c q n in (
-                rw (old-rows .cell (rowAt rooms i + (2 + 3 * c)) (omega arith) (omega arith)) (most (nth d (rowAt rooms i + (2 + 3 * c))) x),
+                rw (old-rows .cell (earlyAt (rowAt rooms i) c) (omega arith) (omega arith)) (most (nth d (earlyAt (rowAt rooms i) c)) x),
                 rw
-                    (old-rows .cell (rowAt rooms i + (3 + 3 * c)) (omega arith) (omega arith)) (most (nth d (rowAt rooms i + (3 + 3 * c))) y),
+                    (old-rows .cell (lateAt (rowAt rooms i) c) (omega arith) (omega arith)) (most (nth d (lateAt (rowAt rooms i) c)) y),
               ))
               (last-or-before k i l);
           rest = rest-next;

@@ -13,7 +13,7 @@ use Rattle.definitions.specs.Times.{later, after, least, largest, Outcome, ofTa
 use Rattle.definitions.specs.Planner.{tickOf, largestDelay, scale, topLevel}
 use Rattle.definitions.proofs.Lists.{map-same, in-append, append-left, append-right, in-has, has-not}
 use Rattle.definitions.proofs.Tasks.{in-incoming}
-use Rattle.heads.specs.Layout.{lineAt, farAt, rowAt}
+use Rattle.heads.specs.Layout.{lineAt, farAt, rowAt, processorAt}
 use Rattle.jobs.specs.Held.{jobIn}
 use Rattle.rounds.specs.Schedule.{choiceOf, arrivalIn, dataIn, FedIn, topIn, FarFilled}
 use Rattle.plans.specs.Lines.{rowOutcomes, placedIn, rowOf, Standing}
@@ -189,12 +189,12 @@ module _ {rooms n : ℕ} {mem : List ℕ} (s : Standing rooms n mem) where
     unfolding start
     start-placed late p = rw (data-placed late p)
 
-    row-far : FarFilled rooms mem → (volume b c : ℕ) → ((i : ℕ) → i < c → nth mem (b + (1 + 3 * i)) < nth mem 1)
+    row-far : FarFilled rooms mem → (volume b c : ℕ) → ((i : ℕ) → i < c → nth mem (processorAt b i) < nth mem 1)
         → map (λ d. after (volume * nth mem (farAt rooms + d .processor)) (d .time)) (rowOutcomes false b c mem)
         ≡ map (λ d. after (volume * largestDelay (jobIn mem) (d .processor)) (d .time)) (rowOutcomes false b c mem)
     unfolding rowOutcomes
     row-far g volume b zero h = refl
-    row-far g volume b (suc c) h = rw (g (nth mem (b + (1 + 3 * c))) (h c (omega arith)), row-far g volume b c (λ i l. h i (omega arith)))
+    row-far g volume b (suc c) h = rw (g (nth mem (processorAt b c)) (h c (omega arith)), row-far g volume b c (λ i l. h i (omega arith)))
 
     pub top-placed : FarFilled rooms mem
         → topIn rooms t mem ≡ largest (map (λ e. least (map (λ d. after (e .volume * largestDelay (jobIn mem) (d .processor)) (d .time))

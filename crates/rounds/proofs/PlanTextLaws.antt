@@ -15,7 +15,7 @@ use Rattle.lists.proofs.Over.{length-over, over-then}
 use Rattle.text.specs.Told.{written, placeAfter}
 use Rattle.text.proofs.Writing.{front-whole}
 use Rattle.printing.proofs.WriteLaws.{few-counted}
-use Rattle.heads.specs.Layout.{rowAt}
+use Rattle.heads.specs.Layout.{rowAt, processorAt, earlyAt, lateAt}
 use Rattle.jobs.specs.Held.{jobIn}
 use Rattle.jobs.proofs.Held.{Sizes}
 use Rattle.plans.specs.Lines.{rowReplicas, linesIn}
@@ -34,11 +34,11 @@ take-next mem a n h =
     take-suc (drop a mem) n 0 (rw (length-drop a mem) (omega arith)) ∙ rw (getD-drop a mem n 0)
 
 -- A line's numbers stand in the cells of its row.
-row-numbers : (mem : List ℕ) (a w : ℕ) → a + (1 + 3 * w) ≤ length mem → nth mem a ∷ replicaNumbers (rowReplicas a w mem) ≡ take (1 + 3 * w) (drop a mem)
+row-numbers : (mem : List ℕ) (a w : ℕ) → processorAt a w ≤ length mem → nth mem a ∷ replicaNumbers (rowReplicas a w mem) ≡ take (1 + 3 * w) (drop a mem)
 unfolding rowReplicas replicaNumbers
 row-numbers mem a zero h = sym (rw (drop-cons mem a 0 (omega arith)))
 row-numbers mem a (suc w) h =
-    let r : Replica = record { processor = nth mem (a + (1 + 3 * w)); early = nth mem (a + (2 + 3 * w)); late = nth mem (a + (3 + 3 * w)) } in
+    let r : Replica = record { processor = nth mem (processorAt a w); early = nth mem (earlyAt a w); late = nth mem (lateAt a w) } in
     let n : 1 + 3 * suc w ≡ suc (3 + 3 * w) = omega arith in
     let x : 3 + 3 * w ≡ suc (2 + 3 * w) = omega arith in
     let y : 2 + 3 * w ≡ suc (1 + 3 * w) = omega arith in

@@ -14,7 +14,7 @@ use Rattle.definitions.specs.Job.{Edge, incoming, outgoing}
 use Rattle.definitions.specs.Planner.{tickOf, scale, topLevel}
 use Rattle.definitions.proofs.Lists.{both, both-true}
 use Rattle.definitions.proofs.Tasks.{in-incoming}
-use Rattle.heads.specs.Layout.{memorySize, outHeadAt, outNextAt, levelAt, lineAt, blockedAt, priorityAt, rowAt}
+use Rattle.heads.specs.Layout.{memorySize, outHeadAt, outNextAt, levelAt, lineAt, blockedAt, priorityAt, rowAt, earlyAt}
 use Rattle.orders.specs.Edges.{edgeIn}
 use Rattle.jobs.specs.Held.{edgeAt, jobIn, chain, JobHeld}
 use Rattle.rounds.specs.Schedule.{topIn, FedIn, FarFilled}
@@ -228,7 +228,7 @@ module _ {rooms n : ℕ} {d : List ℕ} (s : Drawn rooms n d) where
         released : FedIn rooms goes lowered
         released = fed-released lowered-kept goes (omega (arith, lowered-here, lowered-blocked goes release-below))
 
-        pub release-asks : ((i : ℕ) × Standing rooms i lowered × ((j c : ℕ) → j < i → c < nth lowered 3 + 1 → nth lowered (rowAt rooms j + (2 + 3 * c)) ≤ document01 .tick))
+        pub release-asks : ((i : ℕ) × Standing rooms i lowered × ((j c : ℕ) → j < i → c < nth lowered 3 + 1 → nth lowered (earlyAt (rowAt rooms j) c) ≤ document01 .tick))
             × (goes < nth lowered 0) × FedIn rooms goes lowered × FarFilled rooms lowered
         release-asks =
             let x = drawn-choice lowered-kept s (omega arith) (omega arith) in

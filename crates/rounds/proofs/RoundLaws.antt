@@ -17,7 +17,7 @@ use Rattle.definitions.specs.Replay.{replay}
 use Rattle.definitions.proofs.Lists.{in-append, nth-in}
 use Rattle.definitions.proofs.Facts.{LineFacts, Ordered}
 use Rattle.definitions.proofs.Doubled.{rising}
-use Rattle.heads.specs.Layout.{jobSize, lineAt, rowAt, farAt}
+use Rattle.heads.specs.Layout.{jobSize, lineAt, rowAt, farAt, processorAt}
 use Rattle.jobs.specs.Held.{jobIn, JobHeld}
 use Rattle.plans.specs.Lines.{rowOutcomes, placedIn, rowReplicas, linesIn, Standing}
 use Rattle.rounds.specs.Arrivals.{DelayTable}
@@ -71,14 +71,14 @@ module _ (w : ℕ) (mem : List ℕ) where
   boxes-length a (suc c) =
       rw (map-append (λ r. r .processor) (rowReplicas a c mem) (_ ∷ []), length-append (map (λ r. r .processor) (rowReplicas a c mem)) (_ ∷ []), boxes-length a c) (omega arith)
 
-  boxes-at : (a c i : ℕ) → i < c → nth (map (λ r. r .processor) (rowReplicas a c mem)) i ≡ nth mem (a + (1 + 3 * i))
+  boxes-at : (a c i : ℕ) → i < c → nth (map (λ r. r .processor) (rowReplicas a c mem)) i ≡ nth mem (processorAt a i)
   unfolding rowReplicas
   boxes-at a zero i h = absurd (omega arith)
   boxes-at a (suc c) i h =
       let ps = map (λ r. r .processor) (rowReplicas a c mem) in
       rw (map-append (λ r. r .processor) (rowReplicas a c mem) (_ ∷ []))
       (⊎-elim
-      (λ (e : i ≡ c). rw e (getD-at ps (nth mem (a + (1 + 3 * c))) [] 0 c (boxes-length a c)))
+      (λ (e : i ≡ c). rw e (getD-at ps (nth mem (processorAt a c)) [] 0 c (boxes-length a c)))
       (λ l. List·getD-append ps (_ ∷ []) 0 i (rw (boxes-length a c) l) ∙ boxes-at a c i l)
       (last-or-before c i h))
 

@@ -16,41 +16,41 @@ use Rattle.definitions.specs.Job.{runTime, delay}
 use Rattle.definitions.specs.Planner.{scaledRun, totalDelay}
 use Rattle.definitions.proofs.Lists.{length-count, in-below, sum-most}
 use Rattle.heads.specs.Layout.{jobSize}
-use Rattle.jobs.specs.Held.{jobIn, JobHeld}
+use Rattle.jobs.specs.Held.{numberAt, runAt, delayAt, jobIn, JobHeld}
 use Rattle.lists.proofs.Counting.{below-same, getD-below}
 use Rattle.jobs.proofs.Held.{tasks-in, processors-in, run-in, delay-in, Sizes, sizes, row-below}
 
 -- Rows --------------------------------------------------------------------------------------------------------
 
 -- The cells of row r end within the job.
-pub row-room : {rooms : ℕ} {mem : List ℕ} → Sizes rooms mem → (r : ℕ) → r < nth mem 0 + nth mem 1 → 4 + r * (nth mem 1 + 1) + 1 + nth mem 1 ≤ jobSize rooms
+pub row-room : {rooms : ℕ} {mem : List ℕ} → Sizes rooms mem → (r : ℕ) → r < nth mem 0 + nth mem 1 → numberAt mem r 0 + nth mem 1 ≤ jobSize rooms
 row-room {mem} s r h = omega (arith, row-below s r (nth mem 1 - 1) h (omega arith))
 
 module _ (mem : List ℕ) where
   -- The run times of task t, and the delays from processor p, are the cells of a row.
   pub run-cells : (t : ℕ) → t < nth mem 0
-      → map (runTime (jobIn mem) t) (below (jobIn mem .processors)) ≡ map (λ q. nth mem (4 + t * (nth mem 1 + 1) + 1 + q)) (below (nth mem 1))
+      → map (runTime (jobIn mem) t) (below (jobIn mem .processors)) ≡ map (λ q. nth mem (runAt mem t 0 + q)) (below (nth mem 1))
   run-cells t h =
       let a = 4 + t * (nth mem 1 + 1) in
       below-same (runTime (jobIn mem) t) (λ q. nth mem (a + 1 + q)) (processors-in mem)
       (λ q g. let e : a + (q + 1) ≡ a + 1 + q = omega arith in run-in mem t q h g ∙ ap (λ (x : ℕ). nth mem x) e)
 
   pub delay-cells : (p : ℕ) → p < nth mem 1
-      → map (delay (jobIn mem) p) (below (jobIn mem .processors)) ≡ map (λ q. nth mem (4 + (nth mem 0 + p) * (nth mem 1 + 1) + 1 + q)) (below (nth mem 1))
+      → map (delay (jobIn mem) p) (below (jobIn mem .processors)) ≡ map (λ q. nth mem (delayAt mem p 0 + q)) (below (nth mem 1))
   delay-cells p h =
       let a = 4 + (nth mem 0 + p) * (nth mem 1 + 1) in
       below-same (delay (jobIn mem) p) (λ q. nth mem (a + 1 + q)) (processors-in mem)
       (λ q g. let e : a + (q + 1) ≡ a + 1 + q = omega arith in delay-in mem p q h g ∙ ap (λ (x : ℕ). nth mem x) e)
 
   module _ {rooms : ℕ} (held : JobHeld rooms mem) where
-    pub run-most : (t q : ℕ) → t < nth mem 0 → q < nth mem 1 → nth mem (4 + t * (nth mem 1 + 1) + 1 + q) ≤ 1_000_000
+    pub run-most : (t q : ℕ) → t < nth mem 0 → q < nth mem 1 → nth mem (runAt mem t 0 + q) ≤ 1_000_000
     run-most t q h g =
-        let e : 4 + t * (nth mem 1 + 1) + (q + 1) ≡ 4 + t * (nth mem 1 + 1) + 1 + q = omega arith in
+        let e : runAt mem t q ≡ runAt mem t 0 + q = omega arith in
         rw (← e, ← run-in mem t q h g) (held .facts .run-most t q (rw (tasks-in mem) h) (rw (processors-in mem) g))
 
-    pub delay-most : (p q : ℕ) → p < nth mem 1 → q < nth mem 1 → nth mem (4 + (nth mem 0 + p) * (nth mem 1 + 1) + 1 + q) ≤ 255
+    pub delay-most : (p q : ℕ) → p < nth mem 1 → q < nth mem 1 → nth mem (delayAt mem p 0 + q) ≤ 255
     delay-most p q h g =
-        let e : 4 + (nth mem 0 + p) * (nth mem 1 + 1) + (q + 1) ≡ 4 + (nth mem 0 + p) * (nth mem 1 + 1) + 1 + q = omega arith in
+        let e : delayAt mem p q ≡ delayAt mem p 0 + q = omega arith in
         rw (← e, ← delay-in mem p q h g) (held .facts .delay-most p q (rw (processors-in mem) h) (rw (processors-in mem) g))
 
 -- Sums --------------------------------------------------------------------------------------------------------
@@ -78,26 +78,26 @@ part-cells mem a m h =
 
 -- The sum of the m cells behind the head of row r.
 abbrev pub rowSum : List ℕ → ℕ → ℕ
-rowSum mem r = sum (map (λ q. nth mem (4 + r * (nth mem 1 + 1) + 1 + q)) (below (nth mem 1)))
+rowSum mem r = sum (map (λ q. nth mem (numberAt mem r 0 + q)) (below (nth mem 1)))
 
 module _ {rooms : ℕ} (mem : List ℕ) (held : JobHeld rooms mem) where
   pub run-sum-most : (t : ℕ) → t < nth mem 0 → rowSum mem t ≤ 16_000_000
   run-sum-most t h =
       let s = sizes held in
-      omega (arith, sum-below (λ q. nth mem (4 + t * (nth mem 1 + 1) + 1 + q)) 1_000_000 (nth mem 1) (λ q g. run-most mem held t q h g))
+      omega (arith, sum-below (λ q. nth mem (runAt mem t 0 + q)) 1_000_000 (nth mem 1) (λ q g. run-most mem held t q h g))
 
   pub delay-sum-most : (p : ℕ) → p < nth mem 1 → rowSum mem (nth mem 0 + p) ≤ 4080
   delay-sum-most p h =
       let s = sizes held in
-      omega (arith, sum-below (λ q. nth mem (4 + (nth mem 0 + p) * (nth mem 1 + 1) + 1 + q)) 255 (nth mem 1) (λ q g. delay-most mem held p q h g))
+      omega (arith, sum-below (λ q. nth mem (delayAt mem p 0 + q)) 255 (nth mem 1) (λ q g. delay-most mem held p q h g))
 
   -- The sum of a part of the memory that is row r, in 64 bits, which hold it.
   pub row-in : (r x : ℕ) → r < nth mem 0 + nth mem 1 → rowSum mem r ≤ 16_000_000
-      → x ≡ sum (midOf (4 + r * (nth mem 1 + 1) + 1) (4 + r * (nth mem 1 + 1) + 1 + nth mem 1 - (4 + r * (nth mem 1 + 1) + 1)) mem) % 2 ^ 64
+      → x ≡ sum (midOf (numberAt mem r 0) (numberAt mem r 0 + nth mem 1 - (numberAt mem r 0)) mem) % 2 ^ 64
       → x ≡ rowSum mem r
   row-in r x h b t =
       let s = sizes held in
-      let a = 4 + r * (nth mem 1 + 1) + 1 in
+      let a = numberAt mem r 0 in
       let n : a + nth mem 1 - a ≡ nth mem 1 = omega arith in
       let c : sum (midOf a (a + nth mem 1 - a) mem) ≡ rowSum mem r = rw n (ap sum (part-cells mem a (nth mem 1) (omega (arith, row-room s r h, s .size)))) in
       omega (arith, t, c, b)

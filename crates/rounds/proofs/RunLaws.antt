@@ -21,8 +21,8 @@ use Rattle.definitions.specs.Claims.{Within}
 use Rattle.definitions.proofs.Lists.{map-same, map-in, in-keep, below-in}
 use Rattle.definitions.proofs.Tasks.{in-incoming, copyOf}
 use Rattle.definitions.proofs.Bounds.{weaker, PlacedWithin, trial-most}
-use Rattle.heads.specs.Layout.{jobSize, inHeadAt, inNextAt, lineAt, rowAt}
-use Rattle.jobs.specs.Held.{jobIn, JobHeld}
+use Rattle.heads.specs.Layout.{jobSize, inHeadAt, inNextAt, lineAt, rowAt, processorAt, earlyAt, lateAt}
+use Rattle.jobs.specs.Held.{runAt, jobIn, JobHeld}
 use Rattle.ticks.specs.Cells.{neverCell, timeIn, Small}
 use Rattle.plans.specs.Lines.{rowOutcomes, placedIn, rowReplicas, rowOf, Standing}
 use Rattle.rounds.specs.Schedule.{dataIn, lineTicks}
@@ -51,11 +51,11 @@ late-place c e = omega arith
 pub retimed-none : {rooms k n : ℕ} {d : List ℕ} → Retimed rooms k n d d
 retimed-none = record { outside = kept-all; row = λ i o h g. refl }
 
-pub retimed-set : {rooms k n : ℕ} {d e : List ℕ} (i c y : ℕ) → Retimed rooms k n d e → k ≤ i → i < n → c < 8 → Retimed rooms k n d (set e (rowAt rooms i + (2 + 3 * c)) y)
+pub retimed-set : {rooms k n : ℕ} {d e : List ℕ} (i c y : ℕ) → Retimed rooms k n d e → k ≤ i → i < n → c < 8 → Retimed rooms k n d (set e (earlyAt (rowAt rooms i) c) y)
 retimed-set {rooms} {k} {n} {d} {e} i c y r a b h =
     record {
-      outside = kept-set (rowAt rooms i + (2 + 3 * c)) y (r .outside) (omega arith) (omega arith);
-      row = λ m o g f. getD-set-other e (rowAt rooms i + (2 + 3 * c)) (rowAt rooms m + o) y 0 (λ q. let z : i ≡ m = omega arith in f (early-place c o (omega arith))) ∙ r .row m o g f;
+      outside = kept-set (earlyAt (rowAt rooms i) c) y (r .outside) (omega arith) (omega arith);
+      row = λ m o g f. getD-set-other e (earlyAt (rowAt rooms i) c) (rowAt rooms m + o) y 0 (λ q. let z : i ≡ m = omega arith in f (early-place c o (omega arith))) ∙ r .row m o g f;
     }
 
 pub retimed-then : {rooms k n m : ℕ} {d e f : List ℕ} → Retimed rooms 0 n d e → Retimed rooms k m e f → m ≤ n → Retimed rooms 0 n d f
@@ -72,10 +72,10 @@ module _ {rooms k n : ℕ} {d e : List ℕ} (z : Retimed rooms k n d e) where
   pub task-retimed : (i : ℕ) → nth e (rowAt rooms i) ≡ nth d (rowAt rooms i)
   task-retimed i = rw (add-zero (rowAt rooms i)) at (z .row i 0 (omega arith) (λ q. omega arith))
 
-  pub processor-retimed : (i c : ℕ) → c < 8 → nth e (rowAt rooms i + (1 + 3 * c)) ≡ nth d (rowAt rooms i + (1 + 3 * c))
+  pub processor-retimed : (i c : ℕ) → c < 8 → nth e (processorAt (rowAt rooms i) c) ≡ nth d (processorAt (rowAt rooms i) c)
   processor-retimed i c h = z .row i (1 + 3 * c) (omega arith) (processor-place c)
 
-  late-retimed : (i c : ℕ) → c < 8 → nth e (rowAt rooms i + (3 + 3 * c)) ≡ nth d (rowAt rooms i + (3 + 3 * c))
+  late-retimed : (i c : ℕ) → c < 8 → nth e (lateAt (rowAt rooms i) c) ≡ nth d (lateAt (rowAt rooms i) c)
   late-retimed i c h = z .row i (3 + 3 * c) (omega arith) (late-place c)
 
   module _ (s : JobHeld rooms d) where
@@ -90,7 +90,7 @@ module _ {rooms k n : ℕ} {d e : List ℕ} (z : Retimed rooms k n d e) where
         rw (cell-retimed (lineAt rooms + x .from) (omega arith)) (f x g)
 
   -- Lines whose early times are those of ticks still stand.
-  pub standing-retimed : Standing rooms (nth d 0) d → ((i c : ℕ) → i < nth d 0 → c < nth d 3 + 1 → Small (document01 .tick) (nth e (rowAt rooms i + (2 + 3 * c)))) → Standing rooms (nth e 0) e
+  pub standing-retimed : Standing rooms (nth d 0) d → ((i c : ℕ) → i < nth d 0 → c < nth d 3 + 1 → Small (document01 .tick) (nth e (earlyAt (rowAt rooms i) c))) → Standing rooms (nth e 0) e
   standing-retimed s early =
       let w = sizes (s .job) in
       let j : Same 0 (rowAt rooms 0) d e = same-before 0 (rowAt rooms 0) (z .outside) (omega arith) in
@@ -142,12 +142,12 @@ within-small : (b x : ℕ) → Within b (timeIn x) → Small b x
 within-small b x h = ⊎-elim inl (λ n. inr (rw (time-tick x n) at h)) (equal-or-not x neverCell)
 
 -- The early times of a line whose outcomes do not pass a bound.
-row-small : (j : Job) (b a c i : ℕ) (mem : List ℕ) → i < c → PlacedWithin j b (rowOutcomes false a c mem) → Small b (nth mem (a + (2 + 3 * i)))
+row-small : (j : Job) (b a c i : ℕ) (mem : List ℕ) → i < c → PlacedWithin j b (rowOutcomes false a c mem) → Small b (nth mem (earlyAt a i))
 unfolding rowOutcomes
 row-small j b a zero i mem h g = absurd (omega arith)
 row-small j b a (suc c) i mem h g =
     ⊎-elim
-    (λ (e : i ≡ c). rw e (within-small b (nth mem (a + (2 + 3 * c))) (g _ (inl refl) .1)))
+    (λ (e : i ≡ c). rw e (within-small b (nth mem (earlyAt a c)) (g _ (inl refl) .1)))
     (λ l. row-small j b a c i mem l (λ d m. g d (inr m)))
     (last-or-before c i h)
 
@@ -156,7 +156,7 @@ module _ {rooms : ℕ} (k c : ℕ) {cells mem : List ℕ} (r : Running rooms k c
   runner = nth mem (rowAt rooms k)
 
   abbrev box : ℕ
-  box = nth mem (rowAt rooms k + (1 + 3 * c))
+  box = nth mem (processorAt (rowAt rooms k) c)
 
   pub box-below : box < nth mem 1
   box-below = r .standing .row k a .processor-of c b
@@ -197,7 +197,7 @@ module _ {rooms : ℕ} (k c : ℕ) {cells mem : List ℕ} (r : Running rooms k c
     -- Its outcome y takes the place of its early tick and becomes its processor's ready time.
     module _ (y : ℕ) (n : (b : ℕ) → Small b x → Small b y) where
       abbrev mem′ : List ℕ
-      mem′ = set mem (rowAt rooms k + (2 + 3 * c)) y
+      mem′ = set mem (earlyAt (rowAt rooms k) c) y
 
       abbrev cells′ : List ℕ
       cells′ = set cells box y
@@ -215,15 +215,15 @@ module _ {rooms : ℕ} (k c : ℕ) {cells mem : List ℕ} (r : Running rooms k c
       unfolding ranIn rowOutcomes
       ran-next =
           let w = sizes (r .standing .job) in
-          let i : ℕ = rowAt rooms k + (2 + 3 * c) in
+          let i : ℕ = earlyAt (rowAt rooms k) c in
           let one : KeptOutside i (i + 1) mem mem′ = kept-set i y kept-all (omega arith) (omega arith) in
           rw (
             add-one c,
             task-retimed retimed k,
             processor-retimed retimed k c (omega arith),
-            getD-set-same mem (rowAt rooms k + (2 + 3 * c)) y 0 (omega arith),
+            getD-set-same mem (earlyAt (rowAt rooms k) c) y 0 (omega arith),
             cell-retimed retimed 3 (omega arith),
-            outcomes-same mem mem′ false (rowAt rooms k) c (same-before (rowAt rooms k) (rowAt rooms k + (1 + 3 * c)) one (omega arith)),
+            outcomes-same mem mem′ false (rowAt rooms k) c (same-before (rowAt rooms k) (processorAt (rowAt rooms k) c) one (omega arith)),
             placed-same mem mem′ rooms false (nth mem 3 + 1) k (omega arith) (same-before (rowAt rooms 0) (rowAt rooms k) one (omega arith)),
           )
 
@@ -236,7 +236,7 @@ module _ {rooms : ℕ} (k c : ℕ) {cells mem : List ℕ} (r : Running rooms k c
           let most : (k * 8 + c) * lineTicks ≤ (k * 8 + (c + 1)) * lineTicks = omega arith in
           record {
             standing = standing-retimed retimed (r .standing) λ i q h g.
-                set-cell (Small (document01 .tick)) mem (rowAt rooms k + (2 + 3 * c)) (rowAt rooms i + (2 + 3 * q)) y (omega arith)
+                set-cell (Small (document01 .tick)) mem (earlyAt (rowAt rooms k) c) (earlyAt (rowAt rooms i) q) y (omega arith)
                 (λ e. small-wider ((k * 8 + (c + 1)) * lineTicks) (document01 .tick) y (omega arith) small-here)
                 (λ e. r .standing .row i h .early-of q g);
             size = length-set cells box y ∙ r .size;
@@ -270,7 +270,7 @@ unfolding walked walk
 walked-append j ss placed [] cs = refl
 walked-append j ss placed (b ∷ bs) cs = walked-append j ss (outcome b (finish j least ss placed b) ∷ placed) bs cs
 
-copies-next : (rooms : ℕ) (k c : ℕ) (mem : List ℕ) → copiesIn rooms k (c + 1) mem ≡ copiesIn rooms k c mem ++ copyOf (jobIn mem) (nth mem (rowAt rooms k)) (nth mem (rowAt rooms k + (1 + 3 * c))) ∷ []
+copies-next : (rooms : ℕ) (k c : ℕ) (mem : List ℕ) → copiesIn rooms k (c + 1) mem ≡ copiesIn rooms k c mem ++ copyOf (jobIn mem) (nth mem (rowAt rooms k)) (nth mem (processorAt (rowAt rooms k) c)) ∷ []
 unfolding copiesIn rowReplicas
 copies-next rooms k c mem =
     let t = nth mem (rowAt rooms k) in
@@ -287,7 +287,7 @@ line-fed-short {rooms} k {cells} {d} r a f e i =
     feeding-line (r .standing) k (nth d (rowAt rooms k)) (omega arith) f false e i in
     let among : PlacedWithin (jobIn d) most (rowOutcomes false row (nth d 3 + 1) d) =
     rw (← own) (λ x m. r .within x (in-keep (λ x. eqb (x .task) (e .from)) x (placedIn rooms false (nth d 3 + 1) k d) m .0)) in
-    (f e i .0, λ c h. small-wider most lastShort (nth d (row + (2 + 3 * c))) (omega arith) (row-small (jobIn d) most row (nth d 3 + 1) c d h among))
+    (f e i .0, λ c h. small-wider most lastShort (nth d (earlyAt row c)) (omega arith) (row-small (jobIn d) most row (nth d 3 + 1) c d h among))
 
 -- c replicas of line k have run, from a memory d.
 pub record LineRuns (rooms k c : ℕ) (stops cells d e : List ℕ) : Type 0 where
@@ -303,8 +303,8 @@ line-first k stops r = record { running = r; retimed = retimed-none; outcomes = 
 pub record LineStep (rooms t p : ℕ) (cells d e : List ℕ) : Type 0 where
   pub processor : p < nth d 1
   pub below : p < 16
-  pub run-below : 4 + t * (nth d 1 + 1) + 1 + p < jobSize rooms
-  pub run-most : nth e (4 + t * (nth d 1 + 1) + 1 + p) ≤ 1000000
+  pub run-below : runAt d t 0 + p < jobSize rooms
+  pub run-most : nth e (runAt d t 0 + p) ≤ 1000000
   pub ready-small : Small 4294967295 (nth cells p)
 
 module _ {rooms : ℕ} (k c : ℕ) {stops cells d e : List ℕ} (l : LineRuns rooms k c stops cells d e) (s : Standing rooms (nth d 0) d) (a : k < nth d 0) (f : FedBefore rooms k d) where
@@ -332,7 +332,7 @@ module _ {rooms : ℕ} (k c : ℕ) {stops cells d e : List ℕ} (l : LineRuns ro
 
   module _ (b : c < nth d 3 + 1) where
     abbrev its : ℕ
-    its = nth e (rowAt rooms k + (1 + 3 * c))
+    its = nth e (processorAt (rowAt rooms k) c)
 
     abbrev run : ℕ
     run = 4 + nth d (rowAt rooms k) * (nth d 1 + 1) + 1 + its
@@ -367,7 +367,7 @@ module _ {rooms : ℕ} (k c : ℕ) {stops cells d e : List ℕ} (l : LineRuns ro
         → timeIn x ≡ after (nth e run) (later (timeIn (nth cells its)) (timeIn supplied))
         → timeIn y ≡ unlessStopped (timeIn (nth stops its)) (timeIn x)
         → ((b : ℕ) → Small b x → Small b y)
-        → LineRuns rooms k (c + 1) stops (set cells its y) d (set e (rowAt rooms k + (2 + 3 * c)) y)
+        → LineRuns rooms k (c + 1) stops (set cells its y) d (set e (earlyAt (rowAt rooms k) c) y)
     line-next supplied x y o p₀ q n =
         let w = sizes (s .job) in
         let g = line-below in
@@ -384,7 +384,7 @@ module _ {rooms : ℕ} (k c : ℕ) {stops cells d e : List ℕ} (l : LineRuns ro
               ran-next k c ran g u v x p y n
               ∙ rw (
                 copies-next rooms k c d,
-                walked-more (jobIn d) ss (placedIn rooms false (nth d 3 + 1) k d) (copiesIn rooms k c d) (copyOf (jobIn d) (nth d (rowAt rooms k)) (nth d (rowAt rooms k + (1 + 3 * c)))),
+                walked-more (jobIn d) ss (placedIn rooms false (nth d 3 + 1) k d) (copiesIn rooms k c d) (copyOf (jobIn d) (nth d (rowAt rooms k)) (nth d (processorAt (rowAt rooms k) c))),
                 ← l .outcomes ss h,
                 ← j,
                 ← task-retimed (l .retimed) k,

@@ -13,10 +13,10 @@ use lib.Seq.{getD-set-same, getD-set-other}
 use Rattle.definitions.specs.Lists.{if_then_else_, nth}
 use Rattle.definitions.specs.Job.{delay}
 use Rattle.definitions.specs.Times.{tick, later, sooner, after, least, largest}
-use Rattle.heads.specs.Layout.{jobSize}
+use Rattle.heads.specs.Layout.{jobSize, processorAt, earlyAt, lateAt}
 use Rattle.ticks.specs.Lanes.{lanes, arrives, shortNever, widenedTick}
 use Rattle.rounds.specs.Arrivals.{shortIn, lastShort, DelayTable}
-use Rattle.jobs.specs.Held.{jobIn, JobHeld}
+use Rattle.jobs.specs.Held.{delayAt, jobIn, JobHeld}
 use Rattle.ticks.specs.Cells.{neverCell, timeIn, Small}
 use Rattle.plans.specs.Lines.{rowOutcomes}
 use Rattle.lists.proofs.Counting.{equal-or-not, last-or-before}
@@ -88,7 +88,7 @@ DelayCell mem i z = (z ≤ 255) × ((q p : ℕ) → q < nth mem 1 → p < nth me
 
 module _ {mem : List ℕ} where
   pub delay-stored : {rooms : ℕ} → JobHeld rooms mem → (i : ℕ) → i / 16 < nth mem 1 → i % 16 < nth mem 1
-      → DelayCell mem i (nth mem (4 + (nth mem 0 + i / 16) * (nth mem 1 + 1) + (i % 16 + 1)))
+      → DelayCell mem i (nth mem (delayAt mem (i / 16) (i % 16)))
   delay-stored j i h g =
       let s = sizes j in
       (delay-cell j (i / 16) (i % 16) h g, λ q p a b e. let u : q ≡ i / 16 = omega arith in let v : p ≡ i % 16 = omega arith in rw (u, v) (sym (delay-in mem (i / 16) (i % 16) h g)))
@@ -163,20 +163,20 @@ module _ (delays : List ℕ) (q volume x : ℕ) (most : (i : ℕ) → nth delays
 pub chosen-more : (late : Bool) (ticks : ℕ → ℕ) (a c : ℕ) (mem : List ℕ)
     → chosenBy late ticks a (c + 1) mem
     ≡ (if late
-    then later (after (ticks (nth mem (a + (1 + 3 * c)))) (timeIn (nth mem (a + (3 + 3 * c))))) (chosenBy late ticks a c mem)
-    else sooner (after (ticks (nth mem (a + (1 + 3 * c)))) (timeIn (nth mem (a + (2 + 3 * c))))) (chosenBy late ticks a c mem))
+    then later (after (ticks (nth mem (processorAt a c))) (timeIn (nth mem (lateAt a c)))) (chosenBy late ticks a c mem)
+    else sooner (after (ticks (nth mem (processorAt a c))) (timeIn (nth mem (earlyAt a c)))) (chosenBy late ticks a c mem))
 unfolding chosenBy rowOutcomes least largest
 chosen-more true ticks a c mem = rw (add-one c)
 chosen-more false ticks a c mem = rw (add-one c)
 
 module _ (ticks : ℕ → ℕ) (a c : ℕ) (mem : List ℕ) (z : ℕ) (h : shortIn z ≡ chosenBy false ticks a c mem) where
   -- It never finishes.
-  pub offered-never : nth mem (a + (2 + 3 * c)) ≡ neverCell → shortIn z ≡ chosenBy false ticks a (c + 1) mem
+  pub offered-never : nth mem (earlyAt a c) ≡ neverCell → shortIn z ≡ chosenBy false ticks a (c + 1) mem
   offered-never e = h ∙ sym (chosen-more false ticks a c mem ∙ rw e)
 
   -- Its message takes n ticks.
-  pub offered-next : (n : ℕ) → nth mem (a + (2 + 3 * c)) ≤ lastShort → n ≤ 1044225 → n ≡ ticks (nth mem (a + (1 + 3 * c)))
-      → shortIn (min z (nth mem (a + (2 + 3 * c)) + n)) ≡ chosenBy false ticks a (c + 1) mem
+  pub offered-next : (n : ℕ) → nth mem (earlyAt a c) ≤ lastShort → n ≤ 1044225 → n ≡ ticks (nth mem (processorAt a c))
+      → shortIn (min z (nth mem (earlyAt a c) + n)) ≡ chosenBy false ticks a (c + 1) mem
   offered-next n s m e =
-      let x = nth mem (a + (2 + 3 * c)) in
+      let x = nth mem (earlyAt a c) in
       rw (chosen-more false ticks a c mem, ← h, ← e, time-tick x (λ q. omega arith)) (short-sooner z (x + n) (omega arith))

@@ -14,7 +14,7 @@ use Rattle.definitions.proofs.Lists.{in-reverse}
 use Rattle.definitions.proofs.Tasks.{in-incoming}
 use Rattle.orders.specs.Edges.{edgeIn}
 use Rattle.heads.specs.Layout.{inHeadAt, inNextAt, lineAt, rowAt}
-use Rattle.jobs.specs.Held.{edgeAt, jobIn, chain, JobHeld}
+use Rattle.jobs.specs.Held.{runAt, delayAt, edgeAt, jobIn, chain, JobHeld}
 use Rattle.ticks.specs.Cells.{neverCell, timeIn, Small}
 use Rattle.plans.specs.Lines.{rowOutcomes, rowOf, RowHeld, Standing}
 use Rattle.rounds.specs.Schedule.{choiceOf, arrivalIn, FedIn}
@@ -120,11 +120,11 @@ pub message-most : (volume n : ℕ) → volume ≤ 4095 → n ≤ 255 → volume
 message-most volume n h g = mul-le-mul {n₁ = volume} {m₁ = n} {n₂ = 4095} {m₂ = 255} h g
 
 module _ {rooms : ℕ} {mem : List ℕ} (h : JobHeld rooms mem) where
-  pub delay-cell : (p q : ℕ) → p < nth mem 1 → q < nth mem 1 → nth mem (4 + (nth mem 0 + p) * (nth mem 1 + 1) + (q + 1)) ≤ 255
+  pub delay-cell : (p q : ℕ) → p < nth mem 1 → q < nth mem 1 → nth mem (delayAt mem p q) ≤ 255
   delay-cell p q a b =
       rw (delay-in mem p q a b) at (h .facts .delay-most p q (rw (← processors-in mem) at a) (rw (← processors-in mem) at b))
 
-  pub run-cell : (t p : ℕ) → t < nth mem 0 → p < nth mem 1 → nth mem (4 + t * (nth mem 1 + 1) + (p + 1)) ≤ 1000000
+  pub run-cell : (t p : ℕ) → t < nth mem 0 → p < nth mem 1 → nth mem (runAt mem t p) ≤ 1000000
   run-cell t p a b =
       rw (run-in mem t p a b) at (h .facts .run-most t p (rw (← tasks-in mem) at a) (rw (← processors-in mem) at b))
 

@@ -12,7 +12,7 @@ use Rattle.definitions.specs.Job.{Edge}
 use Rattle.definitions.specs.Times.{Time, tick, later, sooner, least}
 use Rattle.definitions.specs.Planner.{tickOf, scale}
 use Rattle.definitions.proofs.Bounds.{largestDelay-most}
-use Rattle.heads.specs.Layout.{lineAt, rowAt, farAt}
+use Rattle.heads.specs.Layout.{lineAt, rowAt, farAt, processorAt, earlyAt}
 use Rattle.jobs.specs.Held.{jobIn, JobHeld}
 use Rattle.ticks.specs.Cells.{timeIn}
 use Rattle.plans.specs.Lines.{rowOutcomes, rowOf, Standing}
@@ -26,23 +26,23 @@ use Rattle.rounds.proofs.Placed.{line-in}
 -- A line's data -----------------------------------------------------------------------------------------------------
 
 module _ {rooms a volume : ℕ} {mem : List ℕ} (h : JobHeld rooms mem) (s : Sends rooms a volume mem) (c : ℕ) (l : c < nth mem 3 + 1) where
-  pub sent-on : nth mem (a + (1 + 3 * c)) < 16
+  pub sent-on : nth mem (processorAt a c) < 16
   sent-on = omega (arith, s .row .processor-of c l, sizes h .processors-most)
 
   -- What the message to the farthest processor takes.
-  pub sent-little : volume * nth mem (farAt rooms + nth mem (a + (1 + 3 * c))) ≤ 1044225
+  pub sent-little : volume * nth mem (farAt rooms + nth mem (processorAt a c)) ≤ 1044225
   sent-little =
-      let p = nth mem (a + (1 + 3 * c)) in
+      let p = nth mem (processorAt a c) in
       let g = s .row .processor-of c l in
       let m : nth mem (farAt rooms + p) ≤ 255 = rw (s .far p g) (largestDelay-most document01 (jobIn mem) (h .facts) p (rw (processors-in mem) g)) in
       mul-le-mul {n₁ = volume} {m₁ = nth mem (farAt rooms + p)} {n₂ = 4095} {m₂ = 255} (s .little) m
 
   abbrev sentAt : ℕ
-  sentAt = nth mem (a + (2 + 3 * c)) + volume * nth mem (farAt rooms + nth mem (a + (1 + 3 * c)))
+  sentAt = nth mem (earlyAt a c) + volume * nth mem (farAt rooms + nth mem (processorAt a c))
 
   spread-cons : spreadIn rooms volume a (suc c) mem ≡ sooner (tick sentAt) (spreadIn rooms volume a c mem)
   unfolding spreadIn rowOutcomes least
-  spread-cons = rw (time-tick (nth mem (a + (2 + 3 * c))) (λ q. omega (arith, s .ticks c l)))
+  spread-cons = rw (time-tick (nth mem (earlyAt a c)) (λ q. omega (arith, s .ticks c l)))
 
   -- One replica more.
   pub spread-more : (x y r : ℕ) → y ≡ sentAt → tick x ≡ spreadIn rooms volume a c mem → r ≡ min y x → tick r ≡ spreadIn rooms volume a (c + 1) mem
@@ -50,7 +50,7 @@ module _ {rooms a volume : ℕ} {mem : List ℕ} (h : JobHeld rooms mem) (s : Se
 
 -- The first replica.
 pub spread-first : {rooms a volume : ℕ} {mem : List ℕ} → JobHeld rooms mem → Sends rooms a volume mem → (x : ℕ)
-    → x ≡ nth mem (a + (2 + 3 * 0)) + volume * nth mem (farAt rooms + nth mem (a + (1 + 3 * 0))) → tick x ≡ spreadIn rooms volume a 1 mem
+    → x ≡ nth mem (earlyAt a 0) + volume * nth mem (farAt rooms + nth mem (processorAt a 0)) → tick x ≡ spreadIn rooms volume a 1 mem
 unfolding spreadIn rowOutcomes least
 spread-first {a} {volume} {mem} h s x e = rw e (sym (spread-cons h s 0 (omega arith)))
 
@@ -61,7 +61,7 @@ abbrev pub spreads : ℕ → List ℕ → Edge → Time
 spreads rooms mem e = spreadIn rooms (e .volume) (rowOf rooms (e .from) mem) (nth mem 3 + 1) mem
 
 -- The line of a predecessor is one that the code may ask.
-pub feeds-sends : {rooms k : ℕ} {mem : List ℕ} {e : Edge} → Standing rooms k mem → ((i c : ℕ) → i < k → c < nth mem 3 + 1 → nth mem (rowAt rooms i + (2 + 3 * c)) ≤ document01 .tick)
+pub feeds-sends : {rooms k : ℕ} {mem : List ℕ} {e : Edge} → Standing rooms k mem → ((i c : ℕ) → i < k → c < nth mem 3 + 1 → nth mem (earlyAt (rowAt rooms i) c) ≤ document01 .tick)
     → FarFilled rooms mem → Feeds rooms e mem → Sends rooms (rowOf rooms (e .from) mem) (e .volume) mem
 feeds-sends {rooms} {k} {mem} {e} s t f d =
     let i = nth mem (lineAt rooms + e .from) - 1 in

@@ -9,8 +9,8 @@ use Rattle.definitions.specs.Lists.{if_then_else_, nth, In}
 use Rattle.definitions.specs.Limits.{document01}
 use Rattle.definitions.specs.Job.{Edge, runTime, delay, incoming}
 use Rattle.definitions.specs.Times.{Time, tick, never, later, after}
-use Rattle.heads.specs.Layout.{lineAt}
-use Rattle.jobs.specs.Held.{jobIn}
+use Rattle.heads.specs.Layout.{lineAt, earlyAt, lateAt}
+use Rattle.jobs.specs.Held.{runAt, jobIn}
 use Rattle.rounds.specs.Schedule.{arrivalIn, dataIn}
 use Rattle.ticks.specs.Cells.{Small}
 use Rattle.plans.specs.Lines.{rowOf}
@@ -36,11 +36,11 @@ pub record DelayTable (delays mem : List ℕ) : Type 0 where
 
 -- The early times of the line at a are short, or never.
 abbrev pub FirstShort : ℕ → List ℕ → Type 0
-FirstShort a mem = (c : ℕ) → c < nth mem 3 + 1 → Small lastShort (nth mem (a + (2 + 3 * c)))
+FirstShort a mem = (c : ℕ) → c < nth mem 3 + 1 → Small lastShort (nth mem (earlyAt a c))
 
 -- The early and the late ticks of the line at a are short.
 abbrev pub BothShort : ℕ → List ℕ → Type 0
-BothShort a mem = (c : ℕ) → c < nth mem 3 + 1 → (nth mem (a + (2 + 3 * c)) ≤ lastShort) × (nth mem (a + (3 + 3 * c)) ≤ lastShort)
+BothShort a mem = (c : ℕ) → c < nth mem 3 + 1 → (nth mem (earlyAt a c) ≤ lastShort) × (nth mem (lateAt a c) ≤ lastShort)
 
 -- Every predecessor of t has a line, with early times that are short or never.
 abbrev pub FirstFed : ℕ → ℕ → List ℕ → Type 0
@@ -77,7 +77,7 @@ pub record ShortClocks (clocks : Clocks) (mem : List ℕ) : Type 0 where
 
 -- The run times of t, and they are as short as a run is.
 pub record RunsOf (t : ℕ) (mem runs : List ℕ) : Type 0 where
-  pub run : (p : ℕ) → p < nth mem 1 → nth runs p ≡ nth mem (4 + t * (nth mem 1 + 1) + (p + 1))
+  pub run : (p : ℕ) → p < nth mem 1 → nth runs p ≡ nth mem (runAt mem t p)
   pub most : (p : ℕ) → p < nth mem 1 → nth runs p ≤ document01 .runTime
 
 -- The finishes of t on each processor, early and late, if they are ready at the clocks' ticks.

@@ -5,7 +5,7 @@ use mathlib.Core.Bool.{Bool, true, false}
 use Prim.Native.Nat.{ℕ, _+_, _*_, _<_}
 use Rattle.definitions.specs.Lists.{if_then_else_, nth, In}
 use Rattle.definitions.specs.Times.{Time}
-use Rattle.heads.specs.Layout.{rowAt}
+use Rattle.heads.specs.Layout.{rowAt, processorAt, timeAt}
 use Rattle.jobs.specs.Held.{jobIn}
 use Rattle.ticks.specs.Cells.{timeIn}
 use Rattle.plans.specs.Lines.{placedIn}
@@ -18,11 +18,11 @@ ClocksAfter rooms k mem clocks = ClocksHeld clocks (jobIn mem) (placedIn rooms f
 
 -- The early or late finish of replica c of line k by the equations, after the first k lines as they are written.
 abbrev pub finishIn : ℕ → Bool → ℕ → ℕ → List ℕ → Time
-finishIn rooms late k c mem = finishOn rooms late k mem (nth mem (rowAt rooms k)) (nth mem (rowAt rooms k + (1 + 3 * c)))
+finishIn rooms late k c mem = finishOn rooms late k mem (nth mem (rowAt rooms k)) (nth mem (processorAt (rowAt rooms k) c))
 
 -- The ticks of the first c replicas of line k are the equations'.
 abbrev pub AgreesTo : ℕ → ℕ → ℕ → List ℕ → Type 0
-AgreesTo rooms k c mem = (late : Bool) (i : ℕ) → i < c → finishIn rooms late k i mem ≡ timeIn (nth mem (rowAt rooms k + ((if late then 3 else 2) + 3 * i)))
+AgreesTo rooms k c mem = (late : Bool) (i : ℕ) → i < c → finishIn rooms late k i mem ≡ timeIn (nth mem (timeAt late (rowAt rooms k) i))
 
 -- All of line k are.
 abbrev pub LineAgrees : ℕ → ℕ → List ℕ → Type 0

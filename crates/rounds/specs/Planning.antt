@@ -14,7 +14,7 @@ use Rattle.definitions.specs.Times.{Time, tick, after, least, Outcome, ready, f
 use Rattle.definitions.specs.Planner.{tickOf, greatestOf, Waiting, waitingFrom, scale, topLevel, trial, chosen, place, planFor}
 use Rattle.rounds.specs.Walks.{edgeOf}
 use Rattle.definitions.proofs.Tasks.{copyOf}
-use Rattle.heads.specs.Layout.{outNextAt, levelAt, lineAt, blockedAt, priorityAt, rowAt, farAt}
+use Rattle.heads.specs.Layout.{outNextAt, levelAt, lineAt, blockedAt, priorityAt, rowAt, farAt, processorAt, earlyAt, lateAt, replicaEnd}
 use Rattle.jobs.specs.Held.{chain, jobIn, JobStands, LinkedOut}
 use Rattle.rounds.specs.Schedule.{choiceOf, topIn, FarFilled, LevelsFilled, ShortTo}
 use Rattle.plans.specs.Lines.{rowOutcomes, placedIn, rowReplicas, linesIn, RowHeld, Standing}
@@ -81,7 +81,7 @@ pub record Sends (rooms a volume : ℕ) (mem : List ℕ) : Type 0 where
   pub row : RowHeld a mem
   pub within : a + 25 ≤ length mem
   pub narrow : nth mem 3 ≤ document01 .losses
-  pub ticks : (c : ℕ) → c < nth mem 3 + 1 → nth mem (a + (2 + 3 * c)) ≤ document01 .tick
+  pub ticks : (c : ℕ) → c < nth mem 3 + 1 → nth mem (earlyAt a c) ≤ document01 .tick
   pub little : volume ≤ document01 .volume
   pub far : FarFilled rooms mem
 
@@ -118,7 +118,7 @@ pub record LineTimed (a : ℕ) (mem : List ℕ) : Type 0 where
   pub job : JobStands mem
   pub row : RowHeld a mem
   pub within : a + 25 ≤ length mem
-  pub ticks : (c : ℕ) → c < nth mem 3 + 1 → (nth mem (a + (2 + 3 * c)) ≤ 4294967295) × (nth mem (a + (3 + 3 * c)) ≤ 4294967295)
+  pub ticks : (c : ℕ) → c < nth mem 3 + 1 → (nth mem (earlyAt a c) ≤ 4294967295) × (nth mem (lateAt a c) ≤ 4294967295)
 
 -- The clocks next are the clocks after the first c replicas of the line at a besides.
 abbrev pub Advanced : ℕ → ℕ → List ℕ → Clocks → Clocks → Type 0
@@ -159,10 +159,10 @@ boxesFor rooms k t mem = chosen (jobIn mem) (nth mem 3 + 1) (trial (jobIn mem) (
 
 -- Replica c of the line at a was written, on p with these finishes, and nothing else.
 pub record Wrote (a c p early late : ℕ) (d mem : List ℕ) : Type 0 where
-  pub kept : KeptOutside (a + (1 + 3 * c)) (a + (4 + 3 * c)) d mem
-  pub processor : nth mem (a + (1 + 3 * c)) ≡ p
-  pub early-finish : nth mem (a + (2 + 3 * c)) ≡ early
-  pub late-finish : nth mem (a + (3 + 3 * c)) ≡ late
+  pub kept : KeptOutside (processorAt a c) (replicaEnd a c) d mem
+  pub processor : nth mem (processorAt a c) ≡ p
+  pub early-finish : nth mem (earlyAt a c) ≡ early
+  pub late-finish : nth mem (lateAt a c) ≡ late
 
 -- Line k of a memory d has its replicas, of task t on the processors ps.
 pub record Begun (rooms k t : ℕ) (ps : List ℕ) (d mem : List ℕ) : Type 0 where

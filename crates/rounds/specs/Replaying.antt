@@ -13,7 +13,7 @@ use Rattle.definitions.specs.Times.{least, Copy, Outcome, ready, stopTime, walk
 use Rattle.definitions.specs.Replay.{replay, firstFinish, firstBox, replayText}
 use Rattle.definitions.specs.Tools.{fitting}
 use Rattle.definitions.proofs.Bounds.{PlacedWithin}
-use Rattle.heads.specs.Layout.{lineAt, rowAt, farAt}
+use Rattle.heads.specs.Layout.{lineAt, rowAt, farAt, processorAt}
 use Rattle.jobs.specs.Held.{jobIn}
 use Rattle.rounds.specs.Schedule.{lineTicks}
 use Rattle.ticks.specs.Cells.{neverCell, timeIn, Small}
@@ -67,7 +67,7 @@ outcomesIn rooms mem = placedIn rooms false (nth mem 3 + 1) (nth mem 0) mem
 
 -- The processors of a line do not descend.
 abbrev pub RisingIn : ℕ → List ℕ → Type 0
-RisingIn rooms mem = (i c : ℕ) → i < nth mem 0 → c < nth mem 3 → nth mem (rowAt rooms i + (1 + 3 * c)) ≤ nth mem (rowAt rooms i + (1 + 3 * (c + 1)))
+RisingIn rooms mem = (i c : ℕ) → i < nth mem 0 → c < nth mem 3 → nth mem (processorAt (rowAt rooms i) c) ≤ nth mem (processorAt (rowAt rooms i) (c + 1))
 
 -- All lines have run under the stops in the cells.
 pub record RoundRun (rooms : ℕ) (stops d e : List ℕ) : Type 0 where

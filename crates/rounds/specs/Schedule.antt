@@ -10,7 +10,7 @@ use Rattle.definitions.specs.Times.{Time, tick, after, least, largest}
 use Rattle.definitions.specs.Planner.{largestDelay, bottomLevels}
 use Rattle.jobs.specs.Held.{jobIn}
 use Rattle.plans.specs.Lines.{rowOutcomes, rowOf}
-use Rattle.heads.specs.Layout.{levelAt, lineAt, farAt, rowAt}
+use Rattle.heads.specs.Layout.{levelAt, lineAt, farAt, rowAt, earlyAt, lateAt}
 
 -- The choice among a predecessor's copies: the least early, the largest late.
 abbrev pub choiceOf : Bool → List Time → Time
@@ -35,7 +35,7 @@ dataIn rooms late t p mem = largest (map (λ e. arrivalIn late (e .volume) p (ro
 abbrev pub ShortTo : ℕ → ℕ → List ℕ → Type 0
 ShortTo rooms k mem =
     (i c : ℕ) → i < k → c < nth mem 3 + 1
-    → (nth mem (rowAt rooms i + (2 + 3 * c)) ≤ k * lineTicks) × (nth mem (rowAt rooms i + (3 + 3 * c)) ≤ k * lineTicks)
+    → (nth mem (earlyAt (rowAt rooms i) c) ≤ k * lineTicks) × (nth mem (lateAt (rowAt rooms i) c) ≤ k * lineTicks)
 
 -- Every predecessor of t has a line.
 abbrev pub FedIn : ℕ → ℕ → List ℕ → Type 0

@@ -5,7 +5,7 @@ ghost use Prim.Native.Nat.{ℕ, _+_, _-_, _*_, _≤_, _<_};
 ghost use lib.ListN.{length};
 ghost use Rattle.definitions.specs.Lists.{nth};
 ghost use Rattle.definitions.specs.Job.{incoming, outgoing};
-ghost use Rattle.heads.specs.Layout.{memorySize, inHeadAt, outNextAt, lineAt, blockedAt, priorityAt, rowAt, farAt};
+ghost use Rattle.heads.specs.Layout.{memorySize, inHeadAt, outNextAt, lineAt, blockedAt, priorityAt, rowAt, farAt, replicaEnd};
 ghost use Rattle.jobs.specs.Held.{jobIn, JobHeld, LinkedIn, LinkedOut};
 ghost use Rattle.lists.specs.Kept.{KeptOutside};
 ghost use Rattle.rounds.specs.Arrivals.{DelayTable};
@@ -65,7 +65,7 @@ fn count_blocked(mem: &mut [u64], rooms: usize)
 
 // Replica c of the line at `a`: on p, with these finishes.
 fn put_replica(mem: &mut [u64], a: usize, c: usize, p: usize, early: u64, late: u64)
-    requires { ⌜ a + (4 + 3 * c) ≤ length (now mem) ⌝ }
+    requires { ⌜ replicaEnd a c ≤ length (now mem) ⌝ }
     ensures { λ _. ⌜ Wrote a c p early late (now (mem .entry)) (now (mem .exit)) ⌝ }
 {
     mem[a + (1 + 3 * c)] = p as u64;

@@ -7,7 +7,7 @@ ghost use Rattle.definitions.specs.Lists.{nth, below, greatest};
 ghost use Rattle.definitions.specs.Limits.{document01};
 ghost use Rattle.definitions.specs.Times.{tick};
 ghost use Rattle.definitions.specs.Planner.{tickOf, scale};
-ghost use Rattle.heads.specs.Layout.{memorySize, farAt, rowAt};
+ghost use Rattle.heads.specs.Layout.{memorySize, farAt, rowAt, processorAt, earlyAt};
 ghost use Rattle.jobs.specs.Held.{jobIn, JobHeld};
 ghost use Rattle.rounds.specs.Schedule.{topIn, FarFilled, FedIn};
 ghost use Rattle.lists.specs.Kept.{KeptOutside};
@@ -53,7 +53,7 @@ pub fn fill_far(mem: &mut [u64], rooms: usize)
 // The first tick at which the data of replica c of the line at `a` is everywhere.
 fn sent(mem: &[u64], rooms: usize, a: usize, c: usize, volume: u64) -> u64
     requires { ⌜ JobHeld rooms (now mem) × Sends rooms a volume (now mem) × (c < nth (now mem) 3 + 1) ⌝ }
-    ensures { λ r. ⌜ (r ≡ nth (now (mem .entry)) (a + (2 + 3 * c)) + volume * nth (now (mem .entry)) (farAt rooms + nth (now (mem .entry)) (a + (1 + 3 * c)))) × (r ≤ 4296011520) ⌝ }
+    ensures { λ r. ⌜ (r ≡ nth (now (mem .entry)) (earlyAt a c) + volume * nth (now (mem .entry)) (farAt rooms + nth (now (mem .entry)) (processorAt a c))) × (r ≤ 4296011520) ⌝ }
 {
     let far = FAR * rooms;
     let p = mem[a + (1 + 3 * c)] as usize;
@@ -80,7 +80,7 @@ fn spread(mem: &[u64], rooms: usize, a: usize, volume: u64) -> u64
 
 // The scaled top level of t, whose predecessors all have a line.
 pub fn top_level(mem: &[u64], rooms: usize, t: usize) -> u64
-    requires { ⌜ ((k : ℕ) × Standing rooms k (now mem) × ((i c : ℕ) → i < k → c < nth (now mem) 3 + 1 → nth (now mem) (rowAt rooms i + (2 + 3 * c)) ≤ document01 .tick))
+    requires { ⌜ ((k : ℕ) × Standing rooms k (now mem) × ((i c : ℕ) → i < k → c < nth (now mem) 3 + 1 → nth (now mem) (earlyAt (rowAt rooms i) c) ≤ document01 .tick))
         × (t < nth (now mem) 0) × FedIn rooms t (now mem) × FarFilled rooms (now mem) ⌝ }
     ensures { λ r. ⌜ (r ≡ tickOf (topIn rooms t (now (mem .entry))) * scale (jobIn (now (mem .entry)))) × (r ≤ 1100000000000) ⌝ }
 {

@@ -6,6 +6,7 @@ use native.Mathlib.Omega.{arith}
 use borrow.Author.Needs.{needs}
 use lib.ListN.{length}
 use Rattle.definitions.specs.Lists.{nth}
+use Rattle.jobs.specs.Held.{delayAt}
 use Rattle.heads.specs.Layout.{jobSize}
 use Rattle.jobs.proofs.Held.{Sizes, sizes, row-below}
 use Rattle.rounds.proofs.TimeLaws.{delay-cell}
@@ -20,7 +21,7 @@ abbrev μ-loop : tie.MeasureT-loop
 μ-loop mem v m n delays₀ i₀ delays i = n - i
 
 -- The cell that is read is one of the job's.
-cell : {rooms : ℕ} {mem : List ℕ} → Sizes rooms mem → (i : ℕ) → i < 16 * nth mem 1 → i % 16 < nth mem 1 → 4 + (nth mem 0 + i / 16) * (nth mem 1 + 1) + (i % 16 + 1) < jobSize rooms
+cell : {rooms : ℕ} {mem : List ℕ} → Sizes rooms mem → (i : ℕ) → i < 16 * nth mem 1 → i % 16 < nth mem 1 → delayAt mem (i / 16) (i % 16) < jobSize rooms
 cell {rooms} {mem} s i h g = row-below s (nth mem 0 + i / 16) (i % 16) (omega arith) g
 
 mul-delays : tie.Need-mul-delays Inv-loop μ-loop

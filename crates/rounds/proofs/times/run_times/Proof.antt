@@ -5,6 +5,7 @@ use native.Mathlib.Omega.{arith}
 use borrow.Author.Needs.{needs}
 use lib.ListN.{length, length-set}
 use Rattle.definitions.specs.Lists.{nth}
+use Rattle.jobs.specs.Held.{runAt}
 use Rattle.heads.specs.Layout.{jobSize}
 use Rattle.lists.proofs.ListLaws.{each-more}
 use Rattle.jobs.proofs.Held.{Sizes, sizes, row-below}
@@ -14,7 +15,7 @@ use Rattle.rounds.proofs.times.run_times.Tie as tie
 
 abbrev Inv-loop : tie.InvT-loop
 Inv-loop mem t m a runs₀ p₀ runs p =
-    (p ≤ m) × (length runs ≡ 16) × (m ≤ 16) × ((q : ℕ) → q < p → (nth runs q ≡ nth mem (4 + t * (nth mem 1 + 1) + (q + 1))) × (nth runs q ≤ 1000000))
+    (p ≤ m) × (length runs ≡ 16) × (m ≤ 16) × ((q : ℕ) → q < p → (nth runs q ≡ nth mem (runAt mem t q)) × (nth runs q ≤ 1000000))
 
 abbrev μ-loop : tie.MeasureT-loop
 μ-loop mem t m a runs₀ p₀ runs p = m - p
