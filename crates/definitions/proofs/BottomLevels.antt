@@ -11,7 +11,7 @@ use Rattle.definitions.specs.Limits.{Limits}
 use Rattle.definitions.specs.Job.{Edge, Job, outgoing, Circle}
 use Rattle.definitions.specs.Planner.{scaledRun, scaledMessage, raised, settled, bottomLevels}
 use Rattle.definitions.proofs.Lists.{map-same, each-or-one, length-count, in-below, same-numbers, nth-below}
-use Rattle.definitions.proofs.Facts.{JobFacts}
+use Rattle.definitions.specs.Facts.{JobFacts}
 use Rattle.definitions.proofs.Tasks.{in-outgoing}
 use Rattle.definitions.proofs.Circle.{Chain, stay, step, chain-circle, circle-seen}
 

@@ -1,6 +1,6 @@
 -- No tick passes its bound: of the equations, of the replay, and of the planner's levels.
 use mathlib.Core.Path.{_≡_, refl, ap, _∙_, sym}
-use mathlib.Core.Logic.{_⊎_, inl, inr, ⊎-elim}
+use mathlib.Core.Logic.{inl, inr, ⊎-elim}
 use mathlib.Core.List.{List, [], _∷_, _++_, map}
 use mathlib.Core.Bool.{Bool, true, false, not}
 use Prim.Native.Nat.{ℕ, zero, suc, _+_, _*_, _-_, _<_, _≤_}
@@ -14,14 +14,14 @@ use Rattle.definitions.specs.Limits.{Limits}
 use Rattle.definitions.specs.Job.{Edge, Job, runTime, delay, incoming, outgoing}
 use Rattle.definitions.specs.Plan.{Replica, Line, Plan, processorsOf}
 use Rattle.definitions.specs.Stops.{Stop}
-use Rattle.definitions.specs.Times.{Time, tick, never, later, sooner, after, least, largest, Copy, Outcome, outcome, ofTask, times, ready, message, arrival, dataReady, start, stopTime, unlessStopped, finish, walk, copiesOf, copies, earlies, lates, exits, end, bestEnd, worstEnd}
+use Rattle.definitions.specs.Times.{Time, tick, never, later, sooner, after, least, largest, Copy, Outcome, outcome, ofTask, times, ready, message, arrival, dataReady, start, stopTime, unlessStopped, finish, walk, copiesOf, copies, earlies, lates, exits, end, bestEnd, worstEnd, copyOf}
 use Rattle.definitions.specs.Refusals.{replicasOf, sameTimes, ticksAgree, planRefusal}
 use Rattle.definitions.specs.Planner.{tickOf, Waiting, waitingFrom, scale, scaledRun, totalDelay, scaledMessage, raised, settled, bottomLevels, largestDelay, topLevel, ranked, trial}
 use Rattle.definitions.specs.Replay.{replay}
-use Rattle.definitions.specs.Claims.{Within, AllWithin, planTicks, replayTicks}
+use Rattle.definitions.specs.Claims.{Within, AllWithin, PlacedWithin, planTicks, replayTicks, PlanWithin}
 use Rattle.definitions.proofs.Lists.{both, append-left, append-right, in-map, map-in, in-keep, keep-length, fits, distinct-keep, length-count, in-below, NumbersMost, nth-most, sum-most, greatest-most}
-use Rattle.definitions.proofs.Facts.{JobFacts, Fed, Ordered, Apart, Ticks}
-use Rattle.definitions.proofs.Tasks.{in-incoming, in-outgoing, in-task, copyOf}
+use Rattle.definitions.specs.Facts.{JobFacts, Fed, Ordered, Apart}
+use Rattle.definitions.proofs.Tasks.{in-incoming, in-outgoing, in-task}
 use Rattle.definitions.proofs.Stopping.{stopped}
 use Rattle.definitions.proofs.Guarantee.{accepted-facts, same-times}
 
@@ -104,10 +104,6 @@ often-distinct p ps d =
     fits (keep it ps) (p ∷ []) (distinct-keep it ps d) (λ q i. inl (sym (eqb-true q p (in-keep it q ps i .1))))
 
 -- The walk ----------------------------------------------------------------------------------------------------
-
--- What is placed is on the job's processors, and no tick of it passes b.
-abbrev pub PlacedWithin : Job → ℕ → List Outcome → Type 0
-PlacedWithin j b ds = (d : Outcome) → In d ds → (d .processor < j .processors) × Within b (d .time)
 
 -- What is placed is on the job's processors, and no tick of the tasks in `seen` passes b.
 abbrev SuppliedWithin : Job → ℕ → List ℕ → List Outcome → Type 0
@@ -290,33 +286,27 @@ module _ (l : Limits) (j : Job) (jf : JobFacts l j) where
 
   -- No tick of an accepted plan passes it.
   module _ (p : Plan) (o : Ordered j [] (p .lines)) (c : length (p .lines) ≡ j .tasks) (h : planRefusal j p ≡ 0) where
-    plan-within : (choose : List Time → Time) → Bounded choose → AllWithin (planTicks l) (walk j choose [] [] (copies j (p .lines)))
-    plan-within choose k d i =
+    walk-most : (choose : List Time → Time) → Bounded choose → AllWithin (planTicks l) (walk j choose [] [] (copies j (p .lines)))
+    walk-most choose k d i =
         weaker (d .time) (plan-bound (length (p .lines)) (omega arith)) (apart-within choose k (p .lines) o (accepted-facts j p h .apart) d i .1)
 
-    pub earlies-within : AllWithin (planTicks l) (earlies j (p .lines))
-    unfolding earlies
-    earlies-within = plan-within least least-within
-
-    pub lates-within : AllWithin (planTicks l) (lates j (p .lines))
-    unfolding lates
-    lates-within = plan-within largest largest-within
-
-    pub best-within : p .best ≤ planTicks l
-    unfolding bestEnd
-    best-within = rw (accepted-facts j p h .best-end) at (end-within j (planTicks l) least least-within (earlies j (p .lines)) earlies-within)
-
-    pub worst-within : p .worst ≤ planTicks l
-    unfolding worstEnd
-    worst-within = rw (accepted-facts j p h .worst-end) at (end-within j (planTicks l) largest largest-within (lates j (p .lines)) lates-within)
-
-    pub ticks-within : (n : Line) → In n (p .lines) → Ticks (planTicks l) n
-    unfolding ticksAgree
-    ticks-within n i r k =
-        let (e, f) = both _ _ (accepted-facts j p h .ticks) in (
-          written-within (planTicks l) (λ r. r .early) (earlies j (p .lines)) (p .lines) e earlies-within n i r k,
-          written-within (planTicks l) (λ r. r .late) (lates j (p .lines)) (p .lines) f lates-within n i r k,
-        )
+    pub plan-within : PlanWithin l j p
+    unfolding earlies lates bestEnd worstEnd ticksAgree
+    plan-within =
+        let f = accepted-facts j p h in
+        let (e, x) = both _ _ (f .ticks) in
+        let es : AllWithin (planTicks l) (earlies j (p .lines)) = walk-most least least-within in
+        let ls : AllWithin (planTicks l) (lates j (p .lines)) = walk-most largest largest-within in
+        record {
+          earlies-most = es;
+          lates-most = ls;
+          written-most = λ n i r k. (
+            written-within (planTicks l) (λ r. r .early) (earlies j (p .lines)) (p .lines) e es n i r k,
+            written-within (planTicks l) (λ r. r .late) (lates j (p .lines)) (p .lines) x ls n i r k,
+          );
+          best-most = rw (f .best-end) at (end-within j (planTicks l) least least-within (earlies j (p .lines)) es);
+          worst-most = rw (f .worst-end) at (end-within j (planTicks l) largest largest-within (lates j (p .lines)) ls);
+        }
 
   -- No tick of a replay passes the second.
   pub replay-within : (stops : List Stop) (ns : List Line) → Ordered j [] ns → length ns ≡ j .tasks → AllWithin (replayTicks l) (replay j stops ns)

@@ -1,6 +1,6 @@
 -- The claims of specs/Claims.antt are true.
 use mathlib.Core.Path.{_≡_, refl, ap, _∙_, sym}
-use mathlib.Core.Logic.{_⊎_, ⊎-elim}
+use mathlib.Core.Logic.{⊎-elim}
 use mathlib.Core.List.{List, [], _∷_}
 use mathlib.Core.Bool.{Bool, true, false}
 use Prim.Native.Nat.{ℕ, zero, suc, _+_, _*_, _^_, _<_, _≤_}
@@ -13,24 +13,26 @@ use Rattle.definitions.specs.Lists.{if_then_else_, In}
 use Rattle.definitions.specs.Limits.{Limits, document01}
 use Rattle.definitions.specs.Text.{widthFrom, width, good}
 use Rattle.definitions.specs.Job.{Job, readJob}
-use Rattle.definitions.specs.Plan.{Line, Plan, readPlan}
+use Rattle.definitions.specs.Plan.{Line, Plan, readPlan, planText}
 use Rattle.definitions.specs.Stops.{stopsText}
 use Rattle.definitions.specs.Times.{least, earlies}
+use Rattle.definitions.specs.Obeys.{Obeys}
 use Rattle.definitions.specs.Refusals.{doubledTasks, planRefusal}
 use Rattle.definitions.specs.Planner.{Waiting, waitingFrom, bottomLevels, ranked, trial, planFor}
 use Rattle.definitions.specs.Replay.{replay, roundEnd}
 use Rattle.definitions.specs.Tools.{accepted, doubled, rejected, verdictOf, verdict, planned}
-use Rattle.definitions.specs.Claims.{haltingOf, haltedReplay, placedAfter, planTicks, replayTicks, lineLength, planLength, Roomy, EdgesAscend, OneOrder, Kept, Quiet, LateStops, Doubled, KeptBytes, DoubledBytes, OwnAccepted, TicksFit, LevelsFit, Bears, Breaks, Claim}
+use Rattle.definitions.specs.Claims.{haltingOf, haltedReplay, placedAfter, PlanWithin, planTicks, replayTicks, lineLength, planLength, Roomy, EdgesAscend, OneOrder, Kept, Quiet, LateStops, Doubled, KeptBytes, DoubledBytes, AcceptedObeys, OwnAccepted, TicksFit, LevelsFit, Bears, Breaks, Claim, PlacedWithin}
 use Rattle.definitions.proofs.Lists.{in-reverse, in-take}
-use Rattle.definitions.proofs.Facts.{JobFacts, Ordered, Apart, PlanFacts}
+use Rattle.definitions.specs.Facts.{JobFacts, Ordered, PlanFacts}
 use Rattle.definitions.proofs.EdgeOrder.{same-order}
 use Rattle.definitions.proofs.Reading.{job-facts, plan-facts}
 use Rattle.definitions.proofs.Guarantee.{accepted-facts, kept, quiet}
 use Rattle.definitions.proofs.Stopping.{late-replay}
 use Rattle.definitions.proofs.Doubled.{doubled-line, line-facts, doubled-undone}
 use Rattle.definitions.proofs.Bytes.{same-tick, replayed-read, answer-done, answer-undone}
+use Rattle.definitions.proofs.Obeying.{accepted-obeys, obeys-accepted}
 use Rattle.definitions.proofs.Placing.{placed-count, placed-ordered, placed-accepted}
-use Rattle.definitions.proofs.Bounds.{least-within, PlacedWithin, apart-within, plan-bound, earlies-within, lates-within, best-within, worst-within, ticks-within, replay-within, trial-most, ranked-most}
+use Rattle.definitions.proofs.Bounds.{least-within, apart-within, plan-bound, plan-within, replay-within, trial-most, ranked-most}
 use Rattle.definitions.proofs.RoundTrip.{plan-back, plan-length, stops-back, stops-fit}
 
 -- The checker's answer ----------------------------------------------------------------------------------------
@@ -113,6 +115,15 @@ doubled-bytes l roomy job plan j p ts job-read plan-read h t i =
       λ x. b (round x),
     )
 
+-- Demand 2 ----------------------------------------------------------------------------------------------------
+
+pub accepted-obey : (l : Limits) → AcceptedObeys l
+accepted-obey l job plan j p job-read plan-read =
+    let g = plan-facts l j plan p plan-read in (
+      λ h. accepted-obeys j p (g .ordered) (g .count) (none-due l job plan j p job-read plan-read h),
+      λ h. verdict-read l job plan j p job-read plan-read ∙ rw (obeys-accepted j p h .2),
+    )
+
 -- Ticks -------------------------------------------------------------------------------------------------------
 
 pub ticks-fit : (l : Limits) → TicksFit l
@@ -120,9 +131,33 @@ ticks-fit l job plan j p job-read plan-read =
     let facts = job-facts l job j job-read in
     let g = plan-facts l j plan p plan-read in
     let due = none-due l job plan j p job-read plan-read in (
-      λ h. (earlies-within l j facts p (g .ordered) (g .count) (due h), lates-within l j facts p (g .ordered) (g .count) (due h)),
+      λ h. plan-within l j facts p (g .ordered) (g .count) (due h),
       λ ss. replay-within l j facts ss (p .lines) (g .ordered) (g .count),
     )
+
+-- Plans that obey, printed ------------------------------------------------------------------------------------
+
+module _ (l : Limits) (roomy : Roomy l) (j : Job) (facts : JobFacts l j) (p : Plan) (h : Obeys j p) where
+  obeys-within : PlanWithin l j p
+  obeys-within = let (o, c, due) = obeys-accepted j p h in plan-within l j facts p o c due
+
+  -- They are in range, their text is not too long, and it is read back.
+  obeys-facts : PlanFacts l j p
+  obeys-facts =
+      let (o, c, due) = obeys-accepted j p h in
+      record {
+        best-most = omega (arith, obeys-within .best-most);
+        worst-most = omega (arith, obeys-within .worst-most);
+        count = c;
+        ordered = o;
+        ticks-most = λ n i r k. omega (arith, obeys-within .written-most n i r k);
+      }
+
+  obeys-fits : length (planText l j p) ≤ l .textLength
+  obeys-fits = omega (arith, plan-length l j facts p obeys-facts (obeys-within .best-most) (obeys-within .worst-most) (obeys-within .written-most))
+
+  obeys-read : readPlan l j (planText l j p) ≡ good p
+  obeys-read = plan-back l roomy j p facts obeys-facts obeys-fits
 
 -- The planner's own plans -------------------------------------------------------------------------------------
 
@@ -130,50 +165,23 @@ module _ (l : Limits) (j : Job) (facts : JobFacts l j) where
   abbrev own : Plan
   own = planFor j (j .losses)
 
-  own-due : planRefusal j own ≡ 0
-  own-due = placed-accepted l j facts
+  own-obeys : Obeys j own
+  own-obeys = accepted-obeys j own (placed-ordered l j facts) (placed-count l j facts) (placed-accepted l j facts)
 
-  own-ordered : Ordered j [] (own .lines)
-  own-ordered = placed-ordered l j facts
-
-  own-count : length (own .lines) ≡ j .tasks
-  own-count = placed-count l j facts
-
-  own-apart : Apart (own .lines)
-  own-apart = accepted-facts j own own-due .apart
-
-  -- So they are in range, and the plan can be read.
   module _ (roomy : Roomy l) where
     pub own-facts : PlanFacts l j (planFor j (j .losses))
-    own-facts =
-        record {
-          best-most = omega (arith, best-within l j facts own own-ordered own-count own-due);
-          worst-most = omega (arith, worst-within l j facts own own-ordered own-count own-due);
-          count = own-count;
-          ordered = own-ordered;
-          ticks-most = λ n i r k. omega (arith, ticks-within l j facts own own-ordered own-count own-due n i r k);
-        }
+    own-facts = obeys-facts l roomy j facts own own-obeys
 
-    -- Their text is not too long.
     pub own-fits : length (planned l j) ≤ l .textLength
     unfolding planned
-    own-fits =
-        omega (
-          arith,
-          plan-length l j facts own own-facts
-              (best-within l j facts own own-ordered own-count own-due)
-              (worst-within l j facts own own-ordered own-count own-due)
-              (ticks-within l j facts own own-ordered own-count own-due),
-        )
-
-    own-read : readPlan l j (planned l j) ≡ good own
-    unfolding planned
-    own-read = plan-back l roomy j own facts own-facts own-fits
+    own-fits = obeys-fits l roomy j facts own own-obeys
 
 pub own-accepted : (l : Limits) → Roomy l → OwnAccepted l
+unfolding planned
 own-accepted l roomy job j h =
     let facts = job-facts l job j h in
-    verdict-read l job (planned l j) j (planFor j (j .losses)) h (own-read l j facts roomy) ∙ rw (own-due l j facts)
+    let obeys = own-obeys l j facts in
+    accepted-obey l job (planned l j) j (planFor j (j .losses)) h (obeys-read l roomy j facts (planFor j (j .losses)) obeys) .1 obeys
 
 -- The planner's numbers ---------------------------------------------------------------------------------------
 
@@ -188,14 +196,14 @@ module _ (l : Limits) (j : Job) (facts : JobFacts l j) (k : ℕ) where
   count = length (take k (planFor j (j .losses) .lines))
 
   count-most : (count ≤ k) × (count ≤ j .tasks)
-  count-most = let e = length-take k (planFor j (j .losses) .lines) in omega (arith, own-count l j facts)
+  count-most = let e = length-take k (planFor j (j .losses) .lines) in omega (arith, placed-count l j facts)
 
   after-within : PlacedWithin j (count * (l .runTime + l .volume * l .delay)) (placedAfter j k)
   unfolding earlies
   after-within d i =
       let ns = planFor j (j .losses) .lines in
       ⊎-elim
-      (apart-within l j facts least least-within (take k ns) (ordered-take j k [] ns (own-ordered l j facts)) (λ n m. own-apart l j facts n (in-take k n ns m)) d)
+      (apart-within l j facts least least-within (take k ns) (ordered-take j k [] ns (placed-ordered l j facts)) (λ n m. accepted-facts j (planFor j (j .losses)) (placed-accepted l j facts) .apart n (in-take k n ns m)) d)
       absurd
       (in-reverse d (earlies j (take k ns)) [] i)
 
@@ -262,4 +270,5 @@ claim = (
   ticks01 .1,
   edges-ascend document01,
   one-order document01,
+  accepted-obey document01,
 )

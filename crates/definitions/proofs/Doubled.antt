@@ -13,13 +13,13 @@ use Rattle.definitions.specs.Limits.{Limits}
 use Rattle.definitions.specs.Job.{Job, runTime}
 use Rattle.definitions.specs.Plan.{Line, Plan, processorsOf, descends}
 use Rattle.definitions.specs.Stops.{Stop}
-use Rattle.definitions.specs.Times.{Time, tick, never, later, after, least, largest, Copy, Outcome, outcome, ofTask, times, start, stopTime, unlessStopped, finish, walk, copiesOf, copies, exits, end}
+use Rattle.definitions.specs.Times.{Time, tick, never, later, after, least, largest, Copy, Outcome, outcome, ofTask, times, start, stopTime, unlessStopped, finish, walk, copiesOf, copies, exits, end, copyOf}
 use Rattle.definitions.specs.Refusals.{doubledTasks}
 use Rattle.definitions.specs.Replay.{replay, firstFinish, roundEnd}
 use Rattle.definitions.specs.Claims.{boxesOf, once, halted, haltingOf}
 use Rattle.definitions.proofs.Lists.{neither, in-append, in-map, map-in, in-keep, has-in, not-has}
-use Rattle.definitions.proofs.Facts.{JobFacts, LineFacts, Ordered, PlanFacts, Ascending}
-use Rattle.definitions.proofs.Tasks.{in-task, copyOf}
+use Rattle.definitions.specs.Facts.{JobFacts, LineFacts, Ordered, PlanFacts, Ascending}
+use Rattle.definitions.proofs.Tasks.{in-task}
 
 -- The tasks that are doubled ----------------------------------------------------------------------------------
 

@@ -10,15 +10,15 @@ use lib.ListN.{length, length-map}
 use borrow.Author.Tests.{eqb-true, eq-eqb, not-false}
 use Rattle.definitions.specs.Lists.{if_then_else_, In, keep, any, has, distinct, below, empty}
 use Rattle.definitions.specs.Limits.{Limits}
+use Rattle.definitions.specs.Text.{firstOf}
 use Rattle.definitions.specs.Job.{Edge, Job, incoming, outgoing}
-use Rattle.definitions.specs.Plan.{Replica, Line, Plan, processorsOf}
+use Rattle.definitions.specs.Plan.{Replica, Line, Plan, processorsOf, lineTasks}
 use Rattle.definitions.specs.Stops.{Stop}
-use Rattle.definitions.specs.Times.{Time, tick, never, later, sooner, after, same, least, largest, Copy, Outcome, outcome, ofTask, times, ready, message, feeding, arrival, dataReady, start, stopTime, unlessStopped, finish, walk, copiesOf, copies, earlies, lates, exits, end, bestEnd, worstEnd}
+use Rattle.definitions.specs.Times.{Time, tick, never, later, sooner, after, same, least, largest, Copy, Outcome, outcome, ofTask, times, ready, message, feeding, arrival, dataReady, start, stopTime, unlessStopped, finish, walk, copiesOf, copies, earlies, lates, exits, end, bestEnd, worstEnd, copyOf}
 use Rattle.definitions.specs.Refusals.{doubledTasks, sameTimes, ticksAgree, endsAgree, planRefusal}
 use Rattle.definitions.specs.Replay.{replay, firstFinish, roundEnd}
-use Rattle.definitions.proofs.Lists.{both, both-true, passed, in-some, append-left, append-right, map-in, in-any, in-keep, keep-in, has-not, in-below, spare, full}
-use Rattle.definitions.proofs.Facts.{Ordered, Apart, PlanFacts}
-use Rattle.definitions.proofs.Tasks.{copyOf, lineTasks}
+use Rattle.definitions.proofs.Lists.{both, both-true, passed, in-some, append-left, append-right, map-in, in-any, in-keep, keep-in, keep-none, has-not, in-below, spare, full}
+use Rattle.definitions.specs.Facts.{Ordered, Apart, PlanFacts}
 use Rattle.definitions.proofs.Stopping.{stopped}
 
 -- Between early and late --------------------------------------------------------------------------------------
@@ -239,7 +239,7 @@ not-stopped j p (s ∷ stops) h = by (eqb (s .processor) p) h (not-stopped j p s
     by false h r = r h
 
 -- Lines in order, as many as there are tasks, have every task.
-pub every-task : (j : Job) (ns : List Line) (seen : List ℕ) → Ordered j seen ns → distinct seen ≡ true → ((u : ℕ) → In u seen → u < j .tasks)
+every-task : (j : Job) (ns : List Line) (seen : List ℕ) → Ordered j seen ns → distinct seen ≡ true → ((u : ℕ) → In u seen → u < j .tasks)
     → length seen + length ns ≡ j .tasks → (t : ℕ) → t < j .tasks → In t seen ⊎ In t (lineTasks ns)
 unfolding distinct
 every-task j [] seen o d b l t h = inl (full (j .tasks) seen d b (omega arith) t h)
@@ -247,6 +247,10 @@ every-task j (n ∷ ns) seen (o, os) d b l t h =
     let new : has (n .task) seen ≡ false = has-not (n .task) seen (o .new) in
     let r = every-task j ns (n .task ∷ seen) os (rw new d) (λ u. ⊎-elim (λ e. rw (← e) (o .task-below)) (b u)) (omega arith) t h in
     ⊎-elim (⊎-elim (λ e. inr (inl e)) inl) (λ i. inr (inr i)) r
+
+pub each-task : (j : Job) (ns : List Line) → Ordered j [] ns → length ns ≡ j .tasks → (t : ℕ) → t < j .tasks → In t (lineTasks ns)
+unfolding distinct
+each-task j ns o c t h = ⊎-elim (λ i. absurd i) (λ i. i) (every-task j ns [] o refl (λ u i. absurd i) (omega (arith, c)) t h)
 
 -- What an accepted plan is ------------------------------------------------------------------------------------
 
@@ -303,15 +307,21 @@ accepted-facts j p h =
       worst-end = same-time _ _ f;
     }
 
+pub facts-accepted : (j : Job) (p : Plan) → AcceptedFacts j p → planRefusal j p ≡ 0
+unfolding planRefusal firstOf doubledTasks endsAgree
+facts-accepted j p f =
+    let apart = keep-none (λ n. not (distinct (processorsOf n))) (p .lines) (λ n i. ap not (f .apart n i)) in
+    rw (apart, f .ticks, f .best-end, f .worst-end, time-same (tick (p .best)), time-same (tick (p .worst)))
+
 -- The guarantee -----------------------------------------------------------------------------------------------
 
 -- Lines in order, one for each task, each with a processor that does not stop: the outcomes side by side, and every task safe.
 lines-b : (j : Job) (stops : List Stop) (ns : List Line) → Ordered j [] ns → length ns ≡ j .tasks → Spared j stops ns
     → Beside j stops (copies j ns) (earlies j ns) (lates j ns) (replay j stops ns) × ((t : ℕ) → t < j .tasks → Safe j stops t (copies j ns))
-unfolding earlies lates replay distinct
+unfolding earlies lates replay
 lines-b j stops ns o c s = (
   walk-b j stops (copies j ns) (supply j stops ns [] [] o s (λ u i. absurd i)) none,
-  λ t h. safe-lines j stops ns s t (⊎-elim (λ i. absurd i) (λ i. i) (every-task j ns [] o refl (λ u i. absurd i) (omega (arith, c)) t h)),
+  λ t h. safe-lines j stops ns s t (each-task j ns o c t h),
 )
 
 -- Fewer stops than copies of a task: each line has a processor that does not stop.

@@ -1,5 +1,4 @@
 pub mod Lists
-pub mod Facts
 pub mod EdgeOrder
 pub mod Tasks
 pub mod Doubled
@@ -14,4 +13,5 @@ pub mod Chosen
 pub mod Placing
 pub mod Bounds
 pub mod Bytes
+pub mod Obeying
 pub mod Claims

@@ -200,6 +200,11 @@ unfolding keep
 keep-every f [] h = refl
 keep-every f (x ∷ xs) h = rw (h x (inl refl)) (ap₂ _∷_ refl (keep-every f xs (λ y i. h y (inr i))))
 
+pub keep-none : {A : Type 0} (f : A → Bool) (xs : List A) → ((x : A) → In x xs → f x ≡ false) → keep f xs ≡ []
+unfolding keep
+keep-none f [] h = refl
+keep-none f (x ∷ xs) h = rw (h x (inl refl)) (keep-none f xs (λ y i. h y (inr i)))
+
 pub map-keep : {A B : Type 0} (g : A → B) (f : B → Bool) (xs : List A) → map g (keep (λ x. f (g x)) xs) ≡ keep f (map g xs)
 unfolding keep
 map-keep g f [] = refl

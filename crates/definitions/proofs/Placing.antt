@@ -17,7 +17,7 @@ use Rattle.definitions.specs.Times.{Time, tick, same, least, largest, Co
 use Rattle.definitions.specs.Refusals.{doubledTasks, replicasOf, sameTimes, ticksAgree, endsAgree, planRefusal}
 use Rattle.definitions.specs.Planner.{tickOf, greatestOf, Waiting, waitingFrom, bottomLevels, freeTasks, ranked, criticalTask, trial, chosen, replicas, place, planFor}
 use Rattle.definitions.proofs.Lists.{both-true, in-map, map-in, in-reverse, reverse-left, reverse-right, map-same, in-keep, keep-in, map-keep, all-in, in-all, has-in, in-has, without, one-less, distinct-keep, length-count, in-below, below-in, distinct-count}
-use Rattle.definitions.proofs.Facts.{JobFacts, Fed, LineFacts, Ordered}
+use Rattle.definitions.specs.Facts.{JobFacts, Fed, LineFacts, Ordered}
 use Rattle.definitions.proofs.Tasks.{in-incoming, outcomeTasks}
 use Rattle.definitions.proofs.Circle.{free-task}
 use Rattle.definitions.proofs.BottomLevels.{length-bottom-levels}

@@ -14,12 +14,12 @@ use Rattle.definitions.specs.Lists.{if_then_else_, bytes, nth, In, any, 
 use Rattle.definitions.specs.Limits.{Limits}
 use Rattle.definitions.specs.Text.{Reading, found, refused, Reader, next, return, due, firstOf, exactly, number, numbers, line, mark, lines, linesToEnd, Result, good, bad, andThen, unless, ended, whole}
 use Rattle.definitions.specs.Job.{Edge, Job, runTime, delay, incoming, circular, outside, JobHead, jobHead, jobHeadRule, runRule, delayRule, edgeLine, edgeRule, Ascends, jobLines, readJob}
-use Rattle.definitions.specs.Plan.{Replica, Line, Plan, processorsOf, triples, lineOf, descends, PlanHead, planHead, planHeadRule, strays, planLine, planLineRule, planLines, readPlan}
+use Rattle.definitions.specs.Plan.{Replica, Line, Plan, processorsOf, triples, lineOf, descends, PlanHead, planHead, planHeadRule, strays, planLine, planLineRule, planLines, readPlan, lineTasks}
 use Rattle.definitions.specs.Stops.{Stop, notAfter, stopLine, stopRule, readStops}
 use Rattle.definitions.proofs.Lists.{neither, inside, passed, last-of, none-in, all-in, has-in, not-has, in-map, nth-in}
-use Rattle.definitions.proofs.Facts.{JobFacts, LineFacts, Ordered, Ticks, PlanFacts, Ascending, afterLast}
+use Rattle.definitions.specs.Facts.{JobFacts, LineFacts, Ordered, Ticks, PlanFacts, Ascending, afterLast}
 use Rattle.definitions.proofs.EdgeOrder.{ascends-more}
-use Rattle.definitions.proofs.Tasks.{lineTasks, SameTasks, tasks-more}
+use Rattle.definitions.proofs.Tasks.{SameTasks, tasks-more}
 
 -- One thing after another ---------------------------------------------------------------------------------------
 

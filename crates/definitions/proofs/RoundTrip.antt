@@ -14,12 +14,12 @@ use Rattle.definitions.specs.Lists.{bytes, In, has}
 use Rattle.definitions.specs.Limits.{Limits}
 use Rattle.definitions.specs.Text.{found, Reader, firstOf, numbersText, lineText, lines, linesToEnd, good, whole}
 use Rattle.definitions.specs.Job.{Job, incoming, outside}
-use Rattle.definitions.specs.Plan.{Replica, Line, Plan, triples, planHeadOf, planHead, planHeadRule, strays, planLine, planLineRule, planLines, readPlan, replicaNumbers, planLinesText, planText}
+use Rattle.definitions.specs.Plan.{Replica, Line, Plan, triples, planHeadOf, planHead, planHeadRule, strays, planLine, planLineRule, planLines, readPlan, replicaNumbers, planLinesText, planText, lineTasks}
 use Rattle.definitions.specs.Stops.{Stop, notAfter, stopLine, stopRule, readStops, stopsText}
 use Rattle.definitions.specs.Claims.{planTicks, fieldLength, lineLength, planLength, Roomy}
 use Rattle.definitions.proofs.Lists.{neither-false, not-outside, last-of, none-any, map-in, in-has, has-not, in-all}
-use Rattle.definitions.proofs.Facts.{JobFacts, LineFacts, Ordered, Ticks, PlanFacts, Ascending, afterLast}
-use Rattle.definitions.proofs.Tasks.{lineTasks, SameTasks, tasks-more}
+use Rattle.definitions.specs.Facts.{JobFacts, LineFacts, Ordered, Ticks, PlanFacts, Ascending, afterLast}
+use Rattle.definitions.proofs.Tasks.{SameTasks, tasks-more}
 use Rattle.definitions.proofs.Decimal.{line-back, width-powers, width-monotone, length-none, length-numbers, length-line}
 
 below-true : (n m : ℕ) → n < m → not (ltb n m) ≡ false

@@ -6,9 +6,9 @@ use Prim.Native.Nat.{ℕ}
 use lib.Dec.{eqb}
 use borrow.Author.Tests.{eqb-true}
 use Rattle.definitions.specs.Lists.{In}
-use Rattle.definitions.specs.Job.{Edge, Job, runTime, incoming, outgoing}
-use Rattle.definitions.specs.Plan.{Line}
-use Rattle.definitions.specs.Times.{Copy, Outcome, ofTask}
+use Rattle.definitions.specs.Job.{Edge, Job, incoming, outgoing}
+use Rattle.definitions.specs.Plan.{Line, lineTasks}
+use Rattle.definitions.specs.Times.{Outcome, ofTask}
 use Rattle.definitions.proofs.Lists.{in-append, append-left, append-right, in-keep}
 
 pub in-incoming : (j : Job) (t : ℕ) (e : Edge) → In e (incoming j t) → In e (j .edges) × (e .to ≡ t)
@@ -23,14 +23,7 @@ pub in-task : (t : ℕ) (d : Outcome) (ds : List Outcome) → In d (ofTask t ds)
 unfolding ofTask
 in-task t d ds i = let (k, q) = in-keep (λ d. eqb (d .task) t) d ds i in (k, eqb-true (d .task) t q)
 
--- The copy of task t on processor p, with the table's run time.
-abbrev pub copyOf : Job → ℕ → ℕ → Copy
-copyOf j t p = record { task = t; processor = p; run = runTime j t p }
-
--- The tasks of lines; of outcomes.
-abbrev pub lineTasks : List Line → List ℕ
-lineTasks ns = map (λ n. n .task) ns
-
+-- The tasks of outcomes.
 abbrev pub outcomeTasks : List Outcome → List ℕ
 outcomeTasks ds = map (λ d. d .task) ds
 

@@ -10,7 +10,9 @@ use Rattle.definitions.specs.Text.{width, decimal, lineText, good}
 use Rattle.definitions.specs.Job.{Edge, Job, Ascends, readJob}
 use Rattle.definitions.specs.Plan.{Line, Plan, processorsOf, readPlan}
 use Rattle.definitions.specs.Stops.{Stop, readStops, stopsText}
+use Rattle.definitions.specs.Facts.{Ticks}
 use Rattle.definitions.specs.Times.{Time, tick, never, Outcome, earlies, lates, exits}
+use Rattle.definitions.specs.Obeys.{Obeys}
 use Rattle.definitions.specs.Planner.{Waiting, waitingFrom, bottomLevels, ranked, trial, planFor}
 use Rattle.definitions.specs.Replay.{replay, firstFinish, roundEnd, resultLines}
 use Rattle.definitions.specs.Tools.{accepted, doubled, verdict, planned, replayed}
@@ -39,6 +41,10 @@ Within b never = Unit {0}
 
 abbrev pub AllWithin : ℕ → List Outcome → Type 0
 AllWithin b ds = (d : Outcome) → In d ds → Within b (d .time)
+
+-- What is placed is on the job's processors, and no tick of it passes b.
+abbrev pub PlacedWithin : Job → ℕ → List Outcome → Type 0
+PlacedWithin j b ds = (d : Outcome) → In d ds → (d .processor < j .processors) × Within b (d .time)
 
 -- No stop comes before an outcome on its processor.
 abbrev pub Outlast : List Stop → List Outcome → Type 0
@@ -171,16 +177,29 @@ module _ (l : Limits) where
   abbrev pub DoubledBytes : Type 0
   DoubledBytes = (job plan : List ℕ) → DoubledAnswer job plan
 
+  -- A plan that was read is accepted exactly if it obeys the report's equations over the ticks that it writes.
+  abbrev pub AcceptedObeys : Type 0
+  AcceptedObeys =
+      (job plan : List ℕ) (j : Job) (p : Plan) → readJob l job ≡ good j → readPlan l j plan ≡ good p
+      → (verdict l job plan ≡ accepted → Obeys j p) × (Obeys j p → verdict l job plan ≡ accepted)
+
   -- The planner's own plans are accepted.
   abbrev pub OwnAccepted : Type 0
   OwnAccepted = (job : List ℕ) (j : Job) → readJob l job ≡ good j → verdict l job (planned l j) ≡ accepted
 
-  -- No tick of an accepted plan passes the first bound, and no tick of a replay the second, whatever stops.
+  -- No tick of an accepted plan passes the first bound: of the equations, of its T lines, M* and M.
+  pub record PlanWithin (j : Job) (p : Plan) : Type 0 where
+    pub earlies-most : AllWithin planTicks (earlies j (p .lines))
+    pub lates-most : AllWithin planTicks (lates j (p .lines))
+    pub written-most : (n : Line) → In n (p .lines) → Ticks planTicks n
+    pub best-most : p .best ≤ planTicks
+    pub worst-most : p .worst ≤ planTicks
+
+  -- And no tick of a replay passes the second, whatever stops.
   abbrev pub TicksFit : Type 0
   TicksFit =
       (job plan : List ℕ) (j : Job) (p : Plan) → readJob l job ≡ good j → readPlan l j plan ≡ good p
-      → (verdict l job plan ≡ accepted → AllWithin planTicks (earlies j (p .lines)) × AllWithin planTicks (lates j (p .lines)))
-      × ((ss : List Stop) → AllWithin replayTicks (replay j ss (p .lines)))
+      → (verdict l job plan ≡ accepted → PlanWithin j p) × ((ss : List Stop) → AllWithin replayTicks (replay j ss (p .lines)))
 
   -- Whatever the planner has placed, the priority of every task fits 64 bits; and while a task is left to be placed, no
   -- finish that is tried passes the first bound.
@@ -225,3 +244,4 @@ Claim =
     × (replayTicks document01 ≡ 2_306_277_375)
     × EdgesAscend document01
     × OneOrder document01
+    × AcceptedObeys document01

@@ -4,7 +4,9 @@ pub mod Text
 pub mod Job
 pub mod Plan
 pub mod Stops
+pub mod Facts
 pub mod Times
+pub mod Obeys
 pub mod Refusals
 pub mod Planner
 pub mod Replay

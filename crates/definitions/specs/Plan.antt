@@ -30,6 +30,10 @@ pub record Plan : Type 0 where
 abbrev pub processorsOf : Line → List ℕ
 processorsOf n = map (λ r. r .processor) (n .replicas)
 
+-- The tasks of lines.
+abbrev pub lineTasks : List Line → List ℕ
+lineTasks ns = map (λ n. n .task) ns
+
 -- Triples box, early, late.
 unfoldable pub triples : List ℕ → List Replica
 triples [] = []
@@ -101,7 +105,7 @@ module _ (l : Limits) where
   -- "A T line 11, then 10": it "repeats a task, or precedes a predecessor of its task" (10).
   unfoldable pub planLineRule : Job → List Line → Line → ℕ
   planLineRule j seen n =
-      let tasks = map (λ n. n .task) seen in
+      let tasks = lineTasks seen in
       firstOf
       (
       (strays j n, 3)

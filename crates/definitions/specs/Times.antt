@@ -123,9 +123,12 @@ module _ (j : Job) where
   walk choose stops placed (c ∷ cs) =
       let d = outcome c (finish choose stops placed c) in d ∷ walk choose stops (d ∷ placed) cs
 
-  -- Copies of task t on some processors, with the table's run times.
+  -- The copy of task t on processor p, with the table's run time; the copies of t on some processors.
+  abbrev pub copyOf : ℕ → ℕ → Copy
+  copyOf t p = record { task = t; processor = p; run = runTime j t p }
+
   abbrev pub copiesOf : ℕ → List ℕ → List Copy
-  copiesOf t ps = map (λ p. record { task = t; processor = p; run = runTime j t p }) ps
+  copiesOf t ps = map (copyOf t) ps
 
   -- "Line order is the order in which every box takes up its copies".
   unfoldable pub copies : List Line → List Copy

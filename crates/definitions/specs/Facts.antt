@@ -11,7 +11,7 @@ use Rattle.definitions.specs.Job.{Edge, Job, runTime, delay, incoming, A
 use Rattle.definitions.specs.Plan.{Replica, Line, Plan, processorsOf, descends}
 use Rattle.definitions.specs.Stops.{Stop}
 
--- A job that was read.
+-- A job that was read: its numbers are in their ranges, its edges ascend (6, 16) and form no circle (7).
 pub record JobFacts (l : Limits) (j : Job) : Type 0 where
   pub some-task : 1 ≤ j .tasks
   pub tasks-most : j .tasks ≤ l .tasks
@@ -34,7 +34,8 @@ pub record JobFacts (l : Limits) (j : Job) : Type 0 where
 abbrev pub Fed : Job → ℕ → List ℕ → Type 0
 Fed j t us = (e : Edge) → In e (incoming j t) → In (e .from) us
 
--- A line of a plan for j, after lines with the tasks in `seen`.
+-- A line `T,task,` of a plan that was read, after lines with the tasks in `seen`: ε + 1 copies, no box less than the one before (11), its
+-- task new and after its predecessors (10).
 pub record LineFacts (j : Job) (seen : List ℕ) (n : Line) : Type 0 where
   pub task-below : n .task < j .tasks
   pub width : length (n .replicas) ≡ j .losses + 1
@@ -56,7 +57,7 @@ Apart ns = (n : Line) → In n ns → distinct (processorsOf n) ≡ true
 abbrev pub Ticks : ℕ → Line → Type 0
 Ticks b n = (r : Replica) → In r (n .replicas) → (r .early ≤ b) × (r .late ≤ b)
 
--- A plan that was read for j.
+-- A plan that was read for j: M*, M and every tick in range, and v T lines.
 pub record PlanFacts (l : Limits) (j : Job) (p : Plan) : Type 0 where
   pub best-most : p .best ≤ l .tick
   pub worst-most : p .worst ≤ l .tick
