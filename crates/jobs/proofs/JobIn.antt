@@ -12,7 +12,7 @@ use Rattle.definitions.specs.Limits.{document01}
 use Rattle.definitions.specs.Text.{good}
 use Rattle.definitions.specs.Job.{Edge, Job, JobHead, jobHeadRule}
 use Rattle.definitions.proofs.Lists.{length-count}
-use Rattle.definitions.proofs.Facts.{JobFacts}
+use Rattle.definitions.specs.Facts.{JobFacts}
 use Rattle.text.specs.declared.Step.the-variants.{Next}
 use Rattle.orders.specs.Edges.{edgeCell, edgeIn}
 use Rattle.jobs.specs.Memory.{numbered, jobCells}

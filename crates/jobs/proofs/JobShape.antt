@@ -13,7 +13,7 @@ use Rattle.definitions.specs.Limits.{document01}
 use Rattle.definitions.specs.Text.{found, firstOf, line, unless, ended, good, return}
 use Rattle.definitions.specs.Job.{Job, JobHead, jobHeadRule, runRule, delayRule, edgeLine, edgeRule, circular}
 use Rattle.definitions.proofs.Lists.{in-map, passed}
-use Rattle.definitions.proofs.Facts.{JobFacts}
+use Rattle.definitions.specs.Facts.{JobFacts}
 use Rattle.definitions.proofs.Reading.{Ruled, ended-good, andThen-good, unless-good, lines-then, ruled-in, line-found, runs-found}
 use Rattle.jobs.specs.Memory.{numbered}
 use Rattle.heads.specs.Stages.{jobOf, fromEdges, fromDelays, fromRuns, closed}

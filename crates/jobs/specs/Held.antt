@@ -7,7 +7,7 @@ use lib.ListN.{length, drop}
 use Rattle.definitions.specs.Lists.{if_then_else_, nth, below}
 use Rattle.definitions.specs.Limits.{document01}
 use Rattle.definitions.specs.Job.{Edge, Job, jobHeadOf, incoming, outgoing}
-use Rattle.definitions.proofs.Facts.{JobFacts}
+use Rattle.definitions.specs.Facts.{JobFacts}
 use Rattle.orders.specs.Edges.{edgeIn}
 use Rattle.orders.specs.Order.{Arranged}
 use Rattle.orders.specs.Links.{Run, outStartAt, inStartAt, orderAt, linksSize}

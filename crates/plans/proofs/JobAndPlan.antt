@@ -8,7 +8,7 @@ use Rattle.definitions.specs.Limits.{document01}
 use Rattle.definitions.specs.Text.{Result, good, bad, andThen}
 use Rattle.definitions.specs.Job.{Job}
 use Rattle.definitions.specs.Plan.{Plan, readPlan}
-use Rattle.definitions.proofs.Facts.{PlanFacts}
+use Rattle.definitions.specs.Facts.{PlanFacts}
 use Rattle.definitions.proofs.Reading.{andThen-good, plan-facts}
 use Rattle.text.specs.declared.Step.{Step}
 use Rattle.text.specs.declared.Step.the-variants.{Next, Refused}

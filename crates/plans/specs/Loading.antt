@@ -16,7 +16,7 @@ use Rattle.heads.specs.Layout.{bestAt, worstAt, lineAt, farAt}
 use Rattle.jobs.specs.Held.{jobIn, LinkedOut}
 use Rattle.jobs.specs.Loading.{jobFrom}
 use Rattle.plans.specs.Lines.{rowReplicas, linesIn, Standing}
-use Rattle.definitions.proofs.Facts.{PlanFacts}
+use Rattle.definitions.specs.Facts.{PlanFacts}
 
 -- The line at a, with the job's number of replicas.
 abbrev pub lineIn : ℕ → List ℕ → Line

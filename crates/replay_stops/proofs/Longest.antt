@@ -16,7 +16,7 @@ use Rattle.definitions.specs.Times.{never, least, Copy, Outcome, walk, copiesOf
 use Rattle.definitions.specs.Replay.{replay, replayText}
 use Rattle.definitions.specs.Tools.{fitting, replayed, replayAnswer, printed, replayPrinted}
 use Rattle.definitions.proofs.Lists.{in-append, in-map}
-use Rattle.definitions.proofs.Facts.{Ordered}
+use Rattle.definitions.specs.Facts.{Ordered}
 use Rattle.definitions.proofs.Reading.{andThen-good, job-facts, plan-facts}
 use Rattle.console.proofs.Shown.{refusal-most}
 use Rattle.rounds.proofs.Longest.{text-most}

@@ -11,12 +11,12 @@ use Rattle.definitions.specs.Lists.{if_then_else_, nth, In, distinct}
 use Rattle.definitions.specs.Limits.{document01}
 use Rattle.definitions.specs.Job.{Edge, Job, runTime, incoming}
 use Rattle.definitions.specs.Plan.{Replica, Line, processorsOf}
-use Rattle.definitions.specs.Times.{Time, tick, later, after, Copy, Outcome, outcome, times, ready, finish, walk, copiesOf, copies, earlies, lates}
+use Rattle.definitions.specs.Times.{Time, tick, later, after, Copy, Outcome, outcome, times, ready, finish, walk, copiesOf, copies, earlies, lates, copyOf}
 use Rattle.definitions.specs.Planner.{tickOf}
 use Rattle.definitions.specs.Refusals.{doubledTasks, replicasOf, ticksAgree}
 use Rattle.definitions.proofs.Lists.{both, both-true, in-append, map-same}
-use Rattle.definitions.proofs.Tasks.{copyOf}
-use Rattle.definitions.proofs.Bounds.{Bounded, PlacedWithin, least-within, largest-within, finish-most}
+use Rattle.definitions.specs.Claims.{PlacedWithin}
+use Rattle.definitions.proofs.Bounds.{Bounded, least-within, largest-within, finish-most}
 use Rattle.definitions.proofs.Guarantee.{same-times, times-same}
 use Rattle.heads.specs.Layout.{lineAt, rowAt, processorAt, earlyAt, lateAt, timeAt}
 use Rattle.jobs.specs.Held.{jobIn, JobHeld}

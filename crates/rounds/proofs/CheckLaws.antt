@@ -11,11 +11,10 @@ use lib.Dec.{ltb, leb}
 use lib.ListN.{length, take, drop}
 use Rattle.definitions.specs.Lists.{if_then_else_, nth, In, keep, distinct}
 use Rattle.definitions.specs.Job.{Job}
-use Rattle.definitions.specs.Plan.{Line, processorsOf, descends}
+use Rattle.definitions.specs.Plan.{Line, processorsOf, descends, lineTasks}
 use Rattle.definitions.specs.Refusals.{doubledTasks}
 use Rattle.definitions.proofs.Lists.{neither, neither-false, append-left, append-right, in-append, apart-head, head-apart, map-in, keep-in}
-use Rattle.definitions.proofs.Facts.{Ordered, LineFacts}
-use Rattle.definitions.proofs.Tasks.{lineTasks}
+use Rattle.definitions.specs.Facts.{Ordered, LineFacts}
 use Rattle.heads.specs.Layout.{rowAt, processorAt, earlyAt, lateAt, replicaEnd}
 use Rattle.jobs.specs.Held.{jobIn}
 use Rattle.plans.specs.Lines.{rowReplicas, linesIn}

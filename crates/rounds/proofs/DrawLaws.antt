@@ -10,10 +10,9 @@ use lib.Dec.{eqb, ltb}
 use lib.ListN.{length}
 use Rattle.definitions.specs.Lists.{if_then_else_, In, nth, keep, all, distinct, countFrom, below}
 use Rattle.definitions.specs.Job.{Edge, Job, incoming}
-use Rattle.definitions.specs.Times.{Time, tick, later, sooner, after, least, largest, Copy, Outcome, outcome, ofTask, ready, arrival, dataReady, start, finish, walk, copiesOf}
+use Rattle.definitions.specs.Times.{Time, tick, later, sooner, after, least, largest, Copy, Outcome, outcome, ofTask, ready, arrival, dataReady, start, finish, walk, copiesOf, copyOf}
 use Rattle.definitions.specs.Planner.{tickOf, Waiting, waitingFrom, freeTasks, ranked, criticalTask, trial, goesBefore, chosen, replicas, place}
 use Rattle.definitions.proofs.Lists.{map-same, apart-head, in-below, nth-below}
-use Rattle.definitions.proofs.Tasks.{copyOf}
 use Rattle.definitions.proofs.Chosen.{chosen-count}
 use Rattle.definitions.proofs.Placing.{greatest-in}
 use Rattle.rounds.specs.Schedule.{choiceOf}

@@ -15,10 +15,10 @@ use Rattle.definitions.specs.Lists.{if_then_else_, In, nth, keep, all, has, bel
 use Rattle.definitions.specs.Limits.{document01}
 use Rattle.definitions.specs.Job.{Edge, Job, runTime, delay, incoming}
 use Rattle.definitions.specs.Plan.{Replica}
-use Rattle.definitions.specs.Times.{tick, later, after, Outcome, ready, arrival, dataReady, start, stopTime, finish}
+use Rattle.definitions.specs.Times.{tick, later, after, Outcome, ready, arrival, dataReady, start, stopTime, finish, copyOf}
 use Rattle.definitions.specs.Planner.{tickOf, Waiting, freeTasks, ranked, scale, topLevel, trial, replicas, place, planFor}
 use Rattle.definitions.proofs.Lists.{both, in-map, in-keep, map-same, map-keep, in-append, append-left, append-right, in-below, all-in}
-use Rattle.definitions.proofs.Tasks.{copyOf, in-incoming}
+use Rattle.definitions.proofs.Tasks.{in-incoming}
 use Rattle.definitions.proofs.Placing.{placed-count}
 use Rattle.heads.specs.Layout.{memorySize, jobSize, levelAt, lineAt, blockedAt, priorityAt, rowAt, farAt, processorAt, earlyAt, lateAt, timeAt, replicaEnd}
 use Rattle.jobs.specs.Held.{jobIn}

@@ -15,7 +15,7 @@ use Rattle.definitions.specs.Stops.{Stop}
 use Rattle.definitions.specs.Times.{ready, walk, copies}
 use Rattle.definitions.specs.Replay.{replay}
 use Rattle.definitions.proofs.Lists.{in-append, nth-in}
-use Rattle.definitions.proofs.Facts.{LineFacts, Ordered}
+use Rattle.definitions.specs.Facts.{LineFacts, Ordered}
 use Rattle.definitions.proofs.Doubled.{rising}
 use Rattle.heads.specs.Layout.{jobSize, lineAt, rowAt, farAt, processorAt}
 use Rattle.jobs.specs.Held.{jobIn, JobHeld}

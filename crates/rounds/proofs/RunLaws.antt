@@ -15,12 +15,12 @@ use Rattle.definitions.specs.Lists.{if_then_else_, nth, below, In}
 use Rattle.definitions.specs.Limits.{document01}
 use Rattle.definitions.specs.Job.{Job, runTime, incoming}
 use Rattle.definitions.specs.Stops.{Stop}
-use Rattle.definitions.specs.Times.{tick, never, later, after, least, largest, Copy, Outcome, outcome, ofTask, ready, arrival, dataReady, start, stopTime, unlessStopped, finish, walk, copiesOf}
+use Rattle.definitions.specs.Times.{tick, never, later, after, least, largest, Copy, Outcome, outcome, ofTask, ready, arrival, dataReady, start, stopTime, unlessStopped, finish, walk, copiesOf, copyOf}
 use Rattle.definitions.specs.Planner.{tickOf, trial}
-use Rattle.definitions.specs.Claims.{Within}
+use Rattle.definitions.specs.Claims.{Within, PlacedWithin}
 use Rattle.definitions.proofs.Lists.{map-same, map-in, in-keep, below-in}
-use Rattle.definitions.proofs.Tasks.{in-incoming, copyOf}
-use Rattle.definitions.proofs.Bounds.{weaker, PlacedWithin, trial-most}
+use Rattle.definitions.proofs.Tasks.{in-incoming}
+use Rattle.definitions.proofs.Bounds.{weaker, trial-most}
 use Rattle.heads.specs.Layout.{jobSize, inHeadAt, inNextAt, lineAt, rowAt, processorAt, earlyAt, lateAt}
 use Rattle.jobs.specs.Held.{runAt, jobIn, JobHeld}
 use Rattle.ticks.specs.Cells.{neverCell, timeIn, Small}

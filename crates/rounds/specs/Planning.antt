@@ -10,10 +10,9 @@ use Rattle.definitions.specs.Lists.{nth, below, keep}
 use Rattle.definitions.specs.Limits.{document01}
 use Rattle.definitions.specs.Job.{Edge, Job, incoming}
 use Rattle.definitions.specs.Plan.{Replica}
-use Rattle.definitions.specs.Times.{Time, tick, after, least, Outcome, ready, finish}
+use Rattle.definitions.specs.Times.{Time, tick, after, least, Outcome, ready, finish, copyOf}
 use Rattle.definitions.specs.Planner.{tickOf, greatestOf, Waiting, waitingFrom, scale, topLevel, trial, chosen, place, planFor}
 use Rattle.rounds.specs.Walks.{edgeOf}
-use Rattle.definitions.proofs.Tasks.{copyOf}
 use Rattle.heads.specs.Layout.{outNextAt, levelAt, lineAt, blockedAt, priorityAt, rowAt, farAt, processorAt, earlyAt, lateAt, replicaEnd}
 use Rattle.jobs.specs.Held.{chain, jobIn, JobStands, LinkedOut}
 use Rattle.rounds.specs.Schedule.{choiceOf, topIn, FarFilled, LevelsFilled, ShortTo}

@@ -12,7 +12,7 @@ use Rattle.definitions.specs.Stops.{Stop, readStops}
 use Rattle.definitions.specs.Times.{least, Copy, Outcome, ready, stopTime, walk, copiesOf}
 use Rattle.definitions.specs.Replay.{replay, firstFinish, firstBox, replayText}
 use Rattle.definitions.specs.Tools.{fitting}
-use Rattle.definitions.proofs.Bounds.{PlacedWithin}
+use Rattle.definitions.specs.Claims.{PlacedWithin}
 use Rattle.heads.specs.Layout.{lineAt, rowAt, farAt, processorAt}
 use Rattle.jobs.specs.Held.{jobIn}
 use Rattle.rounds.specs.Schedule.{lineTicks}

@@ -5,7 +5,7 @@ ghost use Prim.Native.Nat.{ℕ, suc, _<_};
 ghost use lib.ListN.{length};
 ghost use Rattle.definitions.specs.Lists.{nth};
 ghost use Rattle.definitions.specs.Times.{unlessStopped};
-ghost use Rattle.definitions.proofs.Facts.{Ordered};
+ghost use Rattle.definitions.specs.Facts.{Ordered};
 ghost use Rattle.jobs.specs.Held.{jobIn};
 ghost use Rattle.ticks.specs.Cells.{timeIn, Small};
 ghost use Rattle.plans.specs.Lines.{Standing};

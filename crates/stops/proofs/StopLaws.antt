@@ -16,7 +16,7 @@ use Rattle.definitions.specs.Text.{Reader, found, refused, next, return, due, f
 use Rattle.definitions.specs.Job.{Job}
 use Rattle.definitions.specs.Stops.{Stop, notAfter, stopLine, stopRule, readStops}
 use Rattle.definitions.specs.Times.{tick, never, stopTime}
-use Rattle.definitions.proofs.Facts.{afterLast}
+use Rattle.definitions.specs.Facts.{afterLast}
 use Rattle.definitions.proofs.Lists.{last-of}
 use Rattle.definitions.proofs.Reading.{next-found}
 use Rattle.text.specs.declared.Step.{Step}

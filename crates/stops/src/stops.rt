@@ -8,7 +8,7 @@ ghost use Rattle.definitions.specs.Limits.{document01};
 ghost use Rattle.definitions.specs.Text.{linesToEnd, ended};
 ghost use Rattle.definitions.specs.Job.{Job};
 ghost use Rattle.definitions.specs.Stops.{Stop, stopLine, stopRule};
-ghost use Rattle.definitions.proofs.Facts.{afterLast};
+ghost use Rattle.definitions.specs.Facts.{afterLast};
 ghost use Rattle.ticks.specs.Cells.{neverCell};
 ghost use Rattle.stops.specs.Loading.{StopsLoaded};
 use text::Step;
