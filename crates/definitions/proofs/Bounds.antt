@@ -22,6 +22,7 @@ use Rattle.definitions.specs.Claims.{Within, AllWithin, PlacedWithin, pl
 use Rattle.definitions.proofs.Lists.{both, append-left, append-right, in-map, map-in, in-keep, keep-length, fits, distinct-keep, length-count, in-below, NumbersMost, nth-most, sum-most, greatest-most}
 use Rattle.definitions.specs.Facts.{JobFacts, Fed, Ordered, Apart}
 use Rattle.definitions.proofs.Tasks.{in-incoming, in-outgoing, in-task}
+use Rattle.definitions.proofs.Ready.{first-ready}
 use Rattle.definitions.proofs.Stopping.{stopped}
 use Rattle.definitions.proofs.Guarantee.{accepted-facts, same-times}
 
@@ -115,7 +116,7 @@ Repeats w ns = (n : Line) → In n ns → (p : ℕ) → often p (processorsOf n)
 
 ready-within : (j : Job) (b p : ℕ) (ds : List Outcome) → PlacedWithin j b ds → Within b (ready j p ds)
 unfolding ready
-ready-within j b p [] h = omega arith
+ready-within j b p [] h = rw (first-ready j p) (omega arith)
 ready-within j b p (d ∷ ds) h = by (eqb (d .processor) p) (ready-within j b p ds (λ x i. h x (inr i)))
   where
     by : (t : Bool) → Within b (ready j p ds) → Within b (if t then d .time else ready j p ds)

@@ -19,6 +19,7 @@ use Rattle.definitions.specs.Refusals.{doubledTasks, sameTimes, ticksAgr
 use Rattle.definitions.specs.Replay.{replay, firstFinish, roundEnd}
 use Rattle.definitions.proofs.Lists.{both, both-true, passed, in-some, append-left, append-right, map-in, in-any, in-keep, keep-in, keep-none, has-not, in-below, spare, full}
 use Rattle.definitions.specs.Facts.{Ordered, Apart, PlanFacts}
+use Rattle.definitions.proofs.Ready.{first-ready}
 use Rattle.definitions.proofs.Stopping.{stopped}
 
 -- Between early and late --------------------------------------------------------------------------------------
@@ -116,7 +117,7 @@ module _ (j : Job) (stops : List Stop) where
 
   ready-b : (p : ℕ) {cs : List Copy} {es ls fs : List Outcome} → Beside cs es ls fs → Between (free p) (ready j p es) (ready j p ls) (ready j p fs)
   unfolding ready
-  ready-b p none = done (omega arith)
+  ready-b p none = rw (first-ready j p) (done (omega arith))
   ready-b p (next {c = c} {e = e} {l = l} {f = f} b r) = by (eqb (c .processor) p) refl (ready-b p r)
     where
       by : (a : Bool) → eqb (c .processor) p ≡ a → {e′ l′ f′ : Time} → Between (free p) e′ l′ f′

@@ -1,6 +1,7 @@
 pub mod Lists
 pub mod EdgeOrder
 pub mod Tasks
+pub mod Ready
 pub mod Doubled
 pub mod Stopping
 pub mod Circle

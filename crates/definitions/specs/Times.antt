@@ -84,7 +84,7 @@ unlessStopped (tick s) (tick x) = if leb x s then tick x else never
 
 module _ (j : Job) where
   -- "With all boxes ready at 0".
-  abbrev pub firstReady : ℕ → Time
+  unfoldable pub firstReady : ℕ → Time
   firstReady p = tick 0
 
   -- "A box's two ready ticks become the two finishes of its newest copy". What is placed stands newest first.

@@ -10,7 +10,7 @@ use Rattle.definitions.specs.Text.{firstOf, digits, exactly, number, num
 use Rattle.definitions.specs.Job.{Job, runTime, delay, incoming, outgoing, edgeOrder, preceded, remaining, circular, jobHead, jobHeadRule, runRule, delayRule, edgeLine, edgeRule, jobLines, readJob}
 use Rattle.definitions.specs.Plan.{Line, Plan, triples, descends, planHead, planHeadRule, strays, planLine, planLineRule, planLines, readPlan, replicaNumbers, planLinesText, planText}
 use Rattle.definitions.specs.Stops.{stopLine, stopRule, readStops}
-use Rattle.definitions.specs.Times.{least, largest, ofTask, ready, arrival, dataReady, start, stopTime, finish, walk, copies, earlies, lates, exits, end, bestEnd, worstEnd}
+use Rattle.definitions.specs.Times.{least, largest, ofTask, firstReady, ready, arrival, dataReady, start, stopTime, finish, walk, copies, earlies, lates, exits, end, bestEnd, worstEnd}
 use Rattle.definitions.specs.Refusals.{doubledTasks, replicasOf, sameTimes, ticksAgree, endsAgree, planRefusal}
 use Rattle.definitions.specs.Planner.{greatestOf, waitingFrom, scaledRun, totalDelay, raised, settled, bottomLevels, largestDelay, topLevel, freeTasks, ranked, criticalTask, trial, chosen, replicas, place, planFor}
 use Rattle.definitions.specs.Replay.{replay, firstFinish, lowest, firstBox, roundEnd, resultLines, replayText}
@@ -87,7 +87,7 @@ module _ (l : Limits) where
 unfoldable pub planPrinted : List ℕ → List ℕ
 unfolding countFrom keep any all sameNumbers distinct sum greatest firstOf digits exactly number numbers line widthFrom width lowDigits
     decimal numbersText lineText lines linesToEnd runTime delay incoming outgoing edgeOrder preceded remaining circular jobHead jobHeadRule
-    runRule delayRule edgeLine edgeRule jobLines readJob replicaNumbers planLinesText planText least largest ofTask ready arrival dataReady
+    runRule delayRule edgeLine edgeRule jobLines readJob replicaNumbers planLinesText planText least largest ofTask firstReady ready arrival dataReady
     start stopTime finish walk exits end copies earlies lates bestEnd worstEnd greatestOf waitingFrom scaledRun totalDelay raised settled
     bottomLevels largestDelay topLevel freeTasks ranked criticalTask trial chosen replicas place planFor planned
 planPrinted job = printed document01 (andThen (readJob document01 job) (λ j. good (planned document01 j)))
@@ -97,7 +97,7 @@ unfoldable pub replayPrinted : List ℕ → List ℕ → List ℕ → List ℕ
 unfolding countFrom keep any all sameNumbers distinct sum greatest firstOf digits exactly number numbers line widthFrom width lowDigits
     decimal numbersText lineText lines linesToEnd runTime delay incoming outgoing edgeOrder preceded remaining circular jobHead jobHeadRule
     runRule delayRule edgeLine edgeRule jobLines readJob triples descends planHead planHeadRule strays planLine planLineRule planLines
-    readPlan stopLine stopRule readStops least largest ofTask ready arrival dataReady start stopTime finish walk exits end copies replay
+    readPlan stopLine stopRule readStops least largest ofTask firstReady ready arrival dataReady start stopTime finish walk exits end copies replay
     firstFinish lowest firstBox roundEnd resultLines replayText replayed
 replayPrinted job plan stops = printed document01 (replayed document01 job plan stops)
 
@@ -112,6 +112,6 @@ unfoldable pub checkNumber : List ℕ → List ℕ → ℕ × List ℕ
 unfolding countFrom keep any all sameNumbers distinct sum greatest firstOf digits exactly number numbers line widthFrom width lowDigits
     decimal numbersText lineText lines linesToEnd runTime delay incoming outgoing edgeOrder preceded remaining circular jobHead jobHeadRule
     runRule delayRule edgeLine edgeRule jobLines readJob triples descends planHead planHeadRule strays planLine planLineRule planLines
-    readPlan least largest ofTask ready arrival dataReady start stopTime finish walk exits end copies earlies lates bestEnd worstEnd
+    readPlan least largest ofTask firstReady ready arrival dataReady start stopTime finish walk exits end copies earlies lates bestEnd worstEnd
     doubledTasks replicasOf sameTimes ticksAgree endsAgree planRefusal verdict
 checkNumber job plan = numbered (verdict document01 job plan)

@@ -19,6 +19,7 @@ use Rattle.definitions.specs.Times.{tick, later, after, Outcome, ready, arrival
 use Rattle.definitions.specs.Planner.{tickOf, Waiting, freeTasks, ranked, scale, topLevel, trial, replicas, place, planFor}
 use Rattle.definitions.proofs.Lists.{both, in-map, in-keep, map-same, map-keep, in-append, append-left, append-right, in-below, all-in}
 use Rattle.definitions.proofs.Tasks.{in-incoming}
+use Rattle.definitions.proofs.Ready.{first-ready}
 use Rattle.definitions.proofs.Placing.{placed-count}
 use Rattle.heads.specs.Layout.{memorySize, jobSize, levelAt, lineAt, blockedAt, priorityAt, rowAt, farAt, processorAt, earlyAt, lateAt, timeAt, replicaEnd}
 use Rattle.jobs.specs.Held.{jobIn}
@@ -100,7 +101,7 @@ placed-come rooms late w (suc k) b mem g h d i =
 
 pub ready-comes : (j : Job) (p b : ℕ) (ds : List Outcome) → AllCome b ds → Comes b (ready j p ds)
 unfolding ready
-ready-comes j p b [] h = (0, refl, omega arith)
+ready-comes j p b [] h = (0, first-ready j p, omega arith)
 ready-comes j p b (d ∷ ds) h = by (eqb (d .processor) p) (ready-comes j p b ds (λ x i. h x (inr i)))
   where
     by : (a : Bool) → Comes b (ready j p ds) → Comes b (if a then d .time else ready j p ds)

@@ -17,6 +17,7 @@ use Rattle.definitions.specs.Times.{tick, largest, ready}
 use Rattle.definitions.specs.Planner.{waitingFrom, bottomLevels, planFor}
 use Rattle.definitions.proofs.Lists.{both, keep-length, keep-every, nth-below, length-count, in-below}
 use Rattle.definitions.proofs.Tasks.{in-incoming}
+use Rattle.definitions.proofs.Ready.{first-ready}
 use Rattle.definitions.proofs.BottomLevels.{length-bottom-levels}
 use Rattle.heads.specs.Layout.{memorySize, jobSize, inHeadAt, inNextAt, levelAt, lineAt, blockedAt, priorityAt, rowAt, farAt}
 use Rattle.orders.specs.Edges.{edgeIn}
@@ -204,12 +205,12 @@ module _ {rooms : ℕ} {mem : List ℕ} (h : JobHeld rooms mem) (line : (t : ℕ
 -- All clocks are at 0.
 pub outset-clocks : {j : Job} {clocks : Clocks} → j .processors ≤ 16 → clocks .early ≡ replicate 16 0 → clocks .late ≡ replicate 16 0 → ClocksHeld clocks j [] []
 unfolding ready
-outset-clocks h e l =
+outset-clocks {j} h e l =
     record {
       early-size = rw e (length-replicate {A = ℕ} 16 0);
       late-size = rw l (length-replicate {A = ℕ} 16 0);
-      early-ready = λ p g. rw e (ap tick (getD-replicate 16 p 0 0 (omega arith)));
-      late-ready = λ p g. rw l (ap tick (getD-replicate 16 p 0 0 (omega arith)));
+      early-ready = λ p g. rw (e, first-ready j p) (ap tick (getD-replicate 16 p 0 0 (omega arith)));
+      late-ready = λ p g. rw (l, first-ready j p) (ap tick (getD-replicate 16 p 0 0 (omega arith)));
     }
 
 -- Links, levels, largest delays, cleared tasks and counted edges, one after the other.

@@ -16,6 +16,7 @@ use Rattle.definitions.specs.Times.{ready, walk, copies}
 use Rattle.definitions.specs.Replay.{replay}
 use Rattle.definitions.proofs.Lists.{in-append, nth-in}
 use Rattle.definitions.specs.Facts.{LineFacts, Ordered}
+use Rattle.definitions.proofs.Ready.{first-ready}
 use Rattle.definitions.proofs.Doubled.{rising}
 use Rattle.heads.specs.Layout.{jobSize, lineAt, rowAt, farAt, processorAt}
 use Rattle.jobs.specs.Held.{jobIn, JobHeld}
@@ -137,7 +138,7 @@ round-first stops {mem} s =
       running = record {
         standing = s;
         size = length-replicate {A = ℕ} 16 0;
-        ready-of = λ p h. rw (getD-replicate {A = ℕ} 16 p 0 0 (omega arith));
+        ready-of = λ p h. rw (getD-replicate {A = ℕ} 16 p 0 0 (omega arith), first-ready (jobIn mem) p);
         ready-small = λ p h. rw (getD-replicate {A = ℕ} 16 p 0 0 (omega arith)) (inr (omega arith));
         within = λ d i. absurd i;
       };
