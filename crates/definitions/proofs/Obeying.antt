@@ -5,18 +5,18 @@ use mathlib.Core.List.{List, [], _∷_, _++_, map, map-append, map-map, append-n
 use mathlib.Core.Bool.{true, false}
 use Prim.Native.Nat.{ℕ, _+_, _<_}
 use native.Mathlib.Omega.{arith}
-use lib.Dec.{ltb}
 use lib.ListN.{length, length-map}
-use borrow.Author.Tests.{ne-eqb, ltb-false, le-ltb}
+use borrow.Author.Tests.{ne-eqb, le-ltb}
 use Rattle.definitions.specs.Lists.{In, keep, distinct, below}
 use Rattle.definitions.specs.Job.{Edge, Job, incoming}
 use Rattle.definitions.specs.Plan.{Replica, Line, Plan, processorsOf, lineTasks, descends}
 use Rattle.definitions.specs.Times.{Time, tick, least, largest, Copy, Outcome, outcome, ofTask, times, ready, feeding, arrival, dataReady, start, stopTime, finish, walk, copiesOf, copies, earlies, lates, end, bestEnd, worstEnd, copyOf}
 use Rattle.definitions.specs.Obeys.{writtenOutcome, written, Rising, equation, LineObeys, Obeys}
 use Rattle.definitions.specs.Refusals.{replicasOf, sameTimes, ticksAgree, planRefusal}
-use Rattle.definitions.proofs.Lists.{both, both-true, neither, neither-false, map-same, apart-head, head-apart, fits, length-count, in-below, below-in, distinct-count}
+use Rattle.definitions.proofs.Lists.{both, both-true, neither-false, in-map, map-same, apart-head, head-apart, fits, length-count, in-below, below-in, distinct-count}
 use Rattle.definitions.specs.Facts.{LineFacts, Ordered, Apart}
 use Rattle.definitions.proofs.Tasks.{SameTasks, tasks-more}
+use Rattle.definitions.proofs.Doubled.{rising, line-facts}
 use Rattle.definitions.proofs.Guarantee.{same-times, each-task, times-same, accepted-facts, facts-accepted}
 
 -- Lines and those before them ---------------------------------------------------------------------------------
@@ -60,17 +60,12 @@ module _ (j : Job) (choose : List Time → Time) (d : Outcome) (placed : List Ou
 
 -- Processors that rise -------------------------------------------------------------------------------------------
 
-rising : (ps : List ℕ) → descends ps ≡ false → distinct ps ≡ true → Rising ps
-unfolding descends
-rising [] h d = tt
-rising (p ∷ []) h d = (λ q i. absurd i, tt)
-rising (p ∷ q ∷ ps) h d =
-    let (a, b) = neither (ltb q p) (descends (q ∷ ps)) h in
-    let (n, d′) = apart-head p (q ∷ ps) d in
-    let r = rising (q ∷ ps) b d′ in
-    let m : p ≡ q → ⊥ = λ e. n (inl (sym e)) in
-    let k = ltb-false q p a in
-    (λ x. ⊎-elim (λ e. omega arith) (λ i. omega (arith, r .0 x i)), r)
+rise : (ps : List ℕ) → descends ps ≡ false → distinct ps ≡ true → Rising ps
+rise [] h d = tt
+rise (p ∷ ps) h d =
+    let (f, g) = rising p ps h in
+    let (n, d′) = apart-head p ps d in
+    ((λ q i. let m : p ≡ q → ⊥ = λ e. n (rw e i) in omega (arith, f q i)), rise ps g d′)
 
 rise-apart : (ps : List ℕ) → Rising ps → (descends ps ≡ false) × (distinct ps ≡ true)
 unfolding descends distinct
@@ -196,7 +191,7 @@ module _ (j : Job) where
       after-predecessors = λ d i. back (d .from) (o .fed d i);
       replica-count = o .width;
       processors-known = o .processors-below;
-      processors-rise = rising (processorsOf n) (o .ascends) (a n (inl refl));
+      processors-rise = rise (processorsOf n) (o .ascends) (a n (inl refl));
       early-tick = e;
       late-tick = l;
     },
@@ -220,25 +215,23 @@ module _ (j : Job) where
       } in
       ((o, os), λ m. ⊎-elim (λ q. rw (← q) apart) (a m), (h .early-tick, es), (h .late-tick, ls))
 
-  -- Lines in order have different tasks.
-  later-new : (ns : List Line) (seen : List ℕ) → Ordered j seen ns → (u : ℕ) → In u seen → In u (lineTasks ns) → ⊥
-  later-new (n ∷ ns) seen (o, os) u k (inl e) = o .new (rw e k)
-  later-new (n ∷ ns) seen (o, os) u k (inr i) = later-new ns (n .task ∷ seen) os u (inr k) i
-
+  -- Lines in order have different tasks of the job.
   tasks-distinct : (ns : List Line) (seen : List ℕ) → Ordered j seen ns → distinct (lineTasks ns) ≡ true
   unfolding distinct
   tasks-distinct [] seen o = refl
-  tasks-distinct (n ∷ ns) seen (o, os) = head-apart (n .task) (lineTasks ns) (later-new ns (n .task ∷ seen) os (n .task) (inl refl)) (tasks-distinct ns (n .task ∷ seen) os)
+  tasks-distinct (n ∷ ns) seen (o, os) =
+      head-apart (n .task) (lineTasks ns)
+      (λ i. let (m, k, e) = in-map (λ n. n .task) (n .task) ns i in let (before, f, g) = line-facts j (n .task ∷ seen) ns os m k in f .new (g (m .task) (inl (sym e))))
+      (tasks-distinct ns (n .task ∷ seen) os)
 
-  tasks-below : (ns : List Line) (seen : List ℕ) → Ordered j seen ns → (u : ℕ) → In u (lineTasks ns) → u < j .tasks
-  tasks-below (n ∷ ns) seen (o, os) u (inl e) = rw (← e) (o .task-below)
-  tasks-below (n ∷ ns) seen (o, os) u (inr i) = tasks-below ns (n .task ∷ seen) os u i
+  tasks-below : (ns : List Line) → Ordered j [] ns → (u : ℕ) → In u (lineTasks ns) → u < j .tasks
+  tasks-below ns o u i = let (n, k, e) = in-map (λ n. n .task) u ns i in rw (← e) (line-facts j [] ns o n k .1 .task-below)
 
   -- A line for each task: as many lines as tasks.
   line-count : (ns : List Line) → Ordered j [] ns → ((t : ℕ) → t < j .tasks → In t (lineTasks ns)) → length ns ≡ j .tasks
   line-count ns o h =
       let tasks = below (j .tasks) in
-      let few = fits (lineTasks ns) tasks (tasks-distinct ns [] o) (λ u i. below-in (j .tasks) u (tasks-below ns [] o u i)) in
+      let few = fits (lineTasks ns) tasks (tasks-distinct ns [] o) (λ u i. below-in (j .tasks) u (tasks-below ns o u i)) in
       let many = fits tasks (lineTasks ns) (distinct-count 0 (j .tasks)) (λ u i. h u (in-below (j .tasks) u i)) in
       omega (arith, length-map ns (λ n. n .task), length-count 0 (j .tasks))
 
