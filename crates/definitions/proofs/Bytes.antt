@@ -12,7 +12,7 @@ use Rattle.definitions.specs.Plan.{Plan}
 use Rattle.definitions.specs.Stops.{Stop}
 use Rattle.definitions.specs.Times.{tick, never, Outcome}
 use Rattle.definitions.specs.Replay.{replay, firstFinish, firstBox, roundEnd, resultLine, resultLines, endLine, replayText}
-use Rattle.definitions.specs.Tools.{replayed}
+use Rattle.definitions.specs.Answers.{replayed}
 use Rattle.definitions.specs.Claims.{Done, resultsText, undoneText, Read}
 use Rattle.definitions.proofs.Lists.{in-below}
 

@@ -11,7 +11,7 @@ use lib.ListN.{length, take, length-take}
 use borrow.Author.Tests.{eqb-true}
 use Rattle.definitions.specs.Lists.{if_then_else_, In}
 use Rattle.definitions.specs.Limits.{Limits, document01}
-use Rattle.definitions.specs.Text.{widthFrom, width, good}
+use Rattle.definitions.specs.Text.{widthFrom, width, Result, good, bad}
 use Rattle.definitions.specs.Job.{Job, readJob}
 use Rattle.definitions.specs.Plan.{Line, Plan, readPlan, planText}
 use Rattle.definitions.specs.Stops.{stopsText}
@@ -20,8 +20,8 @@ use Rattle.definitions.specs.Obeys.{Obeys}
 use Rattle.definitions.specs.Refusals.{doubledTasks, planRefusal}
 use Rattle.definitions.specs.Planner.{Waiting, waitingFrom, bottomLevels, ranked, trial, planFor}
 use Rattle.definitions.specs.Replay.{replay, roundEnd}
-use Rattle.definitions.specs.Tools.{accepted, doubled, rejected, verdictOf, verdict, planned}
-use Rattle.definitions.specs.Claims.{haltingOf, haltedReplay, placedAfter, PlanWithin, planTicks, replayTicks, lineLength, planLength, Roomy, EdgesAscend, OneOrder, Kept, Quiet, LateStops, Doubled, KeptBytes, DoubledBytes, AcceptedObeys, OwnAccepted, TicksFit, LevelsFit, Bears, Breaks, Claim, PlacedWithin}
+use Rattle.definitions.specs.Answers.{accepted, doubled, rejected, verdictOf, verdictFor, verdict, planned}
+use Rattle.definitions.specs.Claims.{haltingOf, haltedReplay, placedAfter, PlanWithin, planTicks, replayTicks, lineLength, planLength, Roomy, EdgesAscend, OneOrder, Kept, Quiet, LateStops, Doubled, KeptBytes, DoubledBytes, AcceptedObeys, PrintedObeys, OwnAccepted, TicksFit, LevelsFit, Bears, Breaks, Claim, PlacedWithin}
 use Rattle.definitions.proofs.Lists.{in-reverse, in-take}
 use Rattle.definitions.specs.Facts.{JobFacts, Ordered, PlanFacts}
 use Rattle.definitions.proofs.EdgeOrder.{same-order}
@@ -33,7 +33,7 @@ use Rattle.definitions.proofs.Bytes.{same-tick, replayed-read, answer-d
 use Rattle.definitions.proofs.Obeying.{accepted-obeys, obeys-accepted}
 use Rattle.definitions.proofs.Placing.{placed-count, placed-ordered, placed-accepted}
 use Rattle.definitions.proofs.Bounds.{least-within, apart-within, plan-bound, plan-within, replay-within, trial-most, ranked-most}
-use Rattle.definitions.proofs.RoundTrip.{plan-back, plan-length, stops-back, stops-fit}
+use Rattle.definitions.proofs.RoundTrip.{plan-back, plan-only, plan-length, stops-back, stops-fit}
 
 -- The checker's answer ----------------------------------------------------------------------------------------
 
@@ -159,6 +159,24 @@ module _ (l : Limits) (roomy : Roomy l) (j : Job) (facts : JobFacts l j) (p : Pl
   obeys-read : readPlan l j (planText l j p) ≡ good p
   obeys-read = plan-back l roomy j p facts obeys-facts obeys-fits
 
+-- What is accepted was read.
+accepted-read : (l : Limits) (job plan : List ℕ) (j : Job) → readJob l job ≡ good j → verdict l job plan ≡ accepted → (p : Plan) × (readPlan l j plan ≡ good p)
+unfolding verdict
+accepted-read l job plan j h g = by (readPlan l j plan) (rw h at g)
+  where
+    by : (r : Result Plan) → verdictFor l j r ≡ accepted → (p : Plan) × (r ≡ good p)
+    by (good p) g = (p, refl)
+    by (bad n) g = let z : _≡_ {A = ℕ} 0 1 = cc in absurd (omega arith)
+
+pub printed-obey : (l : Limits) → Roomy l → PrintedObeys l
+printed-obey l roomy job j p h =
+    let facts = job-facts l job j h in (
+      λ all a.
+          let (q, r) = accepted-read l job (planText l j p) j h a in
+          rw (plan-only l roomy j facts p q all r) at (accepted-obey l job (planText l j p) j q h r .0 a),
+      λ o. accepted-obey l job (planText l j p) j p h (obeys-read l roomy j facts p o) .1 o,
+    )
+
 -- The planner's own plans -------------------------------------------------------------------------------------
 
 module _ (l : Limits) (j : Job) (facts : JobFacts l j) where
@@ -179,9 +197,7 @@ module _ (l : Limits) (j : Job) (facts : JobFacts l j) where
 pub own-accepted : (l : Limits) → Roomy l → OwnAccepted l
 unfolding planned
 own-accepted l roomy job j h =
-    let facts = job-facts l job j h in
-    let obeys = own-obeys l j facts in
-    accepted-obey l job (planned l j) j (planFor j (j .losses)) h (obeys-read l roomy j facts (planFor j (j .losses)) obeys) .1 obeys
+    printed-obey l roomy job j (planFor j (j .losses)) h .1 (own-obeys l j (job-facts l job j h))
 
 -- The planner's numbers ---------------------------------------------------------------------------------------
 
@@ -271,4 +287,5 @@ claim = (
   edges-ascend document01,
   one-order document01,
   accepted-obey document01,
+  printed-obey document01 roomy01,
 )

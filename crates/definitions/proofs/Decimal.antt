@@ -12,7 +12,8 @@ use lib.ListN.{length, length-append}
 use borrow.Author.Tests.{le-leb, ne-eqb, eq-eqb, ltb-true, ltb-false, eqb-true}
 use Rattle.definitions.specs.Lists.{if_then_else_, In}
 use Rattle.definitions.specs.Limits.{Limits}
-use Rattle.definitions.specs.Text.{found, isDigit, digits, exactly, mark, number, numbers, line, widthFrom, width, lowDigits, decimal, numbersText, lineText}
+use Rattle.definitions.specs.Text.{found, next, return, Reader, isDigit, digits, exactly, mark, number, numbers, line, widthFrom, width, lowDigits, decimal, numbersText, lineText}
+use Rattle.definitions.proofs.Reading.{refused≢found, next-found}
 
 -- Digits ------------------------------------------------------------------------------------------------------
 
@@ -124,20 +125,68 @@ unfolding exactly
 exactly-back [] s = refl
 exactly-back (o ∷ os) s = rw (eq-eqb o o refl) (exactly-back os s)
 
+-- Both are 0, or neither is.
+abbrev Together : ℕ → ℕ → Type 0
+Together k n = (k ≡ 0 → n ≡ 0) × (n ≡ 0 → k ≡ 0)
+
+-- Two marks are the same only together at the end of a line.
+mark-only : (k n : ℕ) (s : List ℕ) (u : Unit {0}) (r : List ℕ) → exactly (mark k ∷ []) (mark n ∷ s) ≡ found u r → (r ≡ s) × Together k n
+unfolding exactly
+mark-only zero zero s u r h = (cc, (λ e. refl, λ e. refl))
+mark-only zero (suc n) s u r h = absurd (refused≢found (rw (ne-eqb (suc n) 0 (λ e. omega arith)) at h))
+mark-only (suc k) zero s u r h = absurd (refused≢found (rw (ne-eqb (suc k) 0 (λ e. omega arith)) at h))
+mark-only (suc k) (suc n) s u r h =
+    let f = rw (ne-eqb (suc k) 0 (λ e. omega arith), ne-eqb (suc n) 0 (λ e. omega arith)) at h in
+    (cc, (λ e. absurd (omega arith), λ e. absurd (omega arith)))
+
 module _ (l : Limits) (least : 1 ≤ l .powers) (most : l .powers ≤ l .digits) where
+  number-marked : (v : ℕ) (vs s : List ℕ) → v < 10 ^ l .powers → number l (numbersText l (v ∷ vs) ++ s) ≡ found v (mark (length vs) ∷ (numbersText l vs ++ s))
+  unfolding numbersText
+  number-marked v vs s h =
+      rw (append-assoc (decimal l v) (mark (length vs) ∷ numbersText l vs) s)
+      (number-back l v (mark (length vs) ∷ (numbersText l vs ++ s)) least most h (mark-ends (length vs) (numbersText l vs ++ s)))
+
   numbers-back : (vs s : List ℕ) → ((v : ℕ) → In v vs → v < 10 ^ l .powers) → numbers l (length vs) (numbersText l vs ++ s) ≡ found vs s
   unfolding numbers numbersText
   numbers-back [] s h = refl
   numbers-back (v ∷ vs) s h =
-      let a : decimal l v ++ mark (length vs) ∷ numbersText l vs ++ s ≡ decimal l v ++ (mark (length vs) ∷ (numbersText l vs ++ s)) = append-assoc (decimal l v) (mark (length vs) ∷ numbersText l vs) s in
-      let b = number-back l v (mark (length vs) ∷ (numbersText l vs ++ s)) least most (h v (inl refl)) (mark-ends (length vs) (numbersText l vs ++ s)) in
-      rw (a, b, exactly-back (mark (length vs) ∷ []) (numbersText l vs ++ s), numbers-back vs s (λ w i. h w (inr i)))
+      rw (number-marked v vs s (h v (inl refl)), exactly-back (mark (length vs) ∷ []) (numbersText l vs ++ s), numbers-back vs s (λ w i. h w (inr i)))
 
   -- A printed line is read back.
   pub line-back : (opening vs s : List ℕ) → ((v : ℕ) → In v vs → v < 10 ^ l .powers) → line l opening (length vs) (lineText l opening vs ++ s) ≡ found vs s
   unfolding line lineText
   line-back opening vs s h =
       rw (append-assoc opening (numbersText l vs) s, exactly-back opening (numbersText l vs ++ s)) (numbers-back vs s h)
+
+  -- It reads as no other line: where a line of some numbers is found, it has these.
+  numbers-step : (k v : ℕ) (vs s ws r : List ℕ) → v < 10 ^ l .powers → numbers l (suc k) (numbersText l (v ∷ vs) ++ s) ≡ found ws r
+      → (next (numbers l k (numbersText l vs ++ s)) (λ us. return (v ∷ us)) ≡ found ws r) × Together k (length vs)
+  unfolding numbers
+  numbers-step k v vs s ws r h g =
+      let t = numbersText l vs ++ s in
+      let others : Unit {0} → Reader (List ℕ) = λ _ t. next (numbers l k t) (λ us. return (v ∷ us)) in
+      let (u, t′, e, f) = next-found (exactly (mark k ∷ []) (mark (length vs) ∷ t)) others ws r (rw (number-marked v vs s h) at g) in
+      let (q, both) = mark-only k (length vs) t u t′ e in
+      (rw q at f, both)
+
+  numbers-only : (k v : ℕ) (vs s ws r : List ℕ) → ((u : ℕ) → In u (v ∷ vs) → u < 10 ^ l .powers)
+      → numbers l (suc k) (numbersText l (v ∷ vs) ++ s) ≡ found ws r → (ws ≡ v ∷ vs) × (r ≡ s)
+  unfolding numbers numbersText
+  numbers-only zero v [] s ws r h g = let f = numbers-step zero v [] s ws r (h v (inl refl)) g .0 in (cc, cc)
+  numbers-only zero v (w ∷ vs) s ws r h g = absurd (omega (arith, numbers-step zero v (w ∷ vs) s ws r (h v (inl refl)) g .1 .0 refl))
+  numbers-only (suc k) v [] s ws r h g = absurd (omega (arith, numbers-step (suc k) v [] s ws r (h v (inl refl)) g .1 .1 refl))
+  numbers-only (suc k) v (w ∷ vs) s ws r h g =
+      let (f, _) = numbers-step (suc k) v (w ∷ vs) s ws r (h v (inl refl)) g in
+      let (us, t, e, f′) = next-found (numbers l (suc k) (numbersText l (w ∷ vs) ++ s)) (λ us. return (v ∷ us)) ws r f in
+      let (p, q) = numbers-only k w vs s us t (λ u i. h u (inr i)) e in
+      (cc, cc)
+
+  pub line-only : (opening : List ℕ) (k v : ℕ) (vs s ws r : List ℕ) → 1 ≤ k → ((u : ℕ) → In u (v ∷ vs) → u < 10 ^ l .powers)
+      → line l opening k (lineText l opening (v ∷ vs) ++ s) ≡ found ws r → (ws ≡ v ∷ vs) × (r ≡ s)
+  unfolding line lineText
+  line-only opening zero v vs s ws r least h g = absurd (omega arith)
+  line-only opening (suc k) v vs s ws r least h g =
+      numbers-only k v vs s ws r h (rw (append-assoc opening (numbersText l (v ∷ vs)) s, exactly-back opening (numbersText l (v ∷ vs) ++ s)) at g)
 
 -- Lengths -----------------------------------------------------------------------------------------------------
 

@@ -23,7 +23,7 @@ use Rattle.definitions.proofs.Tasks.{SameTasks, tasks-more}
 
 -- One thing after another ---------------------------------------------------------------------------------------
 
-refused≢found : {A : Type 0} {n : ℕ} {a : A} {r : List ℕ} → refused n ≡ found a r → ⊥
+pub refused≢found : {A : Type 0} {n : ℕ} {a : A} {r : List ℕ} → refused n ≡ found a r → ⊥
 refused≢found h = let z : _≡_ {A = ℕ} 0 1 = cc in omega arith
 
 bad≢good : {A : Type 0} {n : ℕ} {a : A} → bad n ≡ good a → ⊥
@@ -154,7 +154,7 @@ module _ (l : Limits) where
 
 -- A plan --------------------------------------------------------------------------------------------------------
 
-abbrev planOf : PlanHead → List Line → Plan
+abbrev pub planOf : PlanHead → List Line → Plan
 planOf h ns = record { best = h .best; worst = h .worst; lines = ns }
 
 triples-width : (n : ℕ) (vs : List ℕ) → length vs ≡ 3 * n → length (triples vs) ≡ n

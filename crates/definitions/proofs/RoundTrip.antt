@@ -1,5 +1,5 @@
 -- What is printed as a plan or a stop list is read back, and how long it is.
-use mathlib.Core.Path.{_≡_, refl, ap}
+use mathlib.Core.Path.{_≡_, refl, ap, _∙_}
 use mathlib.Core.Logic.{inl, inr, ⊎-elim}
 use mathlib.Core.List.{List, [], _∷_, _++_, append-assoc, append-nil, getLast?}
 use mathlib.Core.Bool.{false, not, _||_}
@@ -12,15 +12,16 @@ use lib.ListN.{length, length-append}
 use borrow.Author.Tests.{lt-ltb, le-ltb, lt-leb, eq-eqb}
 use Rattle.definitions.specs.Lists.{bytes, In, has}
 use Rattle.definitions.specs.Limits.{Limits}
-use Rattle.definitions.specs.Text.{found, Reader, firstOf, numbersText, lineText, lines, linesToEnd, good, whole}
+use Rattle.definitions.specs.Text.{found, Reader, next, return, firstOf, exactly, line, numbersText, lineText, lines, linesToEnd, good, whole}
 use Rattle.definitions.specs.Job.{Job, incoming, outside}
-use Rattle.definitions.specs.Plan.{Replica, Line, Plan, triples, planHeadOf, planHead, planHeadRule, strays, planLine, planLineRule, planLines, readPlan, replicaNumbers, planLinesText, planText, lineTasks}
+use Rattle.definitions.specs.Plan.{Replica, Line, Plan, triples, lineOf, planHeadOf, planHead, planHeadRule, strays, planLine, planLineRule, planLines, readPlan, replicaNumbers, planLinesText, planText, lineTasks}
 use Rattle.definitions.specs.Stops.{Stop, notAfter, stopLine, stopRule, readStops, stopsText}
-use Rattle.definitions.specs.Claims.{planTicks, fieldLength, lineLength, planLength, Roomy}
+use Rattle.definitions.specs.Claims.{planTicks, fieldLength, lineLength, planLength, Roomy, Printable}
 use Rattle.definitions.proofs.Lists.{neither-false, not-outside, last-of, none-any, map-in, in-has, has-not, in-all}
 use Rattle.definitions.specs.Facts.{JobFacts, LineFacts, Ordered, Ticks, PlanFacts, Ascending, afterLast}
 use Rattle.definitions.proofs.Tasks.{SameTasks, tasks-more}
-use Rattle.definitions.proofs.Decimal.{line-back, width-powers, width-monotone, length-none, length-numbers, length-line}
+use Rattle.definitions.proofs.Reading.{refused≢found, next-found, due-found, rule-found, whole-good, planOf}
+use Rattle.definitions.proofs.Decimal.{line-back, line-only, width-powers, width-monotone, length-none, length-numbers, length-line}
 
 below-true : (n m : ℕ) → n < m → not (ltb n m) ≡ false
 below-true n m h = ap not (lt-ltb n m h)
@@ -97,16 +98,17 @@ module _ (l : Limits) (roomy : Roomy l) (j : Job) (facts : JobFacts l j) where
 
   -- A plan ---------------------------------------------------------------------------------------------------
 
-  head-numbers : (p : Plan) → PlanFacts l j p → (v : ℕ) → In v (headNumbers j p) → v < 10 ^ l .powers
-  head-numbers p f v (inl e) = omega arith
-  head-numbers p f v (inr (inl e)) = omega arith
-  head-numbers p f v (inr (inr (inl e))) = omega arith
-  head-numbers p f v (inr (inr (inr (inl e)))) = omega arith
-  head-numbers p f v (inr (inr (inr (inr (inl e))))) = omega arith
+  head-numbers : (p : Plan) → p .best < 10 ^ l .powers → p .worst < 10 ^ l .powers → (v : ℕ) → In v (headNumbers j p) → v < 10 ^ l .powers
+  head-numbers p best worst v (inl e) = omega arith
+  head-numbers p best worst v (inr (inl e)) = omega arith
+  head-numbers p best worst v (inr (inr (inl e))) = omega arith
+  head-numbers p best worst v (inr (inr (inr (inl e)))) = omega arith
+  head-numbers p best worst v (inr (inr (inr (inr (inl e))))) = omega arith
 
-  plan-head-back : (p : Plan) (s : List ℕ) → PlanFacts l j p → planHead l (lineText l (bytes "PLAN,") (headNumbers j p) ++ s) ≡ found (planHeadOf (headNumbers j p)) s
+  plan-head-back : (p : Plan) (s : List ℕ) → p .best < 10 ^ l .powers → p .worst < 10 ^ l .powers
+      → planHead l (lineText l (bytes "PLAN,") (headNumbers j p) ++ s) ≡ found (planHeadOf (headNumbers j p)) s
   unfolding planHead
-  plan-head-back p s f = rw (line-back l (roomy .some-digit) (roomy .digits-read) (bytes "PLAN,") (headNumbers j p) s (head-numbers p f))
+  plan-head-back p s best worst = rw (line-back l (roomy .some-digit) (roomy .digits-read) (bytes "PLAN,") (headNumbers j p) s (head-numbers p best worst))
 
   plan-head-rule : (p : Plan) → PlanFacts l j p → planHeadRule l j (planHeadOf (headNumbers j p)) ≡ 0
   unfolding planHeadRule firstOf
@@ -126,7 +128,63 @@ module _ (l : Limits) (roomy : Roomy l) (j : Job) (facts : JobFacts l j) where
   unfolding planLines planText
   plan-read p f =
       let r = plan-lines-back [] [] (p .lines) (f .ordered) (f .ticks-most) ((λ t i. i), (λ t i. i)) in
-      rw (plan-head-back p (planLinesText l (p .lines)) f, plan-head-rule p f, rw (f .count) at r)
+      rw (plan-head-back p (planLinesText l (p .lines)) (omega (arith, f .best-most)) (omega (arith, f .worst-most)), plan-head-rule p f, rw (f .count) at r)
+
+  -- Whatever plan is printed: it is read as no other --------------------------------------------------------
+
+  -- The numbers of a line are printed with all their digits.
+  abbrev Printed : Line → Type 0
+  Printed n = (v : ℕ) → In v (n .task ∷ replicaNumbers (n .replicas)) → v < 10 ^ l .powers
+
+  plan-line-only : (n a : Line) (s r : List ℕ) → Printed n → planLine l j (lineText l (bytes "T,") (n .task ∷ replicaNumbers (n .replicas)) ++ s) ≡ found a r
+      → (a ≡ n) × (r ≡ s)
+  unfolding planLine
+  plan-line-only n a s r h g =
+      let k = 1 + 3 * (1 + j .losses) in
+      let vs : List ℕ = replicaNumbers (n .replicas) in
+      let (ws, t, e, f) = next-found (line l (bytes "T,") k (lineText l (bytes "T,") (n .task ∷ vs) ++ s)) (λ vs. return (lineOf vs)) a r g in
+      let (p, q) = line-only l (roomy .some-digit) (roomy .digits-read) (bytes "T,") k (n .task) vs s ws t (omega arith) h e in
+      let made : a ≡ lineOf ws = cc in
+      (made ∙ ap (λ ws. lineOf ws) p ∙ rw (triples-back (n .replicas)), cc)
+
+  no-line : (a : Line) (r : List ℕ) → planLine l j [] ≡ found a r → ⊥
+  unfolding planLine line exactly
+  no-line a r h = refused≢found h
+
+  plan-lines-only : (k : ℕ) (before ns xs : List Line) → ((n : Line) → In n ns → Printed n)
+      → lines (planLine l j) (planLineRule l j) k before (planLinesText l ns) ≡ found xs [] → xs ≡ before ++ ns
+  unfolding lines planLinesText lineText
+  plan-lines-only zero before [] xs h g = (cc (append-nil before))
+  plan-lines-only zero before (n ∷ ns) xs h g = let z : _≡_ {A = ℕ} 0 1 = cc in absurd (omega arith)
+  plan-lines-only (suc k) before [] xs h g =
+      let (a, s, e, _, _) = rule-found (planLine l j []) (planLineRule l j before) (λ a. lines (planLine l j) (planLineRule l j) k (before ++ a ∷ [])) xs [] g in
+      absurd (no-line a s e)
+  plan-lines-only (suc k) before (n ∷ ns) xs h g =
+      let (a, s, e, _, f) = rule-found (planLine l j (planLinesText l (n ∷ ns))) (planLineRule l j before) (λ a. lines (planLine l j) (planLineRule l j) k (before ++ a ∷ [])) xs [] g in
+      let (p, q) = plan-line-only n a (planLinesText l ns) s (h n (inl refl)) e in
+      plan-lines-only k (before ++ n ∷ []) ns xs (λ m i. h m (inr i)) (same a s p q f) ∙ append-assoc before (n ∷ []) ns
+    where
+      same : (a : Line) (s : List ℕ) → a ≡ n → s ≡ planLinesText l ns → lines (planLine l j) (planLineRule l j) k (before ++ a ∷ []) s ≡ found xs []
+          → lines (planLine l j) (planLineRule l j) k (before ++ n ∷ []) (planLinesText l ns) ≡ found xs []
+      same a s p q f = rw (p, q) at f
+
+  pub plan-only : (p q : Plan) → Printable l p → readPlan l j (planText l j p) ≡ good q → q ≡ p
+  unfolding readPlan planLines planText
+  plan-only p q h g =
+      let x = planHeadOf (headNumbers j p) in
+      let w = whole-good l (planLines l j) (planText l j p) q g in
+      let v = rw (plan-head-back p (planLinesText l (p .lines)) (h .best-printed) (h .worst-printed)) at w in
+      let (_, f) = due-found (planHeadRule l j x) (λ s. next (lines (planLine l j) (planLineRule l j) (j .tasks) [] s) (λ ns. return (planOf x ns))) (planLinesText l (p .lines)) q [] v in
+      let (ns, t, d, z) = next-found (lines (planLine l j) (planLineRule l j) (j .tasks) [] (planLinesText l (p .lines))) (λ ns. return (planOf x ns)) q [] f in
+      made ns t d z
+    where
+      made : (ns : List Line) (t : List ℕ) → lines (planLine l j) (planLineRule l j) (j .tasks) [] (planLinesText l (p .lines)) ≡ found ns t
+          → found (planOf (planHeadOf (headNumbers j p)) ns) t ≡ found q [] → q ≡ p
+      made ns t d z =
+          let e : t ≡ [] = cc in
+          let m : ns ≡ p .lines = plan-lines-only (j .tasks) [] (p .lines) ns (h .line-printed) (rw e at d) in
+          let made : q ≡ planOf (planHeadOf (headNumbers j p)) ns = cc in
+          made ∙ ap (planOf (planHeadOf (headNumbers j p))) m
 
 whole-fits : {A : Type 0} (l : Limits) (r : Reader A) (s : List ℕ) (a : A) → length s ≤ l .textLength → r s ≡ found a [] → whole l r s ≡ good a
 whole-fits l r s a h e = rw (le-ltb (l .textLength) (length s) h, e)

@@ -8,14 +8,14 @@ use Rattle.definitions.specs.Lists.{if_then_else_, bytes, below, In, has
 use Rattle.definitions.specs.Limits.{Limits, document01}
 use Rattle.definitions.specs.Text.{width, decimal, lineText, good}
 use Rattle.definitions.specs.Job.{Edge, Job, Ascends, readJob}
-use Rattle.definitions.specs.Plan.{Line, Plan, processorsOf, readPlan}
+use Rattle.definitions.specs.Plan.{Line, Plan, processorsOf, readPlan, replicaNumbers, planText}
 use Rattle.definitions.specs.Stops.{Stop, readStops, stopsText}
 use Rattle.definitions.specs.Facts.{Ticks}
 use Rattle.definitions.specs.Times.{Time, tick, never, Outcome, earlies, lates, exits}
 use Rattle.definitions.specs.Obeys.{Obeys}
 use Rattle.definitions.specs.Planner.{Waiting, waitingFrom, bottomLevels, ranked, trial, planFor}
 use Rattle.definitions.specs.Replay.{replay, firstFinish, roundEnd, resultLines}
-use Rattle.definitions.specs.Tools.{accepted, doubled, verdict, planned, replayed}
+use Rattle.definitions.specs.Answers.{accepted, doubled, verdict, planned, replayed}
 
 -- A task's boxes are those of its T line, each taken once.
 unfoldable pub boxesOf : ℕ → List Line → List ℕ
@@ -183,6 +183,18 @@ module _ (l : Limits) where
       (job plan : List ℕ) (j : Job) (p : Plan) → readJob l job ≡ good j → readPlan l j plan ≡ good p
       → (verdict l job plan ≡ accepted → Obeys j p) × (Obeys j p → verdict l job plan ≡ accepted)
 
+  -- The numbers of a plan are printed with all their digits.
+  pub record Printable (p : Plan) : Type 0 where
+    pub best-printed : p .best < 10 ^ l .powers
+    pub worst-printed : p .worst < 10 ^ l .powers
+    pub line-printed : (n : Line) → In n (p .lines) → (v : ℕ) → In v (n .task ∷ replicaNumbers (n .replicas)) → v < 10 ^ l .powers
+
+  -- Whatever plan is printed: its text is accepted exactly if it obeys them.
+  abbrev pub PrintedObeys : Type 0
+  PrintedObeys =
+      (job : List ℕ) (j : Job) (p : Plan) → readJob l job ≡ good j
+      → (Printable p → verdict l job (planText l j p) ≡ accepted → Obeys j p) × (Obeys j p → verdict l job (planText l j p) ≡ accepted)
+
   -- The planner's own plans are accepted.
   abbrev pub OwnAccepted : Type 0
   OwnAccepted = (job : List ℕ) (j : Job) → readJob l job ≡ good j → verdict l job (planned l j) ≡ accepted
@@ -245,3 +257,4 @@ Claim =
     × EdgesAscend document01
     × OneOrder document01
     × AcceptedObeys document01
+    × PrintedObeys document01

@@ -1,4 +1,4 @@
--- "The planner": scaled levels, the choice of the task and of its boxes.
+-- "The planner", the report's algorithm 4.1: scaled levels, the choice of the task and of its boxes.
 use Prim.Native.Nat.{ℕ, zero, suc, _+_, _*_, _-_}
 use mathlib.Core.List.{List, [], _∷_, map, reverseAux}
 use mathlib.Core.Bool.{Bool, not, _&&_, _||_}
@@ -19,12 +19,12 @@ unfoldable pub greatestOf : ℕ × ℕ → List (ℕ × ℕ) → ℕ
 greatestOf x [] = x .0
 greatestOf x (y ∷ ys) = greatestOf (if ltb (x .1) (y .1) then y else x) ys
 
--- A task that is not placed yet, and its bottom level.
+-- A task that is not placed yet, of the set U, and its bottom level.
 pub record Waiting : Type 0 where
   pub task : ℕ
   pub bottom : ℕ
 
--- The tasks from k on, with these bottom levels.
+-- The tasks from k on, with these bottom levels (line 4: all tasks of the job).
 unfoldable pub waitingFrom : ℕ → List ℕ → List Waiting
 waitingFrom k [] = []
 waitingFrom k (x ∷ xs) = record { task = k; bottom = x } ∷ waitingFrom (suc k) xs
@@ -74,7 +74,7 @@ module _ (j : Job) where
       let further = settled n next in
       if sameNumbers next known then known else further
 
-  -- The bottom levels, by task. proofs/BottomLevels.antt proves the sentence above of them.
+  -- The bottom levels, by task (line 2). proofs/BottomLevels.antt proves the sentence above of them.
   unfoldable pub bottomLevels : List ℕ
   bottomLevels = settled (j .tasks) []
 
@@ -82,14 +82,14 @@ module _ (j : Job) where
   unfoldable pub largestDelay : ℕ → ℕ
   largestDelay p = greatest (map (delay j p) (below (j .processors)))
 
-  -- "Top level: 0 for a task without predecessors; else, over predecessors, the largest of (the least, over copies, of
-  -- early finish + volume × that copy's largest delay to any box), times D".
+  -- Line 11, the priority values: "top level: 0 for a task without predecessors; else, over predecessors, the largest of (the
+  -- least, over copies, of early finish + volume × that copy's largest delay to any box), times D".
   unfoldable pub topLevel : List Outcome → ℕ → ℕ
   topLevel placed t =
       tickOf (largest (map (λ e. least (map (λ d. after (e .volume * largestDelay (d .processor)) (d .time)) (ofTask (e .from) placed))) (incoming j t)))
       * scale
 
-  -- "The free tasks (all predecessors placed)".
+  -- "The free tasks (all predecessors placed)": the list α of lines 5 and 12.
   unfoldable pub freeTasks : List Outcome → List Waiting → List Waiting
   freeTasks placed waiting =
       let done = map (λ d. d .task) placed in
@@ -99,21 +99,21 @@ module _ (j : Job) where
   unfoldable pub ranked : List Outcome → Waiting → ℕ × ℕ
   ranked placed w = (w .task, topLevel placed (w .task) + w .bottom)
 
-  -- "Of the free tasks the greatest sum is placed next; ties go to the lowest task number": w and ws, ascending.
+  -- Line 7: "of the free tasks the greatest sum is placed next; ties go to the lowest task number": w and ws, ascending.
   unfoldable pub criticalTask : List Outcome → Waiting → List Waiting → ℕ
   criticalTask placed w ws = greatestOf (ranked placed w) (map (ranked placed) ws)
 
-  -- The early finish of task t on each box.
+  -- Line 8: the early finish of task t on each box, by equation (1).
   unfoldable pub trial : List Outcome → ℕ → List ℕ
   trial placed t = map (λ c. tickOf (finish j least [] placed c)) (copiesOf j t (below (j .processors)))
 
-  -- "It goes on the ε + 1 boxes of least early finish; ties go to the lowest box": those before which fewer than k boxes go.
+  -- Line 9: "it goes on the ε + 1 boxes of least early finish; ties go to the lowest box": those before which fewer than k boxes go.
   unfoldable pub chosen : ℕ → List ℕ → List ℕ
   chosen k finishes =
       let boxes = below (j .processors) in
       keep (λ p. ltb (length (keep (goesBefore finishes p) boxes)) k) boxes
 
-  -- n tasks more, of those that wait, after what is placed, with its early and its late ticks; losses is ε.
+  -- Lines 6 to 14: n tasks more, of those that wait, after what is placed, with its early and its late ticks; losses is ε.
   unfoldable pub place : ℕ → ℕ → List Waiting → List Outcome → List Outcome → List Line
   place losses zero waiting es ls = []
   place losses (suc n) waiting es ls = elim (freeTasks es waiting) [
@@ -127,7 +127,7 @@ module _ (j : Job) where
         ∷ place losses n (keep (λ w. not (eqb (w .task) t)) waiting) (reverseAux e es) (reverseAux x ls)
   ]
 
-  -- The plan of a job that is to bear this many losses.
+  -- The plan of a job that is to bear this many losses (line 1), with equations (2) and (4).
   unfoldable pub planFor : ℕ → Plan
   planFor losses =
       let ns = place losses (j .tasks) (waitingFrom 0 bottomLevels) [] [] in

@@ -1,4 +1,4 @@
--- "Times": the four equations, M* and M. The replay is the same walk, with stops.
+-- "Times": the report's equations (1) to (4), M* and M. The replay is the same walk, with stops.
 use Prim.Native.Nat.{ℕ, _+_, _*_, max, min}
 use mathlib.Core.List.{List, [], _∷_, _++_, map}
 use mathlib.Core.Bool.{Bool, true, false}
@@ -87,32 +87,32 @@ module _ (j : Job) where
   unfoldable pub firstReady : ℕ → Time
   firstReady p = tick 0
 
-  -- "A box's two ready ticks become the two finishes of its newest copy". What is placed stands newest first.
+  -- r(p) of equations (1) and (3): "a box's two ready ticks become the two finishes of its newest copy". What is placed stands newest first.
   unfoldable pub ready : ℕ → List Outcome → Time
   ready p [] = firstReady p
   ready p (d ∷ placed) = let older = ready p placed in if eqb (d .processor) p then d .time else older
 
-  -- "W = volume × delay from the sender's box to the receiver's".
+  -- W of equations (1) and (3): "volume × delay from the sender's box to the receiver's".
   abbrev pub message : Edge → ℕ → ℕ → ℕ
   message e q p = e .volume * delay j q p
 
-  -- Which copies of a predecessor feed a box: all of them.
+  -- Which copies of a predecessor feed a box: all of them, k from 1 to ε + 1 in equations (1) and (3).
   abbrev pub feeding : ℕ → ℕ → List Outcome → List Outcome
   feeding t p placed = ofTask t placed
 
-  -- When the data of edge e is on p: "the least, over the predecessor's copies, of early finish + W"; late, the largest.
+  -- When the data of edge e is on p: "the least, over the predecessor's copies, of early finish + W" (1); late, the largest (3).
   unfoldable pub arrival : (List Time → Time) → List Outcome → ℕ → Edge → Time
   arrival choose placed p e = choose (map (λ d. after (message e (d .processor) p) (d .time)) (feeding (e .from) p placed))
 
-  -- "Over predecessors, the largest of" these; 0 with no predecessor.
+  -- "Over predecessors, the largest of" these (1, 3); 0 with no predecessor.
   unfoldable pub dataReady : (List Time → Time) → List Outcome → ℕ → ℕ → Time
   dataReady choose placed t p = largest (map (arrival choose placed p) (incoming j t))
 
-  -- "A copy starts at the later of two ticks": its box is ready, and its data is there.
+  -- S(t, p) of section 4.1: "a copy starts at the later of two ticks", its box is ready, and its data is there.
   unfoldable pub start : (List Time → Time) → List Outcome → ℕ → ℕ → Time
   start choose placed t p = later (ready p placed) (dataReady choose placed t p)
 
-  -- "Early finish of t on p = run time + the greater of" the two; late and in the replay the same.
+  -- F(t, p) of equations (1) and (3): "early finish of t on p = run time + the greater of" the two; late and in the replay the same.
   unfoldable pub finish : (List Time → Time) → List Stop → List Outcome → Copy → Time
   finish choose stops placed c =
       unlessStopped (stopTime stops (c .processor)) (after (c .run) (start choose placed (c .task) (c .processor)))
@@ -135,15 +135,15 @@ module _ (j : Job) where
   copies [] = []
   copies (n ∷ ns) = copiesOf (n .task) (processorsOf n) ++ copies ns
 
-  -- The early finishes: the least over a predecessor's copies.
+  -- Equation (1), the early finishes: the least over a predecessor's copies.
   unfoldable pub earlies : List Line → List Outcome
   earlies ns = walk least [] [] (copies ns)
 
-  -- "Late finish: the same with late ticks throughout and the largest over the copies".
+  -- Equation (3), "late finish: the same with late ticks throughout and the largest over the copies".
   unfoldable pub lates : List Line → List Outcome
   lates ns = walk largest [] [] (copies ns)
 
-  -- "Exit tasks (no successor)".
+  -- "Exit tasks (no successor)", of equations (2) and (4).
   unfoldable pub exits : List ℕ
   exits = keep (λ t. empty (outgoing j t)) (below (j .tasks))
 
@@ -151,10 +151,10 @@ module _ (j : Job) where
   unfoldable pub end : (List Time → Time) → List Outcome → Time
   end choose ds = largest (map (λ t. choose (times (ofTask t ds))) exits)
 
-  -- "M* = over exit tasks, the largest of the least early finish".
+  -- Equation (2): "M* = over exit tasks, the largest of the least early finish".
   unfoldable pub bestEnd : List Line → Time
   bestEnd ns = end least (earlies ns)
 
-  -- "M = the largest late finish of their copies".
+  -- Equation (4): "M = the largest late finish of their copies".
   unfoldable pub worstEnd : List Line → Time
   worstEnd ns = end largest (lates ns)
