@@ -1,5 +1,5 @@
 -- No tick passes its bound: of the equations, of the replay, and of the planner's levels.
-use mathlib.Core.Path.{_≡_, refl, ap, _∙_, sym}
+use mathlib.Core.Path.{_≡_, refl, ap, sym}
 use mathlib.Core.Logic.{inl, inr, ⊎-elim}
 use mathlib.Core.List.{List, [], _∷_, _++_, map}
 use mathlib.Core.Bool.{Bool, true, false, not}
@@ -21,7 +21,7 @@ use Rattle.definitions.specs.Replay.{replay}
 use Rattle.definitions.specs.Claims.{Within, AllWithin, PlacedWithin, planTicks, replayTicks, PlanWithin}
 use Rattle.definitions.proofs.Lists.{both, append-left, append-right, in-map, map-in, in-keep, keep-length, fits, distinct-keep, length-count, in-below, NumbersMost, nth-most, sum-most, greatest-most}
 use Rattle.definitions.specs.Facts.{JobFacts, Fed, Ordered, Apart}
-use Rattle.definitions.proofs.Tasks.{in-incoming, in-outgoing, in-task}
+use Rattle.definitions.proofs.Tasks.{in-incoming, in-outgoing, in-task, line-facts}
 use Rattle.definitions.proofs.Ready.{first-ready}
 use Rattle.definitions.proofs.Stopping.{stopped}
 use Rattle.definitions.proofs.Guarantee.{accepted-facts, same-times}
@@ -230,7 +230,9 @@ module _ (l : Limits) (j : Job) (jf : JobFacts l j) (choose : List Time → Time
       ds
       (λ d i. let (x, y) = m d i in (x, λ _. y))
       (λ d i. let (x, y) = m d i in (x, weaker (d .time) (omega arith) y))
-      (λ p. weaker (after (often p (processorsOf n) * l .runTime) (ready j p ds)) (omega (arith, few p)) (after-within b (often p (processorsOf n) * l .runTime) (ready j p ds) (ready-within j b p ds m)))
+      (λ p.
+      let more = often p (processorsOf n) * l .runTime in
+      weaker (after more (ready j p ds)) (omega (arith, few p)) (after-within b more (ready j p ds) (ready-within j b p ds m)))
 
   -- So do lines from the start.
   pub lines-within : (w : ℕ) (ns : List Line) → Ordered j [] ns → Repeats w ns
@@ -243,12 +245,10 @@ module _ (l : Limits) (j : Job) (jf : JobFacts l j) (choose : List Time → Time
 -- The replay, the early and the late finishes -----------------------------------------------------------------
 
 -- A processor is in a line as often as the line is wide, at most; once at most, where no task has two copies on it.
-repeats-width : (j : Job) (seen : List ℕ) (ns : List Line) → Ordered j seen ns → Repeats (j .losses + 1) ns
-repeats-width j seen (n ∷ ns) (o, os) x (inl e) p =
-    let r = keep-length (λ q. eqb q p) (processorsOf n) in
-    let w : length (processorsOf n) ≡ j .losses + 1 = length-map (n .replicas) (λ r. r .processor) ∙ o .width in
-    rw (← e) (omega arith)
-repeats-width j seen (n ∷ ns) (o, os) x (inr i) p = repeats-width j (n .task ∷ seen) ns os x i p
+repeats-width : (j : Job) (ns : List Line) → Ordered j [] ns → Repeats (j .losses + 1) ns
+repeats-width j ns o n i p =
+    let (before, f, _) = line-facts j [] ns o n i in
+    omega (arith, keep-length (λ q. eqb q p) (processorsOf n), length-map (n .replicas) (λ r. r .processor), f .width)
 
 repeats-apart : (ns : List Line) → Apart ns → Repeats 1 ns
 repeats-apart ns h n i p = often-distinct p (processorsOf n) (h n i)
@@ -315,7 +315,7 @@ module _ (l : Limits) (j : Job) (jf : JobFacts l j) where
   replay-within stops ns o c d i =
       let w : (j .losses + 1) * l .runTime ≤ (l .losses + 1) * l .runTime = mul-le-mul-right (l .runTime) (omega (arith, jf .losses-most)) in
       weaker (d .time) (mul-le-mul (omega (arith, jf .tasks-most)) (omega arith))
-      (lines-within l j jf least least-within stops (j .losses + 1) ns o (repeats-width j [] ns o) d i .1)
+      (lines-within l j jf least least-within stops (j .losses + 1) ns o (repeats-width j ns o) d i .1)
 
 -- The planner's levels ----------------------------------------------------------------------------------------
 
@@ -432,7 +432,8 @@ module _ (l : Limits) (j : Job) (jf : JobFacts l j) where
   trial-most b placed t ht h x i =
       let (c, o, e) = in-map (λ c. tickOf (finish j least [] placed c)) x (copiesOf j t (below (j .processors))) i in
       let (p, q, r) = in-map (copyOf j t) c (below (j .processors)) o in
-      rw (← e, ← r) (tickOf-most (b + (l .runTime + l .volume * l .delay)) (finish j least [] placed (copyOf j t p)) (finish-most l j jf least least-within [] b placed t p ht (in-below (j .processors) p q) h))
+      let most = finish-most l j jf least least-within [] b placed t p ht (in-below (j .processors) p q) h in
+      rw (← e, ← r) (tickOf-most (b + (l .runTime + l .volume * l .delay)) (finish j least [] placed (copyOf j t p)) most)
 
   -- A waiting task's bottom level is one of those given.
   in-waiting : (k : ℕ) (w : Waiting) (xs : List ℕ) → In w (waitingFrom k xs) → In (w .bottom) xs

@@ -24,11 +24,12 @@ use Rattle.definitions.specs.Answers.{accepted, doubled, rejected, verdi
 use Rattle.definitions.specs.Claims.{haltingOf, haltedReplay, placedAfter, PlanWithin, planTicks, replayTicks, lineLength, planLength, Roomy, EdgesAscend, OneOrder, Kept, Quiet, LateStops, Doubled, KeptBytes, DoubledBytes, AcceptedObeys, PrintedObeys, OwnAccepted, TicksFit, LevelsFit, Bears, Breaks, Claim, PlacedWithin}
 use Rattle.definitions.proofs.Lists.{in-reverse, in-take}
 use Rattle.definitions.specs.Facts.{JobFacts, Ordered, PlanFacts}
+use Rattle.definitions.proofs.Tasks.{line-facts}
 use Rattle.definitions.proofs.EdgeOrder.{same-order}
 use Rattle.definitions.proofs.Reading.{job-facts, plan-facts}
 use Rattle.definitions.proofs.Guarantee.{accepted-facts, kept, quiet}
 use Rattle.definitions.proofs.Stopping.{late-replay}
-use Rattle.definitions.proofs.Doubled.{doubled-line, line-facts, doubled-undone}
+use Rattle.definitions.proofs.Doubled.{doubled-line, doubled-undone}
 use Rattle.definitions.proofs.Bytes.{same-tick, replayed-read, answer-done, answer-undone}
 use Rattle.definitions.proofs.Obeying.{accepted-obeys, obeys-accepted}
 use Rattle.definitions.proofs.Placing.{placed-count, placed-ordered, placed-accepted}
@@ -218,13 +219,16 @@ module _ (l : Limits) (j : Job) (facts : JobFacts l j) (k : ℕ) where
   unfolding earlies
   after-within d i =
       let ns = planFor j (j .losses) .lines in
+      let apart = accepted-facts j (planFor j (j .losses)) (placed-accepted l j facts) .apart in
       ⊎-elim
-      (apart-within l j facts least least-within (take k ns) (ordered-take j k [] ns (placed-ordered l j facts)) (λ n m. accepted-facts j (planFor j (j .losses)) (placed-accepted l j facts) .apart n (in-take k n ns m)) d)
+      (apart-within l j facts least least-within (take k ns) (ordered-take j k [] ns (placed-ordered l j facts)) (λ n m. apart n (in-take k n ns m)) d)
       absurd
       (in-reverse d (earlies j (take k ns)) [] i)
 
   ranked-fits : Roomy l → (w : Waiting) → In w (waitingFrom 0 (bottomLevels j)) → ranked j (placedAfter j k) w .1 < 2 ^ 64
-  ranked-fits roomy w i = omega (arith, roomy .level-room, ranked-most l j facts (count * (l .runTime + l .volume * l .delay)) (placedAfter j k) w (plan-bound l j facts count (count-most .1)) after-within i)
+  ranked-fits roomy w i =
+      let s = l .runTime + l .volume * l .delay in
+      omega (arith, roomy .level-room, ranked-most l j facts (count * s) (placedAfter j k) w (plan-bound l j facts count (count-most .1)) after-within i)
 
   trial-fits : k < j .tasks → (t : ℕ) → t < j .tasks → (x : ℕ) → In x (trial j (placedAfter j k) t) → x ≤ planTicks l
   trial-fits h t ht x i =

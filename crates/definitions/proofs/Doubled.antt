@@ -18,8 +18,8 @@ use Rattle.definitions.specs.Refusals.{doubledTasks}
 use Rattle.definitions.specs.Replay.{replay, firstFinish, roundEnd}
 use Rattle.definitions.specs.Claims.{boxesOf, once, halted, haltingOf}
 use Rattle.definitions.proofs.Lists.{neither, in-append, in-map, map-in, in-keep, has-in, not-has}
-use Rattle.definitions.specs.Facts.{JobFacts, LineFacts, Ordered, PlanFacts, Ascending}
-use Rattle.definitions.proofs.Tasks.{in-task}
+use Rattle.definitions.specs.Facts.{JobFacts, Ordered, PlanFacts, Ascending}
+use Rattle.definitions.proofs.Tasks.{in-task, line-facts}
 
 -- The tasks that are doubled ----------------------------------------------------------------------------------
 
@@ -105,15 +105,6 @@ stops-at-zero x (p ∷ ps) i = by (eqb p x) refl i (stops-at-zero x ps)
     by false e (inr i) f = f i
 
 -- Lines in order ----------------------------------------------------------------------------------------------
-
--- What is known of a line of them.
-pub line-facts :
-    (j : Job) (seen : List ℕ) (ns : List Line) → Ordered j seen ns → (n : Line) → In n ns
-    → (before : List ℕ) × LineFacts j before n × ((t : ℕ) → In t seen → In t before)
-line-facts j seen (m ∷ ns) (o, os) n (inl e) = (seen, rw (← e) o, λ t i. i)
-line-facts j seen (m ∷ ns) (o, os) n (inr i) =
-    let (before, f, g) = line-facts j (m .task ∷ seen) ns os n i in
-    (before, f, λ t k. g t (inr k))
 
 -- The boxes of a task are those of its one line.
 pub line-boxes :

@@ -19,6 +19,7 @@ use Rattle.definitions.specs.Refusals.{doubledTasks, sameTimes, ticksAgr
 use Rattle.definitions.specs.Replay.{replay, firstFinish, roundEnd}
 use Rattle.definitions.proofs.Lists.{both, both-true, passed, in-some, append-left, append-right, map-in, in-any, in-keep, keep-in, keep-none, has-not, in-below, spare, full}
 use Rattle.definitions.specs.Facts.{Ordered, Apart, PlanFacts}
+use Rattle.definitions.proofs.Tasks.{line-facts}
 use Rattle.definitions.proofs.Ready.{first-ready}
 use Rattle.definitions.proofs.Stopping.{stopped}
 
@@ -326,14 +327,14 @@ lines-b j stops ns o c s = (
 )
 
 -- Fewer stops than copies of a task: each line has a processor that does not stop.
-few-stops : (j : Job) (stops : List Stop) (ns : List Line) (seen : List ℕ) → Ordered j seen ns
+few-stops : (j : Job) (stops : List Stop) (ns : List Line) → Ordered j [] ns
     → Apart ns → length stops ≤ j .losses → Spared j stops ns
-few-stops j stops (m ∷ ns) seen (o, os) d few n (inl e) =
-    let w : length (map (λ s. s .processor) stops) < length (processorsOf m) =
-    omega (arith, length-map stops (λ s. s .processor), length-map (m .replicas) (λ r. r .processor), o .width) in
-    let (p, i, f) = spare (processorsOf m) (map (λ s. s .processor) stops) (d m (inl refl)) w in
-    rw (← e) (p, i, not-stopped j p stops f)
-few-stops j stops (m ∷ ns) seen (o, os) d few n (inr i) = few-stops j stops ns (m .task ∷ seen) os (λ k i. d k (inr i)) few n i
+few-stops j stops ns o d few n i =
+    let (before, f, _) = line-facts j [] ns o n i in
+    let w : length (map (λ s. s .processor) stops) < length (processorsOf n) =
+    omega (arith, length-map stops (λ s. s .processor), length-map (n .replicas) (λ r. r .processor), f .width) in
+    let (p, k, e) = spare (processorsOf n) (map (λ s. s .processor) stops) (d n i) w in
+    (p, k, not-stopped j p stops e)
 
 value-b : {e l : ℕ} {f : Time} → Between true (tick e) (tick l) f → (x : ℕ) × (f ≡ tick x) × (e ≤ x) × (x ≤ l)
 value-b (within {f = x} (a, b)) = (x, refl, a, b)
@@ -350,7 +351,7 @@ pub kept : (l : Limits) (j : Job) (p : Plan) (stops : List Stop) → PlanFacts l
 unfolding firstFinish roundEnd bestEnd worstEnd
 kept l j p stops g h few =
     let a = accepted-facts j p h in
-    let (b, s) = lines-b j stops (p .lines) (g .ordered) (g .count) (few-stops j stops (p .lines) [] (g .ordered) (a .apart) few) in
+    let (b, s) = lines-b j stops (p .lines) (g .ordered) (g .count) (few-stops j stops (p .lines) (g .ordered) (a .apart) few) in
     (λ t i. let r = comes-b (first-b j stops t b (s t i)) in (r .2, r .5), value-b (rw (a .best-end, a .worst-end) at (end-b j stops b s)))
 
 -- With no stop it ends at M*.
@@ -373,21 +374,20 @@ come-b (next b r) =
     (λ d. ⊎-elim (λ q. (c .0, ap (λ d. d .time) (sym q) ∙ c .3)) (es d), λ d. ⊎-elim (λ q. (c .1, ap (λ d. d .time) (sym q) ∙ c .4)) (ls d))
 
 -- A line has a copy, so it has a processor that does not stop.
-no-stops : (j : Job) (ns : List Line) (seen : List ℕ) → Ordered j seen ns → Spared j [] ns
+no-stops : (j : Job) (ns : List Line) → Ordered j [] ns → Spared j [] ns
 unfolding stopTime
-no-stops j (m ∷ ns) seen (o, os) n (inl e) = rw (← e) (by (m .replicas) (o .width))
+no-stops j ns o n i = let (before, f, _) = line-facts j [] ns o n i in by (n .replicas) (f .width)
   where
     by : (rs : List Replica) → length rs ≡ j .losses + 1 → (p : ℕ) × In p (map (λ r. r .processor) rs) × (true ≡ true)
     by [] h = absurd (omega arith)
     by (r ∷ rs) h = (r .processor, inl refl, refl)
-no-stops j (m ∷ ns) seen (o, os) n (inr i) = no-stops j ns (m .task ∷ seen) os n i
 
 -- Lines in order, one for each task: every copy finishes at a tick, early and late, and M* and M are ticks.
 pub all-come : (j : Job) (ns : List Line) → Ordered j [] ns → length ns ≡ j .tasks
     → Come (earlies j ns) × Come (lates j ns) × ((x : ℕ) × (bestEnd j ns ≡ tick x)) × ((x : ℕ) × (worstEnd j ns ≡ tick x))
 unfolding bestEnd worstEnd
 all-come j ns o c =
-    let (b, s) = lines-b j [] ns o c (no-stops j ns [] o) in
+    let (b, s) = lines-b j [] ns o c (no-stops j ns o) in
     let (es, ls) = come-b b in
     let c = comes-b (end-b j [] b s) in
     (es, ls, (c .0, c .3), (c .1, c .4))

@@ -15,8 +15,8 @@ use Rattle.definitions.specs.Obeys.{writtenOutcome, written, Rising, equ
 use Rattle.definitions.specs.Refusals.{replicasOf, sameTimes, ticksAgree, planRefusal}
 use Rattle.definitions.proofs.Lists.{both, both-true, neither-false, in-map, map-same, apart-head, head-apart, fits, length-count, in-below, below-in, distinct-count}
 use Rattle.definitions.specs.Facts.{LineFacts, Ordered, Apart}
-use Rattle.definitions.proofs.Tasks.{SameTasks, tasks-more}
-use Rattle.definitions.proofs.Doubled.{rising, line-facts}
+use Rattle.definitions.proofs.Tasks.{SameTasks, tasks-more, line-facts}
+use Rattle.definitions.proofs.Doubled.{rising}
 use Rattle.definitions.proofs.Guarantee.{same-times, each-task, times-same, accepted-facts, facts-accepted}
 
 -- Lines and those before them ---------------------------------------------------------------------------------

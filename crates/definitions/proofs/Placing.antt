@@ -66,18 +66,12 @@ waiting-tasks k (x ∷ xs) = ap {B = List ℕ} (λ r. k ∷ r) (waiting-tasks (s
 abbrev ticks : List Outcome → List ℕ
 ticks ds = map (λ d. tickOf (d .time)) ds
 
-early-read : (es ls : List Outcome) → length es ≡ length ls → map (λ r. r .early) (replicas es ls) ≡ ticks es
+ticks-read : (es ls : List Outcome) → length es ≡ length ls → (map (λ r. r .early) (replicas es ls) ≡ ticks es) × (map (λ r. r .late) (replicas es ls) ≡ ticks ls)
 unfolding replicas
-early-read [] ls h = refl
-early-read (e ∷ es) [] h = absurd (omega arith)
-early-read (e ∷ es) (x ∷ ls) h = ap₂ _∷_ refl (early-read es ls (omega arith))
-
-late-read : (es ls : List Outcome) → length es ≡ length ls → map (λ r. r .late) (replicas es ls) ≡ ticks ls
-unfolding replicas
-late-read [] [] h = refl
-late-read [] (x ∷ ls) h = absurd (omega arith)
-late-read (e ∷ es) [] h = absurd (omega arith)
-late-read (e ∷ es) (x ∷ ls) h = ap₂ _∷_ refl (late-read es ls (omega arith))
+ticks-read [] [] h = (refl, refl)
+ticks-read [] (x ∷ ls) h = absurd (omega arith)
+ticks-read (e ∷ es) [] h = absurd (omega arith)
+ticks-read (e ∷ es) (x ∷ ls) h = let (a, b) = ticks-read es ls (omega arith) in (ap₂ _∷_ refl a, ap₂ _∷_ refl b)
 
 module _ (j : Job) where
   abbrev walked : (List Time → Time) → ℕ → List ℕ → List Outcome → List Outcome
@@ -214,8 +208,8 @@ module _ (j : Job) where
         count = ap suc (r .count);
         ordered = (written-line seen t ps es ls (s .low t i) (s .new t i) f width low ascends, r .ordered);
         apart = apart-more n₁ ns (rw read apart) (r .apart);
-        early-agrees = agree-more least (λ r. r .early) es n₁ ns ps read (early-read early late level) (r .early-agrees);
-        late-agrees = agree-more largest (λ r. r .late) ls n₁ ns ps read (late-read early late level) (r .late-agrees);
+        early-agrees = agree-more least (λ r. r .early) es n₁ ns ps read (ticks-read early late level .0) (r .early-agrees);
+        late-agrees = agree-more largest (λ r. r .late) ls n₁ ns ps read (ticks-read early late level .1) (r .late-agrees);
       }
 
   placed-none : (seen : List ℕ) (es ls : List Outcome) → Placed 0 seen es ls []

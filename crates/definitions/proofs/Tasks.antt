@@ -1,4 +1,4 @@
--- Edges, lines, copies and outcomes of a task.
+-- Edges, lines and outcomes of a task.
 use mathlib.Core.Path.{_≡_}
 use mathlib.Core.Logic.{inl, inr, ⊎-elim}
 use mathlib.Core.List.{List, [], _∷_, _++_, map, map-append}
@@ -8,6 +8,7 @@ use borrow.Author.Tests.{eqb-true}
 use Rattle.definitions.specs.Lists.{In}
 use Rattle.definitions.specs.Job.{Edge, Job, incoming, outgoing}
 use Rattle.definitions.specs.Plan.{Line, lineTasks}
+use Rattle.definitions.specs.Facts.{LineFacts, Ordered}
 use Rattle.definitions.specs.Times.{Outcome, ofTask}
 use Rattle.definitions.proofs.Lists.{in-append, append-left, append-right, in-keep}
 
@@ -38,3 +39,12 @@ tasks-more ns ts n (to, back) =
       λ t i. ⊎-elim (λ k. inr (to t k)) (⊎-elim inl absurd) (in-append t (lineTasks ns) (n .task ∷ []) i),
       λ t. ⊎-elim (λ k. append-right t (lineTasks ns) (n .task ∷ []) (inl k)) (λ i. append-left t (lineTasks ns) (n .task ∷ []) (back t i)),
     )
+
+-- What is known of a line of several in order.
+pub line-facts :
+    (j : Job) (seen : List ℕ) (ns : List Line) → Ordered j seen ns → (n : Line) → In n ns
+    → (before : List ℕ) × LineFacts j before n × ((t : ℕ) → In t seen → In t before)
+line-facts j seen (m ∷ ns) (o, os) n (inl e) = (seen, rw (← e) o, λ t i. i)
+line-facts j seen (m ∷ ns) (o, os) n (inr i) =
+    let (before, f, g) = line-facts j (m .task ∷ seen) ns os n i in
+    (before, f, λ t k. g t (inr k))
