@@ -1,18 +1,18 @@
 -- The boxes that the planner chooses for a task: as many as are asked for, ascending, each once.
 use mathlib.Core.Path.{_≡_, refl, _∙_}
-use mathlib.Core.Logic.{_⊎_, inl, inr, ⊎-elim}
+use mathlib.Core.Logic.{_⊎_, inl, ⊎-elim}
 use mathlib.Core.List.{List, [], _∷_, map}
-use mathlib.Core.Bool.{Bool, true, false, _&&_}
+use mathlib.Core.Bool.{Bool, true, false}
 use Prim.Native.Nat.{ℕ, zero, suc, _<_, _≤_}
 use native.Mathlib.Omega.{arith}
 use lib.Dec.{eqb, ltb}
 use lib.ListN.{length, length-map}
-use borrow.Author.Tests.{eqb-true, eqb-false, eq-eqb, ltb-true, ltb-false, lt-ltb, le-ltb}
+use borrow.Author.Tests.{eqb-true, eqb-false, ltb-true, lt-ltb, le-ltb}
 use Rattle.definitions.specs.Lists.{if_then_else_, In, nth, keep, distinct, countFrom, below}
 use Rattle.definitions.specs.Job.{Job}
 use Rattle.definitions.specs.Plan.{descends}
 use Rattle.definitions.specs.Planner.{goesBefore, chosen}
-use Rattle.definitions.proofs.Lists.{both, both-true, either, either-right, in-map, map-in, in-keep, keep-in, head-apart, fits, distinct-keep, distinct-map, full, length-count, in-count, in-below, below-in, distinct-count}
+use Rattle.definitions.proofs.Lists.{less-trans, less-once, one-less-pair, in-map, map-in, in-keep, keep-in, head-apart, fits, distinct-keep, distinct-map, full, length-count, in-count, in-below, below-in, distinct-count}
 
 -- Lists -------------------------------------------------------------------------------------------------------
 
@@ -23,7 +23,7 @@ fewer f x xs ys d n i h =
     fits (x ∷ keep f xs) ys (head-apart x (keep f xs) (λ k. n (in-keep f x xs k .1)) (distinct-keep f xs d)) (λ y. ⊎-elim (λ e. rw (← e) i) (λ k. let r = in-keep f y xs k in h y (r .0) (r .1)))
 
 -- A number before others that are no less, which do not descend.
-ascends-cons : (p : ℕ) (ps : List ℕ) → ((q : ℕ) → In q ps → p ≤ q) → descends ps ≡ false → descends (p ∷ ps) ≡ false
+pub ascends-cons : (p : ℕ) (ps : List ℕ) → ((q : ℕ) → In q ps → p ≤ q) → descends ps ≡ false → descends (p ∷ ps) ≡ false
 unfolding descends
 ascends-cons p [] h d = refl
 ascends-cons p (q ∷ ps) h d = rw (le-ltb q p (h q (inl refl))) d
@@ -39,64 +39,20 @@ keep-ascends f k (suc n) = by (f k) (keep-ascends f (suc k) n)
 
 -- The order of the boxes --------------------------------------------------------------------------------------
 
--- A box q with early finish b goes before a box p with early finish a.
-abbrev Goes : (a b p q : ℕ) → Type 0
-Goes a b p q = (b < a) ⊎ ((b ≡ a) × (q < p))
-
-goes-before : (finishes : List ℕ) (p q : ℕ) → Goes (nth finishes p) (nth finishes q) p q → goesBefore finishes p q ≡ true
-goes-before finishes p q (inl h) = rw (lt-ltb (nth finishes q) (nth finishes p) h)
-goes-before finishes p q (inr (e, h)) =
-    either-right (ltb (nth finishes q) (nth finishes p)) (both-true (eq-eqb (nth finishes q) (nth finishes p) e) (lt-ltb q p h))
-
-before-goes : (finishes : List ℕ) (p q : ℕ) → goesBefore finishes p q ≡ true → Goes (nth finishes p) (nth finishes q) p q
-before-goes finishes p q h =
-    let a = nth finishes p in
-    let b = nth finishes q in
-    ⊎-elim
-    (λ s. inl (ltb-true b a s))
-    (λ s. let (e, l) = both (eqb b a) (ltb q p) s in inr (eqb-true b a e, ltb-true q p l))
-    (either (ltb b a) (eqb b a && ltb q p) h)
-
-goes-on : (a b c p q r : ℕ) → Goes a b p q → Goes b c q r → Goes a c p r
-goes-on a b c p q r (inl h) (inl g) = inl (omega arith)
-goes-on a b c p q r (inl h) (inr g) = inl (omega arith)
-goes-on a b c p q r (inr h) (inl g) = inl (omega arith)
-goes-on a b c p q r (inr h) (inr g) = inr (omega arith)
-
-goes-itself : (a p : ℕ) → Goes a a p p → ⊥
-goes-itself a p (inl h) = omega arith
-goes-itself a p (inr h) = omega arith
-
-compare : (a b : ℕ) → (a < b) ⊎ (b ≤ a)
-compare a b = by (ltb a b) refl
-  where
-    by : (t : Bool) → ltb a b ≡ t → (a < b) ⊎ (b ≤ a)
-    by true e = inl (ltb-true a b e)
-    by false e = inr (ltb-false a b e)
-
-one-goes : (a b p q : ℕ) → (p ≡ q → ⊥) → Goes a b p q ⊎ Goes b a q p
-one-goes a b p q n =
-    ⊎-elim
-    (λ h. inr (inl h))
-    (λ h.
-    ⊎-elim
-    (λ g. inl (inl g))
-    (λ g. ⊎-elim (λ k. inr (inr (omega arith))) (λ k. ⊎-elim (λ m. inl (inr (omega arith))) (λ m. absurd (n (omega arith))) (compare q p)) (compare p q))
-    (compare b a))
-    (compare a b)
-
 module _ (j : Job) (finishes : List ℕ) where
   -- How many boxes go before p.
   abbrev rank : ℕ → ℕ
   rank p = length (keep (goesBefore finishes p) (below (j .processors)))
 
+  -- A box q goes before a box p if its early finish and its number are the lesser pair.
   goes-apart : (p : ℕ) → goesBefore finishes p p ≡ true → ⊥
-  goes-apart p h = goes-itself (nth finishes p) p (before-goes finishes p p h)
+  goes-apart p h = less-once (nth finishes p) p (nth finishes p) p h h
 
   goes-past : (p q r : ℕ) → goesBefore finishes p q ≡ true → goesBefore finishes q r ≡ true → goesBefore finishes p r ≡ true
-  goes-past p q r h g =
-      goes-before finishes p r
-      (goes-on (nth finishes p) (nth finishes q) (nth finishes r) p q r (before-goes finishes p q h) (before-goes finishes q r g))
+  goes-past p q r h g = less-trans (nth finishes r) r (nth finishes q) q (nth finishes p) p g h
+
+  one-goes : (p q : ℕ) → (p ≡ q → ⊥) → (goesBefore finishes q p ≡ true) ⊎ (goesBefore finishes p q ≡ true)
+  one-goes p q n = one-less-pair (nth finishes p) p (nth finishes q) q (λ _. n)
 
   rank-below : (p : ℕ) → p < j .processors → rank p < j .processors
   rank-below p h =
@@ -118,9 +74,9 @@ module _ (j : Job) (finishes : List ℕ) where
       by true t = eqb-true p q t
       by false t =
           ⊎-elim
-          (λ s. absurd (omega (arith, rank-less p q g (goes-before finishes p q s))))
-          (λ s. absurd (omega (arith, rank-less q p h (goes-before finishes q p s))))
-          (one-goes (nth finishes p) (nth finishes q) p q (eqb-false p q t))
+          (λ s. absurd (omega (arith, rank-less q p h s)))
+          (λ s. absurd (omega (arith, rank-less p q g s)))
+          (one-goes p q (eqb-false p q t))
 
   -- Every number below m is the rank of a box.
   ranks : (r : ℕ) → r < j .processors → (p : ℕ) × In p (below (j .processors)) × (rank p ≡ r)

@@ -3,51 +3,22 @@ use mathlib.Core.Path.{_≡_, refl, sym, ap₂, _∙_}
 use mathlib.Core.Logic.{_⊎_, inl, inr, ⊎-elim}
 use mathlib.Core.List.{List, [], _∷_, _++_, getLast?}
 use mathlib.Core.Option.{Option, none, some}
-use mathlib.Core.Bool.{Bool, true, false, _&&_, false≢true}
-use Prim.Native.Nat.{_<_}
-use native.Mathlib.Omega.{arith}
-use lib.Dec.{eqb, ltb}
-use borrow.Author.Tests.{eqb-true, eq-eqb, ne-eqb, ltb-true, ltb-false, lt-ltb}
+use mathlib.Core.Bool.{Bool, true, false, false≢true}
+use lib.Dec.{eqb}
+use borrow.Author.Tests.{eqb-true, eq-eqb, ne-eqb}
 use Rattle.definitions.specs.Lists.{In, any}
 use Rattle.definitions.specs.Text.{firstOf}
 use Rattle.definitions.specs.Job.{Edge, samePair, smaller, smallerThanLast, edgeOrder, Ascends}
-use Rattle.definitions.proofs.Lists.{both, both-true, neither, either, either-right, refuted, passed, in-append, none-in, in-any, none-any, last-in, no-last}
+use Rattle.definitions.proofs.Lists.{less-trans, less-once, one-less-pair, both, both-true, neither, either-right, refuted, passed, in-append, none-in, in-any, none-any, last-in, no-last}
 
 -- One pair smaller than another -------------------------------------------------------------------------------------
 
--- By from, then by to.
-abbrev Before : Edge → Edge → Type 0
-Before d e = (d .from < e .from) ⊎ ((d .from ≡ e .from) × (d .to < e .to))
-
-before : (d e : Edge) → smaller d e ≡ true → Before d e
-before d e h =
-    ⊎-elim
-    (λ a. inl (ltb-true (d .from) (e .from) a))
-    (λ a. let (b, c) = both (eqb (d .from) (e .from)) (ltb (d .to) (e .to)) a in inr (eqb-true _ _ b, ltb-true _ _ c))
-    (either (ltb (d .from) (e .from)) (eqb (d .from) (e .from) && ltb (d .to) (e .to)) h)
-
-before-smaller : (d e : Edge) → Before d e → smaller d e ≡ true
-before-smaller d e (inl a) = rw (lt-ltb _ _ a)
-before-smaller d e (inr (a, b)) = either-right (ltb (d .from) (e .from)) (both-true (eq-eqb _ _ a) (lt-ltb _ _ b))
-
 smaller-trans : (d e f : Edge) → smaller d e ≡ true → smaller e f ≡ true → smaller d f ≡ true
-smaller-trans d e f h g = before-smaller d f (by (before d e h) (before e f g))
-  where
-    by : Before d e → Before e f → Before d f
-    by (inl a) (inl b) = inl (omega arith)
-    by (inl a) (inr (b, c)) = inl (omega arith)
-    by (inr (a, b)) (inl c) = inl (omega arith)
-    by (inr (a, b)) (inr (c, d)) = inr (omega arith, omega arith)
+smaller-trans d e f = less-trans (d .from) (d .to) (e .from) (e .to) (f .from) (f .to)
 
 -- Of two pairs not both are smaller; so none is smaller than itself.
 not-both : (d e : Edge) → smaller d e ≡ true → smaller e d ≡ true → ⊥
-not-both d e h g = by (before d e h) (before e d g)
-  where
-    by : Before d e → Before e d → ⊥
-    by (inl a) (inl b) = omega arith
-    by (inl a) (inr (b, c)) = omega arith
-    by (inr (a, b)) (inl c) = omega arith
-    by (inr (a, b)) (inr (c, d)) = omega arith
+not-both d e = less-once (d .from) (d .to) (e .from) (e .to)
 
 -- A smaller pair is not smaller the other way round, and is another pair.
 smaller-not : (d e : Edge) → smaller d e ≡ true → smaller e d ≡ false
@@ -57,27 +28,12 @@ smaller-other : (d e : Edge) → smaller d e ≡ true → samePair d e ≡ false
 smaller-other d e h =
     refuted (samePair d e) λ q.
     let (f, t) = both (eqb (d .from) (e .from)) (eqb (d .to) (e .to)) q in
-    by (before d e h) (eqb-true _ _ f) (eqb-true _ _ t)
-  where
-    by : Before d e → d .from ≡ e .from → d .to ≡ e .to → ⊥
-    by (inl a) f t = omega arith
-    by (inr (a, b)) f t = omega arith
+    let r : smaller e e ≡ true = rw (eqb-true (d .from) (e .from) f, eqb-true (d .to) (e .to) t) at h in
+    not-both e e r r
 
 -- Of two different pairs one is smaller.
 one-smaller : (d e : Edge) → samePair d e ≡ false → (smaller d e ≡ true) ⊎ (smaller e d ≡ true)
-one-smaller d e s = by (ltb (d .from) (e .from)) refl (ltb (e .from) (d .from)) refl (ltb (d .to) (e .to)) refl
-  where
-    by : (a : Bool) → ltb (d .from) (e .from) ≡ a → (b : Bool) → ltb (e .from) (d .from) ≡ b → (c : Bool) → ltb (d .to) (e .to) ≡ c
-        → (smaller d e ≡ true) ⊎ (smaller e d ≡ true)
-    by true p b q c r = inl (before-smaller d e (inl (ltb-true _ _ p)))
-    by false p true q c r = inr (before-smaller e d (inl (ltb-true _ _ q)))
-    by false p false q true r =
-        let f : d .from ≡ e .from = omega (arith, ltb-false (d .from) (e .from) p, ltb-false (e .from) (d .from) q) in
-        inl (before-smaller d e (inr (f, ltb-true _ _ r)))
-    by false p false q false r =
-        let f : d .from ≡ e .from = omega (arith, ltb-false (d .from) (e .from) p, ltb-false (e .from) (d .from) q) in
-        let n : d .to ≡ e .to → ⊥ = λ t. false≢true (sym s ∙ both-true (eq-eqb _ _ f) (eq-eqb _ _ t)) in
-        inr (before-smaller e d (inr (sym f, omega (arith, ltb-false (d .to) (e .to) r, n))))
+one-smaller d e s = one-less-pair (d .from) (d .to) (e .from) (e .to) (λ f t. false≢true (sym s ∙ both-true (eq-eqb _ _ f) (eq-eqb _ _ t)))
 
 -- So where one is not, the other is.
 then-smaller : (d e : Edge) → samePair d e ≡ false → smaller e d ≡ false → smaller d e ≡ true

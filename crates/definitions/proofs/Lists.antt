@@ -9,7 +9,7 @@ use native.Mathlib.Omega.{arith}
 use native.Mathlib.Nat.{suc-mul}
 use lib.Dec.{eqb, ltb}
 use lib.ListN.{length, take}
-use borrow.Author.Tests.{eqb-true, eqb-false, eq-eqb, ne-eqb, not-true, ltb-false, le-ltb}
+use borrow.Author.Tests.{eqb-true, eqb-false, eq-eqb, ne-eqb, not-true, ltb-true, ltb-false, lt-ltb, le-ltb}
 use Rattle.definitions.specs.Lists.{if_then_else_, nth, In, keep, any, all, has, empty, sameNumbers, distinct, countFrom, below, sum, greatest}
 use Rattle.definitions.specs.Text.{firstOf}
 use Rattle.definitions.specs.Job.{outside}
@@ -400,3 +400,51 @@ greatest-most f (x ∷ xs) h =
     let r = greatest-most f xs (λ y i. h y (inr i)) in
     let g = h x (inl refl) in
     omega arith
+
+-- Pairs of numbers --------------------------------------------------------------------------------------------
+
+-- One pair is less than another: by the first number, then by the second.
+abbrev pub less : (a b c d : ℕ) → Bool
+less a b c d = ltb a c || (eqb a c && ltb b d)
+
+abbrev Less : (a b c d : ℕ) → Type 0
+Less a b c d = (a < c) ⊎ ((a ≡ c) × (b < d))
+
+less-in : (a b c d : ℕ) → less a b c d ≡ true → Less a b c d
+less-in a b c d h =
+    ⊎-elim (λ p. inl (ltb-true a c p)) (λ p. let (q, r) = both (eqb a c) (ltb b d) p in inr (eqb-true a c q, ltb-true b d r)) (either (ltb a c) (eqb a c && ltb b d) h)
+
+in-less : (a b c d : ℕ) → Less a b c d → less a b c d ≡ true
+in-less a b c d (inl h) = rw (lt-ltb a c h)
+in-less a b c d (inr (e, h)) = either-right (ltb a c) (both-true (eq-eqb a c e) (lt-ltb b d h))
+
+pub less-trans : (a b c d e f : ℕ) → less a b c d ≡ true → less c d e f ≡ true → less a b e f ≡ true
+less-trans a b c d e f h g = in-less a b e f (by (less-in a b c d h) (less-in c d e f g))
+  where
+    by : Less a b c d → Less c d e f → Less a b e f
+    by (inl p) (inl q) = inl (omega arith)
+    by (inl p) (inr q) = inl (omega arith)
+    by (inr p) (inl q) = inl (omega arith)
+    by (inr p) (inr q) = inr (omega arith)
+
+-- Of two pairs not both are less; and one is, if they differ.
+pub less-once : (a b c d : ℕ) → less a b c d ≡ true → less c d a b ≡ true → ⊥
+less-once a b c d h g = by (less-in a b c d h) (less-in c d a b g)
+  where
+    by : Less a b c d → Less c d a b → ⊥
+    by (inl p) (inl q) = omega arith
+    by (inl p) (inr q) = omega arith
+    by (inr p) (inl q) = omega arith
+    by (inr p) (inr q) = omega arith
+
+pub one-less-pair : (a b c d : ℕ) → (a ≡ c → b ≡ d → ⊥) → (less a b c d ≡ true) ⊎ (less c d a b ≡ true)
+one-less-pair a b c d n = by (ltb a c) refl (ltb c a) refl (ltb b d) refl
+  where
+    by : (x : Bool) → ltb a c ≡ x → (y : Bool) → ltb c a ≡ y → (z : Bool) → ltb b d ≡ z → (less a b c d ≡ true) ⊎ (less c d a b ≡ true)
+    by true p y q z r = inl (in-less a b c d (inl (ltb-true a c p)))
+    by false p true q z r = inr (in-less c d a b (inl (ltb-true c a q)))
+    by false p false q true r = inl (in-less a b c d (inr (omega (arith, ltb-false a c p, ltb-false c a q), ltb-true b d r)))
+    by false p false q false r =
+        let e : a ≡ c = omega (arith, ltb-false a c p, ltb-false c a q) in
+        let m = n e in
+        inr (in-less c d a b (inr (sym e, omega (arith, ltb-false b d r, m))))

@@ -6,17 +6,18 @@ use mathlib.Core.Bool.{true, false}
 use Prim.Native.Nat.{ℕ, _+_, _<_}
 use native.Mathlib.Omega.{arith}
 use lib.ListN.{length, length-map}
-use borrow.Author.Tests.{ne-eqb, le-ltb}
+use borrow.Author.Tests.{ne-eqb}
 use Rattle.definitions.specs.Lists.{In, keep, distinct, below}
 use Rattle.definitions.specs.Job.{Edge, Job, incoming}
 use Rattle.definitions.specs.Plan.{Replica, Line, Plan, processorsOf, lineTasks, descends}
 use Rattle.definitions.specs.Times.{Time, tick, least, largest, Copy, Outcome, outcome, ofTask, times, ready, feeding, arrival, dataReady, start, stopTime, finish, walk, copiesOf, copies, earlies, lates, end, bestEnd, worstEnd, copyOf}
 use Rattle.definitions.specs.Obeys.{writtenOutcome, written, Rising, equation, LineObeys, Obeys}
 use Rattle.definitions.specs.Refusals.{replicasOf, sameTimes, ticksAgree, planRefusal}
-use Rattle.definitions.proofs.Lists.{both, both-true, neither-false, in-map, map-same, apart-head, head-apart, fits, length-count, in-below, below-in, distinct-count}
+use Rattle.definitions.proofs.Lists.{both, both-true, in-map, map-same, apart-head, head-apart, fits, length-count, in-below, below-in, distinct-count}
 use Rattle.definitions.specs.Facts.{LineFacts, Ordered, Apart}
 use Rattle.definitions.proofs.Tasks.{SameTasks, tasks-more, line-facts}
 use Rattle.definitions.proofs.Doubled.{rising}
+use Rattle.definitions.proofs.Chosen.{ascends-cons}
 use Rattle.definitions.proofs.Guarantee.{same-times, each-task, times-same, accepted-facts, facts-accepted}
 
 -- Lines and those before them ---------------------------------------------------------------------------------
@@ -70,11 +71,9 @@ rise (p ∷ ps) h d =
 rise-apart : (ps : List ℕ) → Rising ps → (descends ps ≡ false) × (distinct ps ≡ true)
 unfolding descends distinct
 rise-apart [] r = (refl, refl)
-rise-apart (p ∷ ps) (h, r) = let (a, d) = rise-apart ps r in (by ps h a, head-apart p ps (λ i. omega (arith, h p i)) d)
-  where
-    by : (ps : List ℕ) → ((q : ℕ) → In q ps → p < q) → descends ps ≡ false → descends (p ∷ ps) ≡ false
-    by [] h a = refl
-    by (q ∷ ps) h a = neither-false (le-ltb q p (omega (arith, h q (inl refl)))) a
+rise-apart (p ∷ ps) (h, r) =
+    let (a, d) = rise-apart ps r in
+    (ascends-cons p ps (λ q i. omega (arith, h q i)) a, head-apart p ps (λ i. omega (arith, h p i)) d)
 
 -- A line's ticks --------------------------------------------------------------------------------------------------
 
