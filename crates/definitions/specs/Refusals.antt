@@ -5,12 +5,12 @@ use mathlib.Core.Bool.{Bool, true, false, not, _&&_}
 use Rattle.definitions.specs.Lists.{keep, distinct, empty}
 use Rattle.definitions.specs.Text.{firstOf}
 use Rattle.definitions.specs.Job.{Job}
-use Rattle.definitions.specs.Plan.{Replica, Line, Plan, processorsOf}
+use Rattle.definitions.specs.Plan.{Replica, Line, Plan, processorsOf, lineTasks}
 use Rattle.definitions.specs.Times.{Time, tick, same, times, earlies, lates, bestEnd, worstEnd}
 
 -- "Some task has two copies on one box" (12): the tasks of which this is true, in plan order.
 unfoldable pub doubledTasks : List Line → List ℕ
-doubledTasks ns = map (λ n. n .task) (keep (λ n. not (distinct (processorsOf n))) ns)
+doubledTasks ns = lineTasks (keep (λ n. not (distinct (processorsOf n))) ns)
 
 -- All replicas in written order.
 unfoldable pub replicasOf : List Line → List Replica

@@ -100,11 +100,11 @@ module _ (j : Job) where
   abbrev pub feeding : ℕ → ℕ → List Outcome → List Outcome
   feeding t p placed = ofTask t placed
 
-  -- When the data of edge e is on p: "the least, over the predecessor's copies, of early finish + W" (1); late, the largest (3).
+  -- When the data of edge e is on p: in equation (1) "the least, over the predecessor's copies, of early finish + W", in (3) the largest.
   unfoldable pub arrival : (List Time → Time) → List Outcome → ℕ → Edge → Time
   arrival choose placed p e = choose (map (λ d. after (message e (d .processor) p) (d .time)) (feeding (e .from) p placed))
 
-  -- "Over predecessors, the largest of" these (1, 3); 0 with no predecessor.
+  -- "Over predecessors, the largest of" these, in equations (1) and (3); 0 with no predecessor.
   unfoldable pub dataReady : (List Time → Time) → List Outcome → ℕ → ℕ → Time
   dataReady choose placed t p = largest (map (arrival choose placed p) (incoming j t))
 
