@@ -1,22 +1,21 @@
 -- What a program prints stands at the front of its output, and the output's part that is printed holds it.
 use mathlib.Core.Path.{_≡_, ap, _∙_}
 use mathlib.Core.List.{List, [], _∷_}
-use Prim.Native.Nat.{ℕ, _+_, _*_, _≤_}
+use Prim.Native.Nat.{ℕ, _+_, _*_, _%_, _^_, _≤_}
 use native.Mathlib.Omega.{arith}
 use lib.ListN.{length}
 use Rattle.definitions.specs.Lists.{bytes}
 use Rattle.definitions.specs.Limits.{document01}
 use Rattle.definitions.specs.Text.{Result, lineText}
 use Rattle.definitions.specs.Tools.{printed}
-use Rattle.definitions.proofs.Decimal.{length-line}
 use Rattle.lists.specs.Over.{over}
 use Rattle.lists.proofs.Over.{length-over}
-use Rattle.text.specs.Told.{written, placeAfter}
-use Rattle.text.proofs.Writing.{written-fits, place-fits}
+use Rattle.text.specs.Told.{written}
+use Rattle.text.proofs.Writing.{written-fits}
 use Rattle.jobs.specs.Answers.{Answered}
 use Rattle.jobs.specs.declared.Answer.the-variants.{Done, Refusal}
 use Rattle.mirguneth.proofs.Answers.{done-printed, refusal-printed}
-use Rattle.printing.proofs.WriteLaws.{numbers-most}
+use Rattle.printing.proofs.WriteLaws.{line-most, few-counted}
 use Rattle.io.specs.Counts.{Counts}
 use Rattle.io.proofs.Counting.{counts}
 
@@ -25,16 +24,15 @@ front : (d e s : List ℕ) (n : ℕ) → length s ≤ length d → n ≡ length 
 front d e s n h l f = counts n e (omega (arith, ap length f, length-over d 0 s (omega arith)))
 
 -- A writer was given the output d and the bytes s, which fit it.
-module _ (d e s : List ℕ) (n : ℕ) (h : length s ≤ length d) (l : n ≡ placeAfter d 0 s) (f : e ≡ written d 0 s) where
-  pub written-front : (n ≡ length s) × ((e ≡ over d 0 s) × Counts n e)
-  written-front =
-      let k : n ≡ length s = omega (arith, l ∙ place-fits d 0 s (omega arith)) in
-      let g = f ∙ written-fits d 0 s (omega arith) in
-      (k, (g, front d e s n h k g))
+pub written-front : (d e s : List ℕ) (n : ℕ) → length s ≤ length d → n ≡ length s → e ≡ written d 0 s → (n ≡ length s) × ((e ≡ over d 0 s) × Counts n e)
+written-front d e s n h l f = let g = f ∙ written-fits d 0 s (omega arith) in (l, (g, front d e s n h l g))
 
--- A line of refusal has at most 11 bytes for each number.
+-- A line of refusal has at most 11 bytes for each number, and is counted.
 pub refusal-most : (ns : List ℕ) → length (lineText document01 (bytes "N,") ns) ≤ 2 + 11 * length ns
-refusal-most ns = omega (arith, length-line document01 (bytes "N,") ns, numbers-most ns)
+refusal-most = line-most document01 (omega arith) (bytes "N,")
+
+pub refusal-counted : (ns : List ℕ) (r : ℕ) → length ns ≤ 2 → r ≡ length (lineText document01 (bytes "N,") ns) % 2 ^ 64 → r ≡ length (lineText document01 (bytes "N,") ns)
+refusal-counted ns r h e = few-counted document01 (omega arith) (bytes "N,") ns 24 r (omega (arith, h)) (omega arith) e .0
 
 -- The answer x is printed as p, which fits the output d; e is what the output holds after the answer.
 module _ (x : Result (List ℕ)) (p d e : List ℕ) (n : ℕ) (q : p ≡ printed document01 x) (h : length p ≤ length d) where
@@ -45,9 +43,9 @@ module _ (x : Result (List ℕ)) (p d e : List ℕ) (n : ℕ) (q : p ≡ printed
       let g : e ≡ over d 0 p = rw q f in
       (k, (g, front d e p n h k g))
 
-  pub shown-refusal : Answered x d e (Refusal n) → (f : List ℕ) (k : ℕ) → k ≡ placeAfter e 0 (lineText document01 (bytes "N,") (n ∷ []))
+  pub shown-refusal : Answered x d e (Refusal n) → (f : List ℕ) (k : ℕ) → k ≡ length (lineText document01 (bytes "N,") (n ∷ []))
       → f ≡ written e 0 (lineText document01 (bytes "N,") (n ∷ [])) → (k ≡ length p) × ((f ≡ over d 0 p) × Counts k f)
   shown-refusal a f k l g =
       let (r, s) = refusal-printed x d e n a in
       let t : lineText document01 (bytes "N,") (n ∷ []) ≡ p = rw (q, r) in
-      written-front d f p k h (rw (s, t) at l) (rw (s, t) at g)
+      written-front d f p k h (rw t at l) (rw (s, t) at g)

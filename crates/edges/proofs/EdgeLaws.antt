@@ -2,30 +2,33 @@
 use mathlib.Core.Path.{_≡_, refl, sym, _∙_}
 use mathlib.Core.List.{List, [], _∷_, _++_, map, map-append, getLast?}
 use mathlib.Core.Option.{none, some}
-use mathlib.Core.Bool.{Bool, true, false, _&&_, _||_}
+use mathlib.Core.Bool.{Bool, true, false, not, _||_}
 use Prim.Native.Nat.{ℕ, _+_, _*_, _-_, _/_, _%_, _<_, _≤_}
 use native.Mathlib.Omega.{arith}
 use native.Mathlib.Numerals.{add-one}
 use native.Mathlib.Nat.{div-div-eq-div-mul}
-use lib.Dec.{leb, eqb, ltb}
+use lib.Dec.{leb, ltb}
 use lib.ListN.{length, take, drop, drop-of-length-le}
 use lib.Seq.{take-suc, drop-cons, getD-take}
-use borrow.Author.Tests.{eqb-true, eqb-false, eq-eqb, ne-eqb, lt-ltb, le-ltb, ltb-true, ltb-false, leb-true, le-leb}
+use borrow.Author.Tests.{eq-eqb, ne-eqb, lt-ltb, le-ltb, ltb-true, leb-true, le-leb, not-false}
 use Rattle.definitions.specs.Lists.{bytes, nth, any}
-use Rattle.definitions.specs.Limits.{document01}
-use Rattle.definitions.specs.Text.{found, refused, firstOf, line, lines, return}
-use Rattle.definitions.specs.Job.{Edge, samePair, smaller, smallerThanLast, edgeOf, edgeLine, edgeRule, edgeOrder, Ascends}
-use Rattle.definitions.proofs.Lists.{both, both-true, refuted, passed, none-in, last-in}
+use Rattle.definitions.specs.Limits.{Limits}
+use Rattle.definitions.specs.Text.{found, refused, firstOf, line, return}
+use Rattle.definitions.specs.Job.{Edge, outside, samePair, smallerThanLast, edgeOf, edgeLine, edgeRule, edgeOrder, Ascends}
+use Rattle.definitions.proofs.Lists.{both, both-true, neither, inside, passed, none-in, last-in}
 use Rattle.definitions.proofs.Reading.{rule-found}
 use Rattle.definitions.proofs.EdgeOrder.{else-smaller, order-next, order-smaller, ascends-more}
+use Rattle.text.specs.Suited.{Suited}
 use Rattle.text.specs.Told.{ruled}
 use Rattle.lines.proofs.LineLaws.{ruled-no, ruled-yes}
-use Rattle.orders.specs.Edges.{edgeCell, edgeIn}
-use Rattle.edges.specs.Edges.{pairIn, edgesInto}
+use Rattle.orders.specs.Edges.{edgeCell, edgeIn, pairIn}
+use Rattle.orders.proofs.PairLaws.{pair-same, pair-smaller}
+use Rattle.edges.specs.Pairs.{edgeLines, edgesFit, edgesInto}
 
--- An edge in a cell, and back.
-pub edge-of-cell : (e : Edge) → e .from < 256 → e .to < 256 → edgeIn (edgeCell e) ≡ e
-edge-of-cell e f t =
+-- An edge between v tasks in a cell, and back.
+pub edge-of-cell : (l : Limits) → Suited l → (v : ℕ) (e : Edge) → v ≤ l .tasks → e .from < v → e .to < v → edgeIn (edgeCell e) ≡ e
+edge-of-cell l u v e h f t =
+    let i : l .tasks < 256 = u .task-fits in
     let q : edgeCell e / 256 ≡ e .to + 256 * e .volume = omega arith in
     let a : edgeCell e % 256 ≡ e .from = omega arith in
     let b : edgeCell e / 256 % 256 ≡ e .to = rw q (omega arith) in
@@ -35,54 +38,28 @@ edge-of-cell e f t =
 pub cell-of-edge : (c : ℕ) → edgeCell (edgeIn c) ≡ c
 cell-of-edge c = omega (arith, div-div-eq-div-mul c 256 256)
 
--- Pairs as numbers ---------------------------------------------------------------------------------------------------
-
--- A test of numbers is one of pairs.
-pair-same : (c d : ℕ) → eqb (pairIn c) (pairIn d) ≡ samePair (edgeIn c) (edgeIn d)
-pair-same c d = by (eqb (pairIn c) (pairIn d)) refl
-  where
-    by : (b : Bool) → eqb (pairIn c) (pairIn d) ≡ b → b ≡ samePair (edgeIn c) (edgeIn d)
-    by true q =
-        let h : pairIn c ≡ pairIn d = eqb-true _ _ q in
-        sym (both-true (eq-eqb (c % 256) (d % 256) (omega arith)) (eq-eqb (c / 256 % 256) (d / 256 % 256) (omega arith)))
-    by false q =
-        sym (refuted (samePair (edgeIn c) (edgeIn d)) λ r.
-        let (f, t) = both (eqb (c % 256) (d % 256)) (eqb (c / 256 % 256) (d / 256 % 256)) r in
-        eqb-false (pairIn c) (pairIn d) q (omega (arith, eqb-true (c % 256) (d % 256) f, eqb-true (c / 256 % 256) (d / 256 % 256) t)))
-
-pair-smaller : (c d : ℕ) → ltb (pairIn c) (pairIn d) ≡ smaller (edgeIn c) (edgeIn d)
-pair-smaller c d = by (ltb (c % 256) (d % 256)) refl (eqb (c % 256) (d % 256)) refl (ltb (c / 256 % 256) (d / 256 % 256)) refl
-  where
-    by : (a : Bool) → ltb (c % 256) (d % 256) ≡ a → (b : Bool) → eqb (c % 256) (d % 256) ≡ b → (t : Bool) → ltb (c / 256 % 256) (d / 256 % 256) ≡ t
-        → ltb (pairIn c) (pairIn d) ≡ (a || (b && t))
-    by true p b q t r = lt-ltb (pairIn c) (pairIn d) (omega (arith, ltb-true (c % 256) (d % 256) p))
-    by false p true q true r = lt-ltb (pairIn c) (pairIn d) (omega (arith, eqb-true (c % 256) (d % 256) q, ltb-true (c / 256 % 256) (d / 256 % 256) r))
-    by false p true q false r = le-ltb (pairIn c) (pairIn d) (omega (arith, eqb-true (c % 256) (d % 256) q, ltb-false (c / 256 % 256) (d / 256 % 256) r))
-    by false p false q t r =
-        let n : c % 256 ≡ d % 256 → ⊥ = eqb-false (c % 256) (d % 256) q in
-        le-ltb (pairIn c) (pairIn d) (omega (arith, ltb-false (c % 256) (d % 256) p, n))
-
 -- The rule of an edge ------------------------------------------------------------------------------------------------
 
-module _ (v : ℕ) (seen : List Edge) (e : Edge) where
-  -- A task or the volume is outside its range.
-  pub edge-from : v ≤ e .from → 3 ≡ edgeRule document01 v seen e
-  unfolding edgeRule firstOf
-  edge-from h = rw (le-ltb _ _ h)
+-- A task or the volume is outside its range.
+abbrev pub edgeAstray : Limits → ℕ → Edge → Bool
+edgeAstray l v e = not (ltb (e .from) v) || not (ltb (e .to) v) || outside 0 (l .volume) (e .volume)
 
-  pub edge-to : e .from < v → v ≤ e .to → 3 ≡ edgeRule document01 v seen e
+module _ (l : Limits) (v : ℕ) (e : Edge) where
+  pub edge-astray : edgeAstray l v e ≡ true → (seen : List Edge) → 3 ≡ edgeRule l v seen e
   unfolding edgeRule firstOf
-  edge-to f h = rw (lt-ltb _ _ f, le-ltb _ _ h)
-
-  pub edge-volume : e .from < v → e .to < v → 4095 < e .volume → 3 ≡ edgeRule document01 v seen e
-  unfolding edgeRule firstOf
-  edge-volume f t h = rw (lt-ltb _ _ f, lt-ltb _ _ t, le-ltb (e .volume) 0 (omega arith), lt-ltb _ _ h)
+  edge-astray h seen = rw h
 
   -- Else the rules between it and those before it count.
-  module _ (f : e .from < v) (t : e .to < v) (h : e .volume ≤ 4095) where
-    pub edge-order : edgeRule document01 v seen e ≡ firstOf (edgeOrder seen e)
+  module _ (h : edgeAstray l v e ≡ false) where
+    pub edge-within : (e .from < v) × (e .to < v) × (e .volume ≤ l .volume)
+    edge-within =
+        let (a, c) = neither (not (ltb (e .from) v) || not (ltb (e .to) v)) (outside 0 (l .volume) (e .volume)) h in
+        let (f, t) = neither (not (ltb (e .from) v)) (not (ltb (e .to) v)) a in
+        (ltb-true _ _ (not-false _ f), ltb-true _ _ (not-false _ t), inside 0 (l .volume) (e .volume) c .1)
+
+    pub edge-order : (seen : List Edge) → edgeRule l v seen e ≡ firstOf (edgeOrder seen e)
     unfolding edgeRule firstOf
-    edge-order = rw (lt-ltb _ _ f, lt-ltb _ _ t, le-ltb (e .volume) 0 (omega arith), le-ltb _ _ h)
+    edge-order seen = rw h
 
 -- The order of edges in cells -----------------------------------------------------------------------------------------
 
@@ -114,39 +91,39 @@ module _ (cs : List ℕ) (c x : ℕ) (l : getLast? (map edgeIn cs) ≡ some (edg
       order-smaller (map edgeIn cs) (edgeIn c) n q b
 
 -- An edge line after some edges: its form, then its rule.
-module _ (v : ℕ) (seen : List Edge) (s : List ℕ) where
-  pub edge-bad : (x : ℕ) → line document01 (bytes "E,") 3 s ≡ refused x → refused x ≡ ruled (edgeLine document01) (edgeRule document01 v) seen s
+module _ (l : Limits) (v : ℕ) (seen : List Edge) (s : List ℕ) where
+  pub edge-bad : (x : ℕ) → line l (bytes "E,") 3 s ≡ refused x → refused x ≡ ruled (edgeLine l) (edgeRule l v) seen s
   unfolding edgeLine
   edge-bad x e = rw e
 
   -- Its numbers stand at the front of ys.
-  module _ (ys r : List ℕ) (e : line document01 (bytes "E,") 3 s ≡ found (take 3 ys) r) (x : ℕ) (f : x ≡ edgeRule document01 v seen (edgeOf ys)) where
-    formed : edgeLine document01 s ≡ found (edgeOf ys) r
+  module _ (ys r : List ℕ) (e : line l (bytes "E,") 3 s ≡ found (take 3 ys) r) (x : ℕ) (f : x ≡ edgeRule l v seen (edgeOf ys)) where
+    formed : edgeLine l s ≡ found (edgeOf ys) r
     unfolding edgeLine
     formed = rw (e, getD-take 3 ys 0 0 (omega arith), getD-take 3 ys 1 0 (omega arith), getD-take 3 ys 2 0 (omega arith))
 
-    pub edge-no : 0 < x → refused x ≡ ruled (edgeLine document01) (edgeRule document01 v) seen s
-    edge-no g = ruled-no (edgeLine document01) (edgeRule document01 v) seen s (edgeOf ys) r formed x f g
+    pub edge-no : 0 < x → refused x ≡ ruled (edgeLine l) (edgeRule l v) seen s
+    edge-no g = ruled-no (edgeLine l) (edgeRule l v) seen s (edgeOf ys) r formed x f g
 
-    pub edge-yes : x ≤ 0 → found (edgeOf ys) r ≡ ruled (edgeLine document01) (edgeRule document01 v) seen s
-    edge-yes g = ruled-yes (edgeLine document01) (edgeRule document01 v) seen s (edgeOf ys) r formed x f g
+    pub edge-yes : x ≤ 0 → found (edgeOf ys) r ≡ ruled (edgeLine l) (edgeRule l v) seen s
+    edge-yes g = ruled-yes (edgeLine l) (edgeRule l v) seen s (edgeOf ys) r formed x f g
 
 -- Whether n edges fit so many cells.
-module _ (room v n : ℕ) (s : List ℕ) where
-  pub edges-fit : (leb v 255 && leb n room) ≡ true → edgesInto room v n s ≡ lines (edgeLine document01) (edgeRule document01 v) n [] s
+module _ (l : Limits) (room v n : ℕ) where
+  pub edges-fit : (s : List ℕ) → edgesFit l room v n ≡ true → edgesInto l room v n s ≡ edgeLines l v n [] s
   unfolding edgesInto
-  edges-fit e = rw e
+  edges-fit s e = rw e
 
-  pub edges-unfit : (leb v 255 && leb n room) ≡ false → refused 8 ≡ edgesInto room v n s
+  pub edges-unfit : (s : List ℕ) → edgesFit l room v n ≡ false → refused 8 ≡ edgesInto l room v n s
   unfolding edgesInto
-  edges-unfit e = rw e
+  edges-unfit s e = rw e
 
-  pub edges-enough : v ≤ 255 → n ≤ room → edgesInto room v n s ≡ lines (edgeLine document01) (edgeRule document01 v) n [] s
-  edges-enough h g = edges-fit (both-true (le-leb v 255 h) (le-leb n room g))
+  -- What the test says.
+  pub edges-room : edgesFit l room v n ≡ true → (v ≤ l .tasks) × (n ≤ room)
+  edges-room e = let (a, b) = both (leb v (l .tasks)) (leb n room) e in (leb-true v (l .tasks) a, leb-true n room b)
 
--- What the test says.
-pub edges-room : (room v n : ℕ) → (leb v 255 && leb n room) ≡ true → (v ≤ 255) × (n ≤ room)
-edges-room room v n e = let (a, b) = both (leb v 255) (leb n room) e in (leb-true v 255 a, leb-true n room b)
+  pub edges-enough : (s : List ℕ) → v ≤ l .tasks → n ≤ room → edgesInto l room v n s ≡ edgeLines l v n [] s
+  edges-enough s h g = edges-fit s (both-true (le-leb v (l .tasks) h) (le-leb n room g))
 
 -- Edges in cells ---------------------------------------------------------------------------------------------------------
 
@@ -175,10 +152,10 @@ pub edges-more : (cs : List ℕ) (i : ℕ) → i < length cs → map edgeIn (tak
 edges-more cs i h = rw (add-one i, take-suc cs i 0 h) (map-append edgeIn (take i cs) (nth cs i ∷ []))
 
 -- With a line that was found the edges go on ascending.
-pub edge-passed : (v : ℕ) (seen : List Edge) (s : List ℕ) (e : Edge) (r : List ℕ) → Ascends seen
-    → ruled (edgeLine document01) (edgeRule document01 v) seen s ≡ found e r → Ascends (seen ++ e ∷ [])
+pub edge-passed : (l : Limits) (v : ℕ) (seen : List Edge) (s : List ℕ) (e : Edge) (r : List ℕ) → Ascends seen
+    → ruled (edgeLine l) (edgeRule l v) seen s ≡ found e r → Ascends (seen ++ e ∷ [])
 unfolding edgeRule
-edge-passed v seen s e r a f =
-    let (d, t, _, z, g) = rule-found (edgeLine document01 s) (edgeRule document01 v seen) (λ d. return d) e r f in
+edge-passed l v seen s e r a f =
+    let (d, t, _, z, g) = rule-found (edgeLine l s) (edgeRule l v seen) (λ d. return d) e r f in
     let q : d ≡ e = cc in
     rw q at (ascends-more seen d a (passed _ _ _ z .1))

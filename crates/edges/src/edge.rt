@@ -1,44 +1,35 @@
 // E lines, one after another: each is held against the one before it, and only where it is smaller against all before it.
 ghost use mathlib.Core.Path.{_≡_};
-ghost use mathlib.Core.Bool.{_&&_};
 ghost use mathlib.Core.List.{[], map};
 ghost use Prim.Native.Nat.{_≤_, _<_};
-ghost use lib.Dec.{leb};
 ghost use lib.ListN.{length, take, drop};
 ghost use Rattle.definitions.specs.Lists.{nth, any};
 ghost use Rattle.definitions.specs.Limits.{document01};
-ghost use Rattle.definitions.specs.Text.{firstOf, lines};
+ghost use Rattle.definitions.specs.Text.{firstOf};
 ghost use Rattle.definitions.specs.Job.{Ascends, samePair, edgeOrder, edgeLine, edgeRule};
 ghost use Rattle.text.specs.Told.{told, ruled};
 ghost use Rattle.orders.specs.Edges.{edgeCell, edgeIn};
-ghost use Rattle.edges.specs.Edges.{pairIn};
+ghost use Rattle.edges.specs.Pairs.{edgeLines, edgesFit};
+use orders::edge_pair;
 use text::Step;
+use text::limits::TASKS;
+use text::limits::VOLUME;
 
 // There is room for n edges between v tasks in so many cells.
 pub fn fits(v: u64, n: usize, size: usize) -> bool
-    ensures { λ r. ⌜ r ≡ (leb v 255 && leb n size) ⌝ }
+    ensures { λ r. ⌜ r ≡ edgesFit document01 size v n ⌝ }
 {
-    if v > 255 {
-        return false;
-    }
-    n <= size
-}
-
-// The pair of the edge in a cell as one number, by from, then by to.
-fn pair_of(cell: u64) -> u64
-    ensures { λ r. ⌜ r ≡ pairIn cell ⌝ }
-{
-    cell % 256 * 256 + cell / 256 % 256
+    (v <= TASKS) & (n <= size)
 }
 
 // Some edge has the pair of the edge in a cell.
 fn is_repeated(before: &[u64], cell: u64) -> bool
     ensures { λ r. ⌜ r ≡ any (λ d. samePair d (edgeIn cell)) (map edgeIn (now (before .entry))) ⌝ }
 {
-    let pair = pair_of(cell);
+    let pair = edge_pair(cell);
     let mut i = 0;
     while i < before.len() {
-        if pair_of(before[i]) == pair {
+        if edge_pair(before[i]) == pair {
             return true;
         }
         i += 1;
@@ -59,7 +50,7 @@ fn check_order(before: &[u64], cell: u64) -> u64
     if n == 0 {
         return 0;
     }
-    if pair_of(before[n - 1]) < pair_of(cell) {
+    if edge_pair(before[n - 1]) < edge_pair(cell) {
         return 0;
     }
     if is_repeated(before, cell) {
@@ -70,7 +61,7 @@ fn check_order(before: &[u64], cell: u64) -> u64
 
 // An edge in one cell.
 fn cell_of(from: u64, to: u64, volume: u64) -> u64
-    requires { ⌜ (from < 256) × (to < 256) × (volume ≤ 4095) ⌝ }
+    requires { ⌜ (from < document01 .tasks) × (to < document01 .tasks) × (volume ≤ document01 .volume) ⌝ }
     ensures { λ r. ⌜ r ≡ edgeCell (record { from = from; to = to; volume = volume }) ⌝ }
 {
     from + 256 * to + 65536 * volume
@@ -78,17 +69,11 @@ fn cell_of(from: u64, to: u64, volume: u64) -> u64
 
 // The number of the refusal of an edge after some that ascend, or 0.
 fn check_edge(v: u64, from: u64, to: u64, volume: u64, before: &[u64]) -> u64
-    requires { ⌜ (v ≤ 255) × Ascends (map edgeIn (now before)) ⌝ }
+    requires { ⌜ (v ≤ document01 .tasks) × Ascends (map edgeIn (now before)) ⌝ }
     ensures { λ r. ⌜ (r ≡ edgeRule document01 v (map edgeIn (now (before .entry))) (record { from = from; to = to; volume = volume }))
-        × (r ≡ 0 → (from < v) × (to < v) × (volume ≤ 4095)) ⌝ }
+        × (r ≡ 0 → (from < v) × (to < v) × (volume ≤ document01 .volume)) ⌝ }
 {
-    if from >= v {
-        return 3;
-    }
-    if to >= v {
-        return 3;
-    }
-    if volume > 4095 {
+    if !(from < v) | !(to < v) | text::outside(0, VOLUME, volume) {
         return 3;
     }
     check_order(before, cell_of(from, to, volume))
@@ -96,7 +81,7 @@ fn check_edge(v: u64, from: u64, to: u64, volume: u64, before: &[u64]) -> u64
 
 // The edge line at `at`, after the i edges in front of `mem`: its cell then stands behind them.
 fn read_edge(s: &[u8], at: usize, v: u64, mem: &mut [u64], i: usize) -> Step
-    requires { ⌜ (v ≤ 255) × (i < length (now mem)) × Ascends (map edgeIn (take i (now mem))) ⌝ }
+    requires { ⌜ (v ≤ document01 .tasks) × (i < length (now mem)) × Ascends (map edgeIn (take i (now mem))) ⌝ }
     ensures { λ r. ⌜ (take i (now (mem .exit)) ≡ take i (now (mem .entry)))
         × (told (now (s .entry)) (edgeIn (nth (now (mem .exit)) i)) r ≡ ruled (edgeLine document01) (edgeRule document01 v) (map edgeIn (take i (now (mem .entry)))) (drop at (now (s .entry)))) ⌝ }
 {
@@ -119,8 +104,8 @@ fn read_edge(s: &[u8], at: usize, v: u64, mem: &mut [u64], i: usize) -> Step
 
 // n edge lines, kept from the front of `mem` on, one cell each.
 pub fn fill_edges(s: &[u8], at: usize, v: u64, n: usize, mem: &mut [u64]) -> Step
-    requires { ⌜ (v ≤ 255) × (n ≤ length (now mem)) ⌝ }
-    ensures { λ r. ⌜ told (now (s .entry)) (map edgeIn (take n (now (mem .exit)))) r ≡ lines (edgeLine document01) (edgeRule document01 v) n [] (drop at (now (s .entry))) ⌝ }
+    requires { ⌜ (v ≤ document01 .tasks) × (n ≤ length (now mem)) ⌝ }
+    ensures { λ r. ⌜ told (now (s .entry)) (map edgeIn (take n (now (mem .exit)))) r ≡ edgeLines document01 v n [] (drop at (now (s .entry))) ⌝ }
 {
     let mut i = 0;
     let mut p = at;

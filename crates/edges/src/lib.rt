@@ -2,16 +2,17 @@
 ghost use mathlib.Core.Path.{_≡_};
 ghost use mathlib.Core.List.{map};
 ghost use lib.ListN.{length, take, drop};
+ghost use Rattle.definitions.specs.Limits.{document01};
 ghost use Rattle.text.specs.Told.{told};
 ghost use Rattle.orders.specs.Edges.{edgeIn};
-ghost use Rattle.edges.specs.Edges.{edgesInto};
+ghost use Rattle.edges.specs.Pairs.{edgesInto};
 use text::Step;
 
 mod edge;
 
-// n edge lines, kept from the front of `mem` on, one cell each. 8 if there are more than 255 tasks, or fewer cells than edges.
+// n edge lines, kept from the front of `mem` on, one cell each. 8 if there are more than the most tasks, or fewer cells than edges.
 pub fn read_edges(s: &[u8], at: usize, v: u64, n: usize, mem: &mut [u64]) -> Step
-    ensures { λ r. ⌜ told (now (s .entry)) (map edgeIn (take n (now (mem .exit)))) r ≡ edgesInto (length (now (mem .entry))) v n (drop at (now (s .entry))) ⌝ }
+    ensures { λ r. ⌜ told (now (s .entry)) (map edgeIn (take n (now (mem .exit)))) r ≡ edgesInto document01 (length (now (mem .entry))) v n (drop at (now (s .entry))) ⌝ }
 {
     if edge::fits(v, n, mem.len()) {
         return edge::fill_edges(s, at, v, n, mem);

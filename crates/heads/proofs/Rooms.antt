@@ -1,36 +1,40 @@
 -- How many rooms a job needs.
 use mathlib.Core.Path.{_≡_, refl}
-use mathlib.Core.Bool.{Bool, true, false}
+use mathlib.Core.Bool.{Bool, true, false, _&&_}
 use Prim.Native.Nat.{ℕ, _+_, _*_, _<_, _≤_}
 use native.Mathlib.Omega.{arith}
 use native.Mathlib.Nat.{mul-le-mul}
-use borrow.Author.Tests.{leb-true, le-leb, lt-leb, eqb-true, eq-eqb, ne-eqb}
-use lib.Dec.{leb}
+use borrow.Author.Tests.{leb-true, le-leb, lt-leb, eqb-true, eq-eqb}
+use lib.Dec.{leb, eqb}
 use Rattle.definitions.specs.Lists.{if_then_else_}
-use Rattle.definitions.specs.Limits.{document01}
+use Rattle.definitions.specs.Limits.{Limits, document01}
 use Rattle.definitions.specs.Job.{JobHead, jobHeadRule}
 use Rattle.definitions.proofs.Lists.{both, both-true}
 use Rattle.definitions.proofs.Reading.{job-head-parts}
-use Rattle.heads.specs.Layout.{memorySize, jobSize, cellsFor, FitsIn, hasRoom, roomsFor}
+use Rattle.heads.specs.Layout.{memorySize, linksRoom, jobSize, cellsFor, FitsIn, hasRoom, roomsFor, largest}
 use Rattle.heads.specs.Heads.{roomy}
 
--- Every job fits a memory of 32 rooms.
-pub fits-most : (h : JobHead) → jobHeadRule document01 h ≡ 0 → FitsIn 32 h
-fits-most h z =
-    let (_, v, _, m, e, _, _) = job-head-parts document01 h z in
-    let w : (h .tasks + h .processors) * (h .processors + 1) ≤ 4607 = mul-le-mul {n₁ = h .tasks + h .processors} {m₁ = h .processors + 1} {n₂ = 271} {m₂ = 17} (omega (arith, v, m)) (omega (arith, m)) in
-    (omega (arith, v), omega (arith, e), omega (arith, w, e))
+-- The largest job of document 01 fits a memory of 32 rooms.
+pub largest-fits : FitsIn 32 (largest document01)
+largest-fits = (omega arith, omega arith, omega arith)
+
+-- Every job does, if the largest does.
+pub fits-most : (l : Limits) → FitsIn 32 (largest l) → (h : JobHead) → jobHeadRule l h ≡ 0 → FitsIn 32 h
+fits-most l (a, b, c) h z =
+    let (_, v, _, m, e, _, _) = job-head-parts l h z in
+    let w = mul-le-mul {n₁ = h .tasks + h .processors} {m₁ = h .processors + 1} {n₂ = l .tasks + l .processors} {m₂ = l .processors + 1} (omega (arith, v, m)) (omega (arith, m)) in
+    (omega (arith, v, a), omega (arith, e, b), omega (arith, w, e, c))
 
 module _ (rooms : ℕ) (h : JobHead) where
   -- The test finds out whether a job fits.
-  pub room-fits : hasRoom rooms h ≡ true → FitsIn rooms h
+  room-fits : hasRoom rooms h ≡ true → FitsIn rooms h
   unfolding hasRoom
   room-fits e =
       let (f, c) = both _ _ e in
       let (a, b) = both _ _ f in
       (leb-true _ _ a, leb-true _ _ b, leb-true _ _ c)
 
-  pub fits-room : FitsIn rooms h → hasRoom rooms h ≡ true
+  fits-room : FitsIn rooms h → hasRoom rooms h ≡ true
   unfolding hasRoom
   fits-room (a, b, c) = both-true (both-true (le-leb _ _ a) (le-leb _ _ b)) (le-leb _ _ c)
 
@@ -54,64 +58,51 @@ module _ (rooms : ℕ) (h : JobHead) where
 
       pub many-processors : rooms ≤ 32 → 5664 < h .processors → false ≡ hasRoom rooms h
       many-processors r c =
-          let w : h .processors * 1 ≤ (h .tasks + h .processors) * (h .processors + 1) = mul-le-mul {n₁ = h .processors} {m₁ = 1} {n₂ = h .tasks + h .processors} {m₂ = h .processors + 1} (omega arith) (omega arith) in
+          let w : h .processors * 1 ≤ (h .tasks + h .processors) * (h .processors + 1) = mul-le-mul {n₁ = h .processors} {m₁ = 1} {n₂ = h .tasks + h .processors} {m₂ = h .processors + 1}
+          (omega arith) (omega arith) in
           many-cells (omega (arith, w, r, c))
 
--- A job whose head has passed its rule fits as many rooms as it is given.
-pub rooms-fit : (h : JobHead) → jobHeadRule document01 h ≡ 0 → FitsIn (roomsFor h) h
+-- The rooms that a job is given are 1, 2, 8 or 32.
+rooms-cases : (h : JobHead) (P : ℕ → Type 0) → (hasRoom 1 h ≡ true → P 1) → (hasRoom 2 h ≡ true → P 2) → (hasRoom 8 h ≡ true → P 8) → P 32 → P (roomsFor h)
 unfolding roomsFor
-rooms-fit h z = by (hasRoom 1 h) (hasRoom 2 h) (hasRoom 8 h) (room-fits 1 h) (room-fits 2 h) (room-fits 8 h)
+rooms-cases h P = by (hasRoom 1 h) (hasRoom 2 h) (hasRoom 8 h)
   where
-    by : (a b c : Bool) → (a ≡ true → FitsIn 1 h) → (b ≡ true → FitsIn 2 h) → (c ≡ true → FitsIn 8 h)
-        → FitsIn (if a then 1 else (if b then 2 else (if c then 8 else 32))) h
-    by true b c f g k = f refl
-    by false true c f g k = g refl
-    by false false true f g k = k refl
-    by false false false f g k = fits-most h z
+    by : (a b c : Bool) → (a ≡ true → P 1) → (b ≡ true → P 2) → (c ≡ true → P 8) → P 32 → P (if a then 1 else (if b then 2 else (if c then 8 else 32)))
+    by true b c f g k m = f refl
+    by false true c f g k m = g refl
+    by false false true f g k m = k refl
+    by false false false f g k m = m
+
+-- A job whose head has passed its rule fits them.
+pub rooms-fit : (l : Limits) → FitsIn 32 (largest l) → (h : JobHead) → jobHeadRule l h ≡ 0 → FitsIn (roomsFor h) h
+rooms-fit l u h z = rooms-cases h (λ n. FitsIn n h) (room-fits 1 h) (room-fits 2 h) (room-fits 8 h) (fits-most l u h z)
 
 pub rooms-most : (h : JobHead) → roomsFor h ≤ 32
-unfolding roomsFor
-rooms-most h = by (hasRoom 1 h) (hasRoom 2 h) (hasRoom 8 h)
-  where
-    by : (a b c : Bool) → (if a then 1 else (if b then 2 else (if c then 8 else 32))) ≤ 32
-    by true b c = omega arith
-    by false true c = omega arith
-    by false false true = omega arith
-    by false false false = omega arith
+rooms-most h = rooms-cases h (λ n. n ≤ 32) (λ _. omega arith) (λ _. omega arith) (λ _. omega arith) (omega arith)
 
--- They are 1, 2, 8 or 32.
 pub rooms-last : (h : JobHead) → (roomsFor h ≡ 1 → ⊥) → (roomsFor h ≡ 2 → ⊥) → (roomsFor h ≡ 8 → ⊥) → roomsFor h ≡ 32
-unfolding roomsFor
-rooms-last h = by (hasRoom 1 h) (hasRoom 2 h) (hasRoom 8 h) (roomsFor h) refl
-  where
-    by : (a b c : Bool) (n : ℕ) → n ≡ (if a then 1 else (if b then 2 else (if c then 8 else 32))) → (n ≡ 1 → ⊥) → (n ≡ 2 → ⊥) → (n ≡ 8 → ⊥) → n ≡ 32
-    by true b c n e f g k = absurd (f e)
-    by false true c n e f g k = absurd (g e)
-    by false false true n e f g k = absurd (k e)
-    by false false false n e f g k = e
+rooms-last h =
+    rooms-cases h (λ n. (n ≡ 1 → ⊥) → (n ≡ 2 → ⊥) → (n ≡ 8 → ⊥) → n ≡ 32)
+    (λ _ f g k. absurd (f refl)) (λ _ f g k. absurd (g refl)) (λ _ f g k. absurd (k refl)) (λ f g k. refl)
 
 -- The test of a memory and a head.
-module _ (rooms size : ℕ) (h : JobHead) where
-  pub roomy-parts : roomy rooms size h ≡ true → (rooms ≤ 32) × (size ≡ memorySize rooms) × FitsIn rooms h
+module _ (rooms size links : ℕ) (h : JobHead) where
+  pub roomy-parts : roomy rooms size links h ≡ true → (rooms ≤ 32) × (size ≡ memorySize rooms) × (linksRoom rooms ≤ links) × FitsIn rooms h
   unfolding roomy
   roomy-parts e =
-      let (f, c) = both _ _ e in
+      let (g, d) = both _ _ e in
+      let (f, c) = both _ _ g in
       let (a, b) = both _ _ f in
-      (leb-true _ _ a, eqb-true _ _ b, room-fits rooms h c)
+      (leb-true _ _ a, eqb-true _ _ b, leb-true _ _ c, room-fits rooms h d)
 
-  pub roomy-made : rooms ≤ 32 → size ≡ memorySize rooms → FitsIn rooms h → roomy rooms size h ≡ true
+  pub roomy-made : rooms ≤ 32 → size ≡ memorySize rooms → linksRoom rooms ≤ links → FitsIn rooms h → roomy rooms size links h ≡ true
   unfolding roomy
-  roomy-made a b c = both-true (both-true (le-leb _ _ a) (eq-eqb _ _ b)) (fits-room rooms h c)
+  roomy-made a b c d = both-true (both-true (both-true (le-leb _ _ a) (eq-eqb _ _ b)) (le-leb _ _ c)) (fits-room rooms h d)
 
-  pub many-rooms : 32 < rooms → false ≡ roomy rooms size h
+  pub many-rooms : 32 < rooms → false ≡ roomy rooms size links h
   unfolding roomy
   many-rooms a = rw (lt-leb rooms 32 a)
 
-  module _ (a : rooms ≤ 32) where
-    pub other-size : (size ≡ memorySize rooms → ⊥) → false ≡ roomy rooms size h
-    unfolding roomy
-    other-size b = rw (le-leb rooms 32 a, ne-eqb size (memorySize rooms) b)
-
-    pub this-size : size ≡ memorySize rooms → hasRoom rooms h ≡ roomy rooms size h
-    unfolding roomy
-    this-size b = rw (le-leb rooms 32 a, eq-eqb size (memorySize rooms) b)
+  pub few-rooms : rooms ≤ 32 → (eqb size (memorySize rooms) && leb (linksRoom rooms) links && hasRoom rooms h) ≡ roomy rooms size links h
+  unfolding roomy
+  few-rooms a = rw (le-leb rooms 32 a)

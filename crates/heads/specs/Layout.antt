@@ -4,11 +4,16 @@ use Prim.Native.Nat.{ℕ, _+_, _*_, _≤_}
 use mathlib.Core.Bool.{Bool, _&&_}
 use lib.Dec.{leb}
 use Rattle.definitions.specs.Lists.{if_then_else_}
+use Rattle.definitions.specs.Limits.{Limits}
 use Rattle.definitions.specs.Job.{JobHead}
 
 -- All cells.
 abbrev pub memorySize : ℕ → ℕ
-memorySize rooms = 505 * rooms
+memorySize rooms = 425 * rooms
+
+-- The cells that are lent beside it for the links between the job's edges.
+abbrev pub linksRoom : ℕ → ℕ
+linksRoom rooms = 68 * rooms
 
 -- The cells that a job may take.
 abbrev pub jobSize : ℕ → ℕ
@@ -30,41 +35,29 @@ hasRoom rooms h = leb (h .tasks) (8 * rooms) && leb (h .edges) (32 * rooms) && l
 unfoldable pub roomsFor : JobHead → ℕ
 roomsFor h = if hasRoom 1 h then 1 else (if hasRoom 2 h then 2 else (if hasRoom 8 h then 8 else 32))
 
--- For each task the link to the newest edge that enters it.
-abbrev pub inHeadAt : ℕ → ℕ
-inHeadAt rooms = 177 * rooms
-
--- For each edge the link to the next one that enters the same task.
-abbrev pub inNextAt : ℕ → ℕ
-inNextAt rooms = 185 * rooms
-
--- For each task the link to the newest edge that leaves it.
-abbrev pub outHeadAt : ℕ → ℕ
-outHeadAt rooms = 217 * rooms
-
--- For each edge the link to the next one that leaves the same task.
-abbrev pub outNextAt : ℕ → ℕ
-outNextAt rooms = 225 * rooms
+-- The head of the largest job.
+abbrev pub largest : Limits → JobHead
+largest l = record { tasks = l .tasks; processors = l .processors; edges = l .edges; losses = l .losses }
 
 -- Bottom levels by task.
 abbrev pub levelAt : ℕ → ℕ
-levelAt rooms = 257 * rooms
+levelAt rooms = 177 * rooms
 
 -- For each task its line in the plan, counted from 1; 0 if it is not placed.
 abbrev pub lineAt : ℕ → ℕ
-lineAt rooms = 265 * rooms
+lineAt rooms = 185 * rooms
 
 -- For each task the number of its edges from tasks that are not placed.
 abbrev pub blockedAt : ℕ → ℕ
-blockedAt rooms = 273 * rooms
+blockedAt rooms = 193 * rooms
 
 -- For each free task its priority.
 abbrev pub priorityAt : ℕ → ℕ
-priorityAt rooms = 281 * rooms
+priorityAt rooms = 201 * rooms
 
 -- The plan's lines, 25 cells each: the task, then processor, early and late for each replica.
 abbrev pub rowAt : ℕ → ℕ → ℕ
-rowAt rooms i = 289 * rooms + i * 25
+rowAt rooms i = 209 * rooms + i * 25
 
 -- In the line at a, replica c: its processor, its early and its late time; the place after it.
 abbrev pub processorAt : ℕ → ℕ → ℕ
@@ -85,12 +78,12 @@ timeAt late a c = a + ((if late then 3 else 2) + 3 * c)
 
 -- For each processor its largest delay to any processor, after the last line.
 abbrev pub farAt : ℕ → ℕ
-farAt rooms = 489 * rooms
+farAt rooms = 409 * rooms
 
 -- M* of a plan that is complete, where the counts of blocking edges stood.
 abbrev pub bestAt : ℕ → ℕ
-bestAt rooms = 273 * rooms
+bestAt rooms = 193 * rooms
 
 -- M of that plan, in the same table.
 abbrev pub worstAt : ℕ → ℕ
-worstAt rooms = 274 * rooms
+worstAt rooms = 194 * rooms

@@ -4,8 +4,14 @@ ghost use Rattle.definitions.specs.Limits.{document01};
 ghost use Rattle.definitions.specs.Job.{jobHeadRule};
 ghost use Rattle.heads.specs.Layout.{roomsFor};
 ghost use Rattle.heads.specs.Heads.{headOf, HeadRead, roomy};
+use crate::layout::LINKS;
 use crate::layout::ROOM;
 use text::Step;
+use text::limits::EDGES;
+use text::limits::LOSSES;
+use text::limits::PROCESSORS;
+use text::limits::TASKS;
+use text::limits::TEXT_LENGTH;
 
 pub mod layout;
 mod room;
@@ -25,25 +31,14 @@ pub enum Opening {
 }
 
 // The number of the refusal of a job's head, or 0.
-pub fn check_head(head: Head) -> u64
+pub fn head_rule(head: Head) -> u64
     ensures { λ r. ⌜ r ≡ jobHeadRule document01 (headOf head) ⌝ }
 {
-    if head.tasks < 1 {
-        return 3;
-    }
-    if head.tasks > 255 {
-        return 3;
-    }
-    if head.processors < 1 {
-        return 3;
-    }
-    if head.processors > 16 {
-        return 3;
-    }
-    if head.edges > 1024 {
-        return 3;
-    }
-    if head.losses > 7 {
+    let tasks = text::outside(1, TASKS, head.tasks);
+    let processors = text::outside(1, PROCESSORS, head.processors);
+    let edges = text::outside(0, EDGES, head.edges);
+    let losses = text::outside(0, LOSSES, head.losses);
+    if tasks | processors | edges | losses {
         return 3;
     }
     if head.processors < head.losses + 1 {
@@ -54,9 +49,9 @@ pub fn check_head(head: Head) -> u64
 
 // A job's head.
 pub fn read_head(s: &[u8]) -> Opening
-    ensures { λ r. ⌜ HeadRead (now (s .entry)) r ⌝ }
+    ensures { λ r. ⌜ HeadRead document01 (now (s .entry)) r ⌝ }
 {
-    if s.len() > 65536 {
+    if s.len() > TEXT_LENGTH {
         return Opening::Refused(1);
     }
     let mut line = [0u64; 4];
@@ -68,7 +63,7 @@ pub fn read_head(s: &[u8]) -> Opening
                 edges: line[2],
                 losses: line[3],
             };
-            let x = check_head(head);
+            let x = head_rule(head);
             if x > 0 {
                 return Opening::Refused(x);
             }
@@ -94,15 +89,12 @@ pub fn rooms_for(head: Head) -> usize
     32
 }
 
-// A memory of so many cells has so many rooms, and a job with this head fits it.
-pub fn roomy(head: Head, size: usize, rooms: usize) -> bool
-    ensures { λ r. ⌜ r ≡ roomy rooms size (headOf head) ⌝ }
+// A memory of so many cells has so many rooms, with as many beside it for the links, and a job with this head fits it.
+pub fn roomy(head: Head, size: usize, links: usize, rooms: usize) -> bool
+    ensures { λ r. ⌜ r ≡ roomy rooms size links (headOf head) ⌝ }
 {
     if rooms > 32 {
         return false;
     }
-    if size != ROOM * rooms {
-        return false;
-    }
-    room::fits(head, rooms)
+    (size == ROOM * rooms) & (LINKS * rooms <= links) & room::fits(head, rooms)
 }

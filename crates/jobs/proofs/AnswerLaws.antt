@@ -1,6 +1,6 @@
 -- What the answer of the reader of jobs says, and the public answer that is made of it.
 use mathlib.Core.Path.{_≡_, refl, ap}
-use mathlib.Core.List.{List}
+use mathlib.Core.List.{List, map}
 use Prim.Native.Nat.{ℕ, _<_, _≤_}
 use native.Mathlib.Omega.{arith}
 use borrow.Author.Tests.{lt-ltb, le-ltb}
@@ -10,37 +10,39 @@ use Rattle.definitions.specs.Text.{Result, good, bad}
 use Rattle.definitions.specs.Job.{Job, readJob}
 use Rattle.lists.specs.Over.{over}
 use Rattle.text.specs.declared.Step.the-variants.{Next, Refused}
+use Rattle.orders.specs.Edges.{edgeCell}
+use Rattle.orders.specs.Links.{Linked}
 use Rattle.jobs.specs.Memory.{jobCells}
 use Rattle.jobs.specs.Answers.{Answered, Loaded, jobAnswer}
 use Rattle.jobs.specs.declared.Answer.the-variants.{Done, Refusal}
 
 -- The job's text was refused, or gave a job.
-pub loaded-no : (x : Result Job) (mem : List ℕ) (n : ℕ) → Loaded x mem (Refused n) → x ≡ bad n
-loaded-no (good j) mem n (e, _) = absurd (let z : _≡_ {A = ℕ} 0 1 = cc in omega arith)
-loaded-no (bad k) mem n e = cc
+pub loaded-no : (x : Result Job) (mem links : List ℕ) (n : ℕ) → Loaded x mem links (Refused n) → x ≡ bad n
+loaded-no (good j) mem links n (e, _, _) = absurd (let z : _≡_ {A = ℕ} 0 1 = cc in omega arith)
+loaded-no (bad k) mem links n e = cc
 
-pub loaded-next : (x : Result Job) (mem : List ℕ) (n : ℕ) → Loaded x mem (Next n)
-    → (j : Job) × (x ≡ good j) × (n ≡ length (jobCells j)) × (take n mem ≡ jobCells j)
-loaded-next (good j) mem n (e, f) = let l : n ≡ length (jobCells j) = cc in (j, refl, l, rw l f)
-loaded-next (bad k) mem n e = absurd (let z : _≡_ {A = ℕ} 0 1 = cc in omega arith)
+pub loaded-next : (x : Result Job) (mem links : List ℕ) (n : ℕ) → Loaded x mem links (Next n)
+    → (j : Job) × (x ≡ good j) × (n ≡ length (jobCells j)) × (take n mem ≡ jobCells j) × Linked (j .tasks) (map edgeCell (j .edges)) links
+loaded-next (good j) mem links n (e, f, k) = let l : n ≡ length (jobCells j) = cc in (j, refl, l, rw l f, k)
+loaded-next (bad k) mem links n e = absurd (let z : _≡_ {A = ℕ} 0 1 = cc in omega arith)
 
 -- The cells of a job that was loaded stand in the memory.
-pub loaded-fits : (x : Result Job) (mem : List ℕ) (n : ℕ) → Loaded x mem (Next n) → n ≤ length mem
-loaded-fits x mem n h = let (j, _, l, f) = loaded-next x mem n h in omega (arith, length-take n mem, ap length f)
+pub loaded-fits : (x : Result Job) (mem links : List ℕ) (n : ℕ) → Loaded x mem links (Next n) → n ≤ length mem
+loaded-fits x mem links n h = let (j, _, l, f, _) = loaded-next x mem links n h in omega (arith, length-take n mem, ap length f)
 
-module _ (s d mem : List ℕ) (n : ℕ) where
-  pub answer-no : Loaded (readJob document01 s) mem (Refused n) → Answered (jobAnswer s (length d)) d d (Refusal n)
+module _ (s d mem links : List ℕ) (n : ℕ) where
+  pub answer-no : Loaded (readJob document01 s) mem links (Refused n) → Answered (jobAnswer s (length d)) d d (Refusal n)
   unfolding jobAnswer
-  answer-no h = rw (loaded-no (readJob document01 s) mem n h) (refl, refl)
+  answer-no h = rw (loaded-no (readJob document01 s) mem links n h) (refl, refl)
 
-  pub answer-short : Loaded (readJob document01 s) mem (Next n) → length d < n → Answered (jobAnswer s (length d)) d d (Refusal 8)
+  pub answer-short : Loaded (readJob document01 s) mem links (Next n) → length d < n → Answered (jobAnswer s (length d)) d d (Refusal 8)
   unfolding jobAnswer
   answer-short h g =
-      let (j, e, l, _) = loaded-next (readJob document01 s) mem n h in
+      let (j, e, l, _, _) = loaded-next (readJob document01 s) mem links n h in
       rw (e, ← l, lt-ltb (length d) n g) (refl, refl)
 
-  pub answer-done : Loaded (readJob document01 s) mem (Next n) → n ≤ length d → Answered (jobAnswer s (length d)) d (over d 0 (take n mem)) (Done n)
+  pub answer-done : Loaded (readJob document01 s) mem links (Next n) → n ≤ length d → Answered (jobAnswer s (length d)) d (over d 0 (take n mem)) (Done n)
   unfolding jobAnswer
   answer-done h g =
-      let (j, e, l, f) = loaded-next (readJob document01 s) mem n h in
+      let (j, e, l, f, _) = loaded-next (readJob document01 s) mem links n h in
       rw (e, ← l, le-ltb (length d) n g, f) (ap good l, refl)

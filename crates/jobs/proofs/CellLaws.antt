@@ -16,14 +16,14 @@ use Rattle.definitions.proofs.Lists.{passed}
 use Rattle.definitions.proofs.Reading.{Ruled, lines-found, line-found}
 use Rattle.orders.specs.Edges.{edgeCell, edgeIn}
 use Rattle.lists.proofs.Over.{drop-lent}
-use Rattle.edges.specs.Edges.{edgesInto}
+use Rattle.edges.specs.Pairs.{edgesInto}
 use Rattle.edges.proofs.EdgeLaws.{cell-of-edge, edges-enough}
 use Rattle.rows.specs.Rows.{rows, ruleOf, rowsInto}
 use Rattle.rows.proofs.RowLaws.{rows-fit}
 use Rattle.rows.specs.declared.Kind.{Kind}
 use Rattle.rows.specs.declared.Kind.the-variants.{Runs, Delays}
 use Rattle.jobs.specs.Memory.{numbered, jobCells}
-use Rattle.heads.specs.Stages.{jobOf}
+use Rattle.heads.specs.Reading.{jobOf}
 use Rattle.jobs.specs.Stages.{delaysAt, edgesAt, Headed, RunsIn, DelaysIn}
 
 -- Edges ---------------------------------------------------------------------------------------------------------
@@ -52,7 +52,7 @@ rows-joined k (suc n) mem =
     ∙ rw (rows-joined k n mem, append-nil, suc-mul) (sym (take-add (n * k) k mem))
 
 -- The first number of a row by its rule.
-turn : (kind : Kind) (seen : List (List ℕ)) (vs : List ℕ) → ruleOf kind seen vs ≡ 0 → nth vs 0 ≡ length seen
+turn : (kind : Kind) (seen : List (List ℕ)) (vs : List ℕ) → ruleOf document01 kind seen vs ≡ 0 → nth vs 0 ≡ length seen
 unfolding runRule delayRule
 turn Runs seen vs z = eqb-true _ _ (not-false _ (passed _ _ _ z .0))
 turn Delays seen vs z = eqb-true _ _ (not-false _ (passed _ _ _ z .0))
@@ -63,7 +63,7 @@ front n (v ∷ vs) h e = rw e
 
 module _ (kind : Kind) (opening : List ℕ) (m : ℕ) where
   -- Rows that were read after those in `seen`.
-  ruled-numbered : (seen xs : List (List ℕ)) → Ruled (line document01 opening (1 + m)) (ruleOf kind) seen xs
+  ruled-numbered : (seen xs : List (List ℕ)) → Ruled (line document01 opening (1 + m)) (ruleOf document01 kind) seen xs
       → numbered (length seen) (map (drop 1) xs) ≡ joined xs
   unfolding numbered joined
   ruled-numbered seen [] w = refl
@@ -76,10 +76,10 @@ module _ (kind : Kind) (opening : List ℕ) (m : ℕ) where
       ∙ ap (λ (y : List ℕ). x ++ y) (ruled-numbered (seen ++ x ∷ []) xs w)
 
   -- The cells of n rows that were read.
-  pub rows-numbered : (n : ℕ) (mem s r : List ℕ) → lines (line document01 opening (1 + m)) (ruleOf kind) n [] s ≡ found (rows (1 + m) n mem) r
+  pub rows-numbered : (n : ℕ) (mem s r : List ℕ) → lines (line document01 opening (1 + m)) (ruleOf document01 kind) n [] s ≡ found (rows (1 + m) n mem) r
       → numbered 0 (map (drop 1) (rows (1 + m) n mem)) ≡ take (n * (1 + m)) mem
   rows-numbered n mem s r f =
-      let (ys, q, _, w) = lines-found (line document01 opening (1 + m)) (ruleOf kind) n [] s (rows (1 + m) n mem) r f in
+      let (ys, q, _, w) = lines-found (line document01 opening (1 + m)) (ruleOf document01 kind) n [] s (rows (1 + m) n mem) r f in
       ap (λ (xs : List (List ℕ)). numbered 0 (map (drop 1) xs)) q ∙ ruled-numbered [] ys w ∙ ap joined (sym q) ∙ rows-joined (1 + m) n mem
 
 -- The rest of a memory was lent -----------------------------------------------------------------------------------
@@ -103,34 +103,34 @@ module _ (d x ys : List ℕ) (a : ℕ) (e : x ≡ putMid a (length d - a) d ys) 
 
 -- A job's cells, stage by stage -------------------------------------------------------------------------------------
 
-pub runs-most : (d : List ℕ) → Headed d → nth d 0 * (1 + nth d 1) ≤ 4335
+pub runs-most : {n : ℕ} (d : List ℕ) → Headed d n → nth d 0 * (1 + nth d 1) ≤ 4335
 runs-most d w = mul-le-mul {n₁ = nth d 0} {m₁ = 1 + nth d 1} {n₂ = 255} {m₂ = 17} (w .tasks-most) (omega arith)
 
-pub delays-most : (d : List ℕ) → Headed d → nth d 1 * (1 + nth d 1) ≤ 272
+pub delays-most : {n : ℕ} (d : List ℕ) → Headed d n → nth d 1 * (1 + nth d 1) ≤ 272
 delays-most d w = mul-le-mul {n₁ = nth d 1} {m₁ = 1 + nth d 1} {n₂ = 16} {m₂ = 17} (w .processors-most) (omega arith)
 
-pub rows-most : (d : List ℕ) → Headed d → (nth d 0 + nth d 1) * (1 + nth d 1) ≤ 4607
+pub rows-most : {n : ℕ} (d : List ℕ) → Headed d n → (nth d 0 + nth d 1) * (1 + nth d 1) ≤ 4607
 rows-most d w = mul-le-mul {n₁ = nth d 0 + nth d 1} {m₁ = 1 + nth d 1} {n₂ = 271} {m₂ = 17} (omega arith) (omega arith)
 
 -- There is room for the C lines after the head, for the D lines after them, and for the E lines after those.
-module _ (d : List ℕ) (w : Headed d) (opening s : List ℕ) where
-  pub runs-read : rowsInto (length (midOf 4 (length d - 4) d)) Runs opening (1 + nth d 1) (nth d 0) s
-      ≡ lines (line document01 opening (1 + nth d 1)) (ruleOf Runs) (nth d 0) [] s
+module _ {size : ℕ} (d : List ℕ) (w : Headed d size) (opening s : List ℕ) where
+  pub runs-read : rowsInto document01 (length (midOf 4 (length d - 4) d)) Runs opening (1 + nth d 1) (nth d 0) s
+      ≡ lines (line document01 opening (1 + nth d 1)) (ruleOf document01 Runs) (nth d 0) [] s
   runs-read =
       let r = runs-most d w in
-      rows-fit _ Runs opening (1 + nth d 1) (nth d 0) s (lt-ltb 0 (1 + nth d 1) (omega arith)) (simp (length-take, length-drop) (omega arith))
+      rows-fit _ _ Runs opening (1 + nth d 1) (nth d 0) s (lt-ltb 0 (1 + nth d 1) (omega arith)) (simp (length-take, length-drop) (omega arith))
 
-  pub delays-read : rowsInto (length (midOf (delaysAt (jobHeadOf d)) (length d - delaysAt (jobHeadOf d)) d)) Delays opening (1 + nth d 1) (nth d 1) s
-      ≡ lines (line document01 opening (1 + nth d 1)) (ruleOf Delays) (nth d 1) [] s
+  pub delays-read : rowsInto document01 (length (midOf (delaysAt (jobHeadOf d)) (length d - delaysAt (jobHeadOf d)) d)) Delays opening (1 + nth d 1) (nth d 1) s
+      ≡ lines (line document01 opening (1 + nth d 1)) (ruleOf document01 Delays) (nth d 1) [] s
   delays-read =
       let r = runs-most d w in
       let t = delays-most d w in
-      rows-fit _ Delays opening (1 + nth d 1) (nth d 1) s (lt-ltb (nth d 1) (1 + nth d 1) (omega arith)) (simp (length-take, length-drop) (omega arith))
+      rows-fit _ _ Delays opening (1 + nth d 1) (nth d 1) s (lt-ltb (nth d 1) (1 + nth d 1) (omega arith)) (simp (length-take, length-drop) (omega arith))
 
-pub edges-read : (d : List ℕ) → Headed d → (s : List ℕ)
-    → edgesInto (length (midOf (edgesAt (jobHeadOf d)) (length d - edgesAt (jobHeadOf d)) d)) (nth d 0) (nth d 2) s
+pub edges-read : {n : ℕ} (d : List ℕ) → Headed d n → (s : List ℕ)
+    → edgesInto document01 (length (midOf (edgesAt (jobHeadOf d)) (length d - edgesAt (jobHeadOf d)) d)) (nth d 0) (nth d 2) s
     ≡ lines (edgeLine document01) (edgeRule document01 (nth d 0)) (nth d 2) [] s
-edges-read d w s = edges-enough _ (nth d 0) (nth d 2) s (w .tasks-most) (simp (length-take, length-drop) (omega (arith, w .room)))
+edges-read d w s = edges-enough _ _ (nth d 0) (nth d 2) s (w .tasks-most) (simp (length-take, length-drop) (omega (arith, w .room)))
 
 head-cells : (d : List ℕ) → 4 ≤ length d → take 4 d ≡ nth d 0 ∷ nth d 1 ∷ nth d 2 ∷ nth d 3 ∷ []
 head-cells [] h = absurd (omega arith)
@@ -140,8 +140,8 @@ head-cells (a ∷ b ∷ c ∷ []) h = absurd (omega arith)
 head-cells (a ∷ b ∷ c ∷ e ∷ d) h = refl
 
 -- A head stays while the cells after it are lent.
-pub lent-headed : (d x ys : List ℕ) (a : ℕ) → x ≡ putMid a (length d - a) d ys → length ys ≡ length (midOf a (length d - a) d) → 4 ≤ a → a ≤ length d
-    → Headed d → Headed x
+pub lent-headed : {size : ℕ} (d x ys : List ℕ) (a : ℕ) → x ≡ putMid a (length d - a) d ys → length ys ≡ length (midOf a (length d - a) d) → 4 ≤ a → a ≤ length d
+    → Headed d size → Headed x size
 lent-headed d x ys a e l g h w =
     let n : length x ≡ length d = rw (e, same-len-mid a (length d - a) d ys l) in
     record {
@@ -150,13 +150,14 @@ lent-headed d x ys a e l g h w =
       processors-most = rw (lent-nth d x ys a e h 1 (omega arith)) (w .processors-most);
       edges-most = rw (lent-nth d x ys a e h 2 (omega arith)) (w .edges-most);
       room = rw (lent-nth d x ys a e h 0 (omega arith), lent-nth d x ys a e h 1 (omega arith), lent-nth d x ys a e h 2 (omega arith), n) (w .room);
+      links-room = rw (lent-nth d x ys a e h 0 (omega arith), lent-nth d x ys a e h 2 (omega arith)) (w .links-room);
     }
 
 -- The memory d, with a head: its cells from a stage on were lent and came back as ys, and x is the memory then.
-module _ (d x ys : List ℕ) (w : Headed d) where
+module _ {size : ℕ} (d x ys : List ℕ) (w : Headed d size) where
   -- The C lines were read.
   pub runs-in : x ≡ putMid 4 (length d - 4) d ys → (s r : List ℕ)
-      → lines (line document01 (bytes "C,") (1 + nth d 1)) (ruleOf Runs) (nth d 0) [] s ≡ found (rows (1 + nth d 1) (nth d 0) ys) r
+      → lines (line document01 (bytes "C,") (1 + nth d 1)) (ruleOf document01 Runs) (nth d 0) [] s ≡ found (rows (1 + nth d 1) (nth d 0) ys) r
       → RunsIn x (map (drop 1) (rows (1 + nth d 1) (nth d 0) ys))
   runs-in e s r f =
       let h : 4 ≤ length d = omega arith in
@@ -170,7 +171,7 @@ module _ (d x ys : List ℕ) (w : Headed d) where
 
   -- The D lines were read.
   pub delays-in : (runs : List (List ℕ)) → RunsIn d runs → x ≡ putMid (delaysAt (jobHeadOf d)) (length d - delaysAt (jobHeadOf d)) d ys → (s r : List ℕ)
-      → lines (line document01 (bytes "D,") (1 + nth d 1)) (ruleOf Delays) (nth d 1) [] s ≡ found (rows (1 + nth d 1) (nth d 1) ys) r
+      → lines (line document01 (bytes "D,") (1 + nth d 1)) (ruleOf document01 Delays) (nth d 1) [] s ≡ found (rows (1 + nth d 1) (nth d 1) ys) r
       → DelaysIn x runs (map (drop 1) (rows (1 + nth d 1) (nth d 1) ys))
   delays-in runs q e s r f =
       let a = delaysAt (jobHeadOf d) in

@@ -1,22 +1,21 @@
 -- A job that stands in a memory: where its numbers are, and what a change elsewhere leaves as it was.
-use mathlib.Core.Path.{_≡_, refl, ap, _∙_, sym}
-use mathlib.Core.Logic.{_⊎_, ⊎-elim}
-use mathlib.Core.List.{List, [], _∷_, map}
-use Prim.Native.Nat.{ℕ, zero, suc, _+_, _*_, _-_, _/_, _%_, _<_, _≤_}
+use mathlib.Core.Path.{_≡_, refl, ap, _∙_}
+use mathlib.Core.List.{List, [], map}
+use Prim.Native.Nat.{ℕ, _+_, _*_, _-_, _<_, _≤_}
 use native.Mathlib.Omega.{arith}
 use native.Mathlib.Nat.{mul-le-mul}
-use borrow.Author.Tests.{ne-eqb}
 use lib.ListN.{length, length-map}
-use Rattle.definitions.specs.Lists.{if_then_else_, nth, below, In}
+use Rattle.definitions.specs.Lists.{if_then_else_, nth, below}
 use Rattle.definitions.specs.Job.{Edge, Job, runTime, delay}
-use Rattle.definitions.proofs.Lists.{below-in, length-count, map-in}
+use Rattle.definitions.proofs.Lists.{length-count}
 use Rattle.orders.specs.Edges.{edgeIn}
-use Rattle.heads.specs.Layout.{memorySize, jobSize, outHeadAt, outNextAt, levelAt}
-use Rattle.jobs.specs.Held.{numberAt, runAt, delayAt, edgeAt, jobIn, chain, Chained, JobHeld, LinkedOut}
+use Rattle.orders.proofs.RunLaws.{run-same}
+use Rattle.heads.specs.Layout.{memorySize, jobSize}
+use Rattle.jobs.specs.Held.{numberAt, runAt, delayAt, edgeAt, jobIn, JobHeld, LinksHeld}
 use Rattle.lists.specs.Kept.{KeptOutside}
 use Rattle.rows.proofs.RowLaws.{row-ends}
-use Rattle.lists.proofs.Counting.{getD-below, below-same, zero-or-more}
-use Rattle.lists.proofs.Kept.{Same, same-part, same-before}
+use Rattle.lists.proofs.Counting.{getD-below, below-same}
+use Rattle.lists.proofs.Kept.{Same, same-before}
 
 -- The parts of the job ----------------------------------------------------------------------------------------
 
@@ -52,11 +51,6 @@ module _ (mem : List ℕ) where
   delay-in p q h g =
       let row : ℕ → List ℕ = λ p. map (λ q. nth mem (delayAt mem p q)) (below (nth mem 1)) in
       ap (λ (r : List ℕ). nth r q) (getD-below row (nth mem 1) p [] h) ∙ getD-below (λ q. nth mem (delayAt mem p q)) (nth mem 1) q 0 g
-
-  -- Each cell of an edge holds a member.
-  pub edge-in : (i : ℕ) → i < nth mem 2 → In (edgeIn (nth mem (edgeAt mem i))) (jobIn mem .edges)
-  unfolding jobIn
-  edge-in i h = map-in (λ i. edgeIn (nth mem (edgeAt mem i))) i (below (nth mem 2)) (below-in (nth mem 2) i h)
 
 -- How large the job is ----------------------------------------------------------------------------------------
 
@@ -99,15 +93,15 @@ module _ {rooms : ℕ} {mem : List ℕ} (s : Sizes rooms mem) where
   pub row-below : (r p : ℕ) → r < nth mem 0 + nth mem 1 → p < nth mem 1 → numberAt mem r p < jobSize rooms
   row-below r p h g = omega (arith, row-cell r p h g)
 
-  pub edge-below : (i : ℕ) → i < nth mem 2 → edgeAt mem i < jobSize rooms
+  edge-below : (i : ℕ) → i < nth mem 2 → edgeAt mem i < jobSize rooms
   edge-below i h = omega arith
 
   -- The job is in its own cells.
   module _ {e : List ℕ} (k : Same 0 (jobSize rooms) mem e) where
-    pub edgeAt-same : (i : ℕ) → edgeAt e i ≡ edgeAt mem i
+    edgeAt-same : (i : ℕ) → edgeAt e i ≡ edgeAt mem i
     edgeAt-same i = rw (k .cell 0 (omega arith) (omega arith), k .cell 1 (omega arith) (omega arith))
 
-    pub edge-same : (i : ℕ) → i < nth mem 2 → edgeIn (nth e (edgeAt e i)) ≡ edgeIn (nth mem (edgeAt mem i))
+    edge-same : (i : ℕ) → i < nth mem 2 → edgeIn (nth e (edgeAt e i)) ≡ edgeIn (nth mem (edgeAt mem i))
     edge-same i h = rw (edgeAt-same i, k .cell (edgeAt mem i) (omega arith) (edge-below i h))
 
     runs-same : (t : ℕ) → t < nth mem 0
@@ -146,14 +140,6 @@ held-same {rooms} {d} {e} h z k =
     let n : nth e 2 ≡ nth d 2 = k .cell 2 (omega arith) (omega arith) in
     record { size = z ∙ h .size; fits = rw (v, m, n) (h .fits); facts = rw (job-same w k) (h .facts) }
 
--- An edge leads from a task of the job to a task of the job.
-module _ {rooms : ℕ} {mem : List ℕ} (h : JobHeld rooms mem) (i : ℕ) (l : i < nth mem 2) where
-  pub from-below : nth mem (edgeAt mem i) % 256 < nth mem 0
-  from-below = omega (arith, tasks-in mem, h .facts .from-task (edgeIn (nth mem (edgeAt mem i))) (edge-in mem i l))
-
-  pub to-below : nth mem (edgeAt mem i) / 256 % 256 < nth mem 0
-  to-below = omega (arith, tasks-in mem, h .facts .to-task (edgeIn (nth mem (edgeAt mem i))) (edge-in mem i l))
-
 module _ {rooms low high : ℕ} {d e : List ℕ} (h : JobHeld rooms d) (k : KeptOutside low high d e) (a : jobSize rooms ≤ low) where
   -- A change behind the job leaves the job as it was.
   pub job-kept : jobIn e ≡ jobIn d
@@ -162,73 +148,26 @@ module _ {rooms low high : ℕ} {d e : List ℕ} (h : JobHeld rooms d) (k : Kept
   pub held-kept : JobHeld rooms e
   held-kept = held-same h (k .size) (same-before 0 (jobSize rooms) k a)
 
--- Links -------------------------------------------------------------------------------------------------------
-
-module _ (nextAt : ℕ) (mem : List ℕ) where
-  pub chain-end : (n : ℕ) → chain nextAt n mem 0 ≡ []
-  unfolding chain
-  chain-end zero = refl
-  chain-end (suc n) = refl
-
-  pub chain-more : (n k : ℕ) → 0 < k
-      → chain nextAt (suc n) mem k ≡ edgeIn (nth mem (edgeAt mem (k - 1))) ∷ chain nextAt n mem (nth mem (nextAt + (k - 1)))
-  unfolding chain
-  chain-more n k h = rw (ne-eqb k 0 (λ e. omega arith))
-
-  -- A chain whose links fall ends by itself.
-  pub chain-fuel : (b : ℕ) → ((i : ℕ) → i < b → nth mem (nextAt + i) ≤ i) → (n k : ℕ) → k ≤ n → k ≤ b → chain nextAt (suc n) mem k ≡ chain nextAt n mem k
-  chain-fuel b f zero k h g =
-      let e : k ≡ 0 = omega arith in
-      rw e (chain-end 1 ∙ sym (chain-end 0))
-  chain-fuel b f (suc n) k h g =
-      ⊎-elim
-      (λ e. rw e (chain-end (suc (suc n)) ∙ sym (chain-end (suc n))))
-      (λ p. chain-more (suc n) k p ∙ ap (edgeIn (nth mem (edgeAt mem (k - 1))) ∷_)
-      (chain-fuel b f n (nth mem (nextAt + (k - 1))) (omega (arith, f (k - 1) (omega arith))) (omega (arith, f (k - 1) (omega arith)))) ∙ sym (chain-more n k p))
-      (zero-or-more k)
-
-module _ {edgesOf : ℕ → List Edge} {headAt nextAt : ℕ} {mem : List ℕ} (c : Chained edgesOf headAt nextAt mem) where
-  -- The edge that a link leads to, and those after it.
-  pub chain-step : (k : ℕ) → 0 < k → k ≤ nth mem 2
-      → chain nextAt (nth mem 2) mem k ≡ edgeIn (nth mem (edgeAt mem (k - 1))) ∷ chain nextAt (nth mem 2) mem (nth mem (nextAt + (k - 1)))
-  chain-step k h g =
-      let n = nth mem 2 - 1 in
-      let e : nth mem 2 ≡ suc n = omega arith in
-      let f = c .falls (k - 1) (omega arith) in
-      rw e (chain-more nextAt mem n k h ∙ ap (edgeIn (nth mem (edgeAt mem (k - 1))) ∷_) (sym (chain-fuel nextAt mem (nth mem 2) (c .falls) n (nth mem (nextAt + (k - 1))) (omega arith) (omega arith))))
-
-module _ {rooms : ℕ} {d e : List ℕ} (s : Sizes rooms d) (j : Same 0 (jobSize rooms) d e) where
-  pub chain-same : (nextAt b : ℕ) → b ≤ nth d 2 → Same nextAt (nextAt + b) d e → ((i : ℕ) → i < b → nth d (nextAt + i) ≤ i)
-      → (n k : ℕ) → k ≤ b → chain nextAt n e k ≡ chain nextAt n d k
-  unfolding chain
-  chain-same nextAt b m x f zero k h = refl
-  chain-same nextAt b m x f (suc n) k h =
-      ⊎-elim
-      (λ q. rw q (chain-end nextAt e (suc n) ∙ sym (chain-end nextAt d (suc n))))
-      (λ p.
-      let l : nth e (nextAt + (k - 1)) ≡ nth d (nextAt + (k - 1)) = x .cell (nextAt + (k - 1)) (omega arith) (omega arith) in
-      chain-more nextAt e n k p ∙ rw (edge-same s j (k - 1) (omega arith), l, chain-same nextAt b m x f n (nth d (nextAt + (k - 1))) (omega (arith, f (k - 1) (omega arith)))) (sym (chain-more nextAt d n k p)))
-      (zero-or-more k)
-
-  pub chained-same : {edgesOf : ℕ → List Edge} {headAt nextAt : ℕ} → Same headAt (headAt + nth d 0) d e → Same nextAt (nextAt + nth d 2) d e
-      → Chained edgesOf headAt nextAt d → Chained edgesOf headAt nextAt e
-  chained-same {edgesOf} {headAt} {nextAt} x y c =
-      let v : nth e 0 ≡ nth d 0 = j .cell 0 (omega arith) (omega arith) in
-      let w : nth e 2 ≡ nth d 2 = j .cell 2 (omega arith) (omega arith) in
-      record {
-        chains = λ t h.
-            let g : t < nth d 0 = omega arith in
-            rw (w, x .cell (headAt + t) (omega arith) (omega arith)) (chain-same nextAt (nth d 2) (omega arith) y (c .falls) (nth d 2) (nth d (headAt + t)) (c .head-most t g) ∙ c .chains t g);
-        head-most = λ t h. let g : t < nth d 0 = omega arith in rw (w, x .cell (headAt + t) (omega arith) (omega arith)) (c .head-most t g);
-        falls = λ i h. let g : i < nth d 2 = omega arith in rw (y .cell (nextAt + i) (omega arith) (omega arith)) (c .falls i g);
-      }
-
--- The tables beside the lines, when the job and they are as they were.
-module _ {rooms : ℕ} {d e : List ℕ} (h : JobHeld rooms d) where
-  pub linked-out-same : Same 0 (levelAt rooms) d e → LinkedOut rooms d → LinkedOut rooms e
-  linked-out-same j c =
-      let w = sizes h in
-      let a : Same 0 (jobSize rooms) d e = same-part 0 (jobSize rooms) j (omega arith) (omega arith) in
-      let heads = same-part (outHeadAt rooms) (outHeadAt rooms + nth d 0) j (omega arith) (omega arith) in
-      let nexts = same-part (outNextAt rooms) (outNextAt rooms + nth d 2) j (omega arith) (omega arith) in
-      rw (job-same w a) (chained-same w a heads nexts c)
+-- And the job's links are still its links.
+pub links-kept : {rooms low high : ℕ} {d e links : List ℕ} → JobHeld rooms d → KeptOutside low high d e → jobSize rooms ≤ low → LinksHeld d links → LinksHeld e links
+links-kept {rooms} {d} {e} {links} h k a l =
+    let w = sizes h in
+    let same = same-before 0 (jobSize rooms) k a in
+    let v : nth e 0 ≡ nth d 0 = k .before 0 (omega arith) in
+    let n : nth e 2 ≡ nth d 2 = k .before 2 (omega arith) in
+    record {
+      size = rw (v, n) (l .size);
+      outs = λ t g.
+          let b : t < nth d 0 = omega arith in
+          let r = l .outs t b in
+          let most = l .within t b in
+          rw (v, k .before 1 (omega arith), job-kept h k a)
+          (record {
+            rises = r .rises;
+            within = omega (arith, r .within, k .size);
+            edges = run-same _ _ _ d e (λ i f. same .cell _ (omega arith) (omega (arith, w .cells-room))) ∙ r .edges;
+          });
+      within = λ t g. rw n (l .within t (omega arith));
+      ins = λ t g. rw (v, job-kept h k a) (l .ins t (omega arith));
+      order = rw (v, job-kept h k a) (l .order);
+    }

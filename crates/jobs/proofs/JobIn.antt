@@ -2,23 +2,26 @@
 use mathlib.Core.Path.{_≡_, refl, ap, _∙_, sym}
 use mathlib.Core.Logic.{inl, inr}
 use mathlib.Core.List.{List, [], _∷_, _++_, map, append-assoc, append-nil}
-use Prim.Native.Nat.{ℕ, zero, suc, _+_, _*_, _<_}
+use Prim.Native.Nat.{ℕ, zero, suc, _+_, _*_, _-_, _<_, _≤_}
 use native.Mathlib.Omega.{arith}
 use native.Mathlib.Nat.{add-mul, suc-mul, zero-mul}
-use lib.ListN.{length, getD, take, length-append, length-map, List·getD-append, List·getD-map}
+use lib.ListN.{length, getD, take, length-append, length-take, length-map, List·getD-append, List·getD-map}
 use lib.Seq.{getD-take, getD-append-add, ext-getD}
 use Rattle.definitions.specs.Lists.{nth, In, below}
 use Rattle.definitions.specs.Limits.{document01}
 use Rattle.definitions.specs.Text.{good}
-use Rattle.definitions.specs.Job.{Edge, Job, JobHead, jobHeadRule}
+use Rattle.definitions.specs.Job.{Edge, Job, JobHead, jobHeadRule, outgoing, incoming}
 use Rattle.definitions.proofs.Lists.{length-count}
 use Rattle.definitions.specs.Facts.{JobFacts}
 use Rattle.text.specs.declared.Step.the-variants.{Next}
 use Rattle.orders.specs.Edges.{edgeCell, edgeIn}
+use Rattle.orders.specs.Links.{Linked}
+use Rattle.orders.proofs.RunLaws.{run-same}
 use Rattle.jobs.specs.Memory.{numbered, jobCells}
 use Rattle.jobs.specs.Answers.{Loaded}
-use Rattle.jobs.specs.Held.{jobIn}
-use Rattle.heads.specs.Stages.{fromRuns, closed}
+use Rattle.jobs.specs.Held.{jobIn, LinksHeld}
+use Rattle.heads.specs.Reading.{fromRuns, closed}
+use Rattle.text.specs.Suited.{suited}
 use Rattle.edges.proofs.EdgeLaws.{edge-of-cell}
 use Rattle.rows.proofs.RowLaws.{row-ends}
 use Rattle.lists.proofs.Counting.{getD-below}
@@ -67,6 +70,11 @@ place-at : (mem a b c : List ℕ) (n : ℕ) → take n mem ≡ a ++ (b ++ c) →
 place-at mem a b c n e l i h =
     let g : length a + i < n = omega (arith, length-append a (b ++ c), length-append b c) in
     sym (getD-take n mem (length a + i) 0 g) ∙ ap (λ (x : List ℕ). nth x (length a + i)) e ∙ getD-append-add a (b ++ c) i 0 ∙ List·getD-append b c 0 i h
+
+-- Edges from their cells.
+edges-back : (v : ℕ) → v ≤ document01 .tasks → (es : List Edge) → ((e : Edge) → In e es → (e .from < v) × (e .to < v)) → map edgeIn (map edgeCell es) ≡ es
+edges-back v h [] f = refl
+edges-back v h (e ∷ es) f = let (a, b) = f e (inl refl) in rw (edge-of-cell _ suited v e h a b, edges-back v h es (λ d i. f d (inr i)))
 
 -- The memory begins with the cells of the job j.
 module _ (j : Job) (mem : List ℕ) (w : JobShape j) (e : take (length (jobCells j)) mem ≡ jobCells j) where
@@ -141,7 +149,7 @@ module _ (j : Job) (mem : List ℕ) (w : JobShape j) (e : take (length (jobCells
       λ i h.
       let k = getD-in (j .edges) i none h in
       ap edgeIn (edge-at i h ∙ List·getD-map edgeCell (j .edges) i none)
-      ∙ edge-of-cell (getD (j .edges) i none) (omega (arith, f .from-task _ k, f .tasks-most)) (omega (arith, f .to-task _ k, f .tasks-most)) in
+      ∙ edge-of-cell _ suited _ (getD (j .edges) i none) (f .tasks-most) (f .from-task _ k) (f .to-task _ k) in
       rw (
         head-at 0 (omega arith),
         head-at 1 (omega arith),
@@ -152,12 +160,61 @@ module _ (j : Job) (mem : List ℕ) (w : JobShape j) (e : take (length (jobCells
         members (λ i. edgeIn (nth mem (4 + (v + m) * (m + 1) + i))) none (length (j .edges)) (j .edges) refl edge,
       )
 
--- After a good answer of the reader the memory holds the job of the head and the text.
-pub loaded-in : (h : JobHead) (s mem : List ℕ) (n : ℕ) → jobHeadRule document01 h ≡ 0 → Loaded (closed (fromRuns h s)) mem (Next n)
-    → (closed (fromRuns h s) ≡ good (jobIn mem)) × JobFacts document01 (jobIn mem)
-loaded-in h s mem n z a =
-    let (j, g, l, c) = loaded-next (closed (fromRuns h s)) mem n a in
+  -- The links of its edges are links of the job in the memory.
+  pub links-in : JobFacts document01 j → {links : List ℕ} → Linked v edges links → LinksHeld mem links
+  unfolding outgoing incoming
+  links-in f {links} r =
+      let q : map edgeIn edges ≡ jobIn mem .edges = edges-back v (f .tasks-most) (j .edges) (λ e i. (f .from-task e i, f .to-task e i)) ∙ ap (λ (i : Job). i .edges) (sym (job-in f)) in
+      let n : length edges ≡ length (j .edges) = length-map (j .edges) edgeCell in
+      let full : 4 + (v + m) * (m + 1) + length (j .edges) ≤ length mem =
+      let k : m + 1 ≡ 1 + m = omega arith in
+      rw k (omega (
+        arith,
+        length-take (length (jobCells j)) mem,
+        ap length e,
+        ap length from-edges,
+        length-append (head ++ runs ++ delays) (edges ++ []),
+        length-append
+            (head ++ runs) delays,
+        length-append head runs,
+        length-append edges [],
+        n,
+        add-mul v m (1 + m),
+        runs-size,
+        delays-size,
+      )) in
+      let v0 : nth mem 0 ≡ v = head-at 0 (omega arith) in
+      let m0 : nth mem 1 ≡ m = head-at 1 (omega arith) in
+      let n0 : nth mem 2 ≡ length (j .edges) = head-at 2 (omega arith) in
+      record {
+        size = rw (v0, n0) (omega (arith, r .runs .size, n));
+        outs = λ t h.
+            let o = r .runs .outs t (omega (arith, h, v0)) in
+            let a = nth links t in
+            let b = nth links (t + 1) in
+            let g = 4 + (v + m) * (m + 1) in
+            let s : g + b - (g + a) ≡ b - a = omega (arith, o .rises) in
+            rw (v0, m0)
+            (record {
+              rises = omega (arith, o .rises);
+              within = omega (arith, o .within, n, full);
+              edges = rw (s, ← q) (run-same a (g + a) (b - a) edges mem (λ i l. edge-cell a i (omega (arith, l, o .rises, o .within, n))) ∙ o .edges);
+            });
+        within = λ t h. rw n0 (omega (arith, r .runs .outs t (omega (arith, h, v0)) .within, n));
+        ins = λ t h. rw (v0, ← q) (r .runs .ins t (omega (arith, h, v0)));
+        order = rw (v0, ← q) (r .order);
+      }
+    where
+      edge-cell : (a i : ℕ) → a + i < length (j .edges) → nth mem (4 + (v + m) * (m + 1) + a + i) ≡ nth edges (a + i)
+      edge-cell a i l = let z : 4 + (v + m) * (m + 1) + a + i ≡ 4 + (v + m) * (m + 1) + (a + i) = omega arith in rw z (edge-at (a + i) l)
+
+-- After a good answer of the reader the memory holds the job of the head and the text, and the links are its links.
+pub loaded-in : (h : JobHead) (s mem links : List ℕ) (n : ℕ) → jobHeadRule document01 h ≡ 0 → Loaded (closed (fromRuns document01 h s)) mem links (Next n)
+    → (closed (fromRuns document01 h s) ≡ good (jobIn mem)) × JobFacts document01 (jobIn mem) × LinksHeld mem links
+loaded-in h s mem links n z a =
+    let (j, g, l, c, r) = loaded-next (closed (fromRuns document01 h s)) mem links n a in
     let f = closed-facts h s j g z in
     let w = closed-shape h s j g .0 in
     let e : jobIn mem ≡ j = job-in j mem w (rw (← l) c) f in
-    rw e (g, f)
+    let k = links-in j mem w (rw (← l) c) f r in
+    rw e (g, f, k)

@@ -16,7 +16,7 @@ use Rattle.definitions.proofs.Lists.{in-map, passed}
 use Rattle.definitions.specs.Facts.{JobFacts}
 use Rattle.definitions.proofs.Reading.{Ruled, ended-good, andThen-good, unless-good, lines-then, ruled-in, line-found, runs-found}
 use Rattle.jobs.specs.Memory.{numbered}
-use Rattle.heads.specs.Stages.{jobOf, fromEdges, fromDelays, fromRuns, closed}
+use Rattle.heads.specs.Reading.{jobOf, fromEdges, fromDelays, fromRuns, closed}
 
 -- Rows of m numbers each.
 abbrev pub Wide : ℕ → List (List ℕ) → Type 0
@@ -37,13 +37,13 @@ rows-wide opening m rule rows w r i =
     rw (← e) (omega (arith, length-drop 1 vs))
 
 -- The job of a head has its numbers, and its shape.
-runs-shape : (h : JobHead) (s : List ℕ) (j : Job) (r : List ℕ) → fromRuns h s ≡ found j r
+runs-shape : (h : JobHead) (s : List ℕ) (j : Job) (r : List ℕ) → fromRuns document01 h s ≡ found j r
     → JobShape j × (j .tasks ≡ h .tasks) × (j .processors ≡ h .processors) × (length (j .edges) ≡ h .edges)
 unfolding fromRuns fromDelays fromEdges
 runs-shape h s j r g =
-    let (runs, s2, cn, cw, g2) = lines-then (line document01 (bytes "C,") (1 + h .processors)) (runRule document01) (h .tasks) s (λ runs. fromDelays h (map (drop 1) runs)) j r g in
+    let (runs, s2, cn, cw, g2) = lines-then (line document01 (bytes "C,") (1 + h .processors)) (runRule document01) (h .tasks) s (λ runs. fromDelays document01 h (map (drop 1) runs)) j r g in
     let (delays, s3, dn, dw, g3) = lines-then (line document01 (bytes "D,") (1 + h .processors)) (delayRule document01) (h .processors) s2
-    (λ delays. fromEdges h (map (drop 1) runs) (map (drop 1) delays)) j r g2 in
+    (λ delays. fromEdges document01 h (map (drop 1) runs) (map (drop 1) delays)) j r g2 in
     let (es, s4, en, _, g4) = lines-then (edgeLine document01) (edgeRule document01 (h .tasks)) (h .edges) s3
     (λ es. return (jobOf h (map (drop 1) runs) (map (drop 1) delays) es)) j r g3 in
     let e : j ≡ jobOf h (map (drop 1) runs) (map (drop 1) delays) es = cc in
@@ -60,13 +60,13 @@ runs-shape h s j r g =
     )
 
 -- So has the job of a head that has passed its rule, and of the text after it.
-module _ (h : JobHead) (s : List ℕ) (j : Job) (g : closed (fromRuns h s) ≡ good j) where
-  closed-found : (fromRuns h s ≡ found j []) × (circular j ≡ false)
+module _ (h : JobHead) (s : List ℕ) (j : Job) (g : closed (fromRuns document01 h s) ≡ good j) where
+  closed-found : (fromRuns document01 h s ≡ found j []) × (circular j ≡ false)
   unfolding closed
   closed-found =
-      let (i, a, b) = andThen-good (ended (fromRuns h s)) (λ j. unless (firstOf ((circular j, 7) ∷ [])) j) j g in
+      let (i, a, b) = andThen-good (ended (fromRuns document01 h s)) (λ j. unless (firstOf ((circular j, 7) ∷ [])) j) j g in
       let (z, e) = unless-good (firstOf ((circular i, 7) ∷ [])) i j b in
-      (rw e at (ended-good (fromRuns h s) i a), rw e at (passed (circular i) 6 [] z .0))
+      (rw e at (ended-good (fromRuns document01 h s) i a), rw e at (passed (circular i) 6 [] z .0))
 
   pub closed-shape : JobShape j × (j .tasks ≡ h .tasks) × (j .processors ≡ h .processors) × (length (j .edges) ≡ h .edges)
   closed-shape = runs-shape h s j [] (closed-found .0)

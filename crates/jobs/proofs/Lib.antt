@@ -3,6 +3,5 @@ pub mod CellLaws
 pub mod Held
 pub mod JobIn
 pub mod JobShape
-pub mod LinkLaws
 pub mod Loads
 pub mod StageLaws

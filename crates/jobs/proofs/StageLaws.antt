@@ -1,26 +1,30 @@
 -- The stages of reading a job follow one another: the head in a memory, the C lines, the D lines, the E lines, the end.
 use mathlib.Core.Path.{_≡_, refl, ap, _∙_, sym, subst}
-use mathlib.Core.List.{List, [], _∷_, map}
-use mathlib.Core.Bool.{Bool, true, false, not}
+use mathlib.Core.List.{List, [], _∷_, _++_, map, append-assoc, append-nil}
+use mathlib.Core.Bool.{Bool, true, false, not, false≢true}
 use Prim.Native.Nat.{ℕ, _+_, _<_, _≤_}
 use native.Mathlib.Omega.{arith}
 use borrow.Author.Tests.{ltb-true, ltb-false, not-false}
 use lib.Dec.{ltb}
 use lib.ListN.{length, take, drop, set, drop-of-length-le}
 use lib.Seq.{drop-cons, length-take-le}
-use Rattle.definitions.specs.Lists.{bytes, nth, below, empty}
+use Rattle.definitions.specs.Lists.{bytes, nth}
 use Rattle.definitions.specs.Limits.{document01}
 use Rattle.definitions.specs.Text.{found, refused, firstOf, line, lines}
-use Rattle.definitions.specs.Job.{Edge, JobHead, jobHeadOf, jobHeadRule, outside, runRule, delayRule, edgeLine, edgeRule, remaining, circular}
+use Rattle.definitions.specs.Job.{Edge, JobHead, jobHeadOf, jobHeadRule, outside, runRule, delayRule, edgeLine, edgeRule, circular, Ascends}
 use Rattle.definitions.proofs.Lists.{neither, passed}
-use Rattle.definitions.proofs.Reading.{lines-found, ruled-in, job-head-parts}
+use Rattle.definitions.proofs.Reading.{Ruled, lines-found, ruled-in, job-head-parts}
+use Rattle.definitions.proofs.EdgeOrder.{ascends-more}
 use Rattle.text.specs.declared.Step.{Step}
 use Rattle.text.specs.declared.Step.the-variants.{Next, Refused}
 use Rattle.heads.specs.Layout.{cellsFor}
 use Rattle.jobs.specs.Memory.{jobCells}
+use Rattle.orders.specs.Edges.{edgeCell}
 use Rattle.orders.specs.Order.{Within}
+use Rattle.orders.specs.Links.{linksSize, circles, Linked, LinkedAs}
+use Rattle.orders.specs.declared.Linking.the-variants.{Joined, Circle, Misfit}
 use Rattle.jobs.specs.Answers.{Loaded}
-use Rattle.heads.specs.Stages.{jobOf, fromEdges, fromDelays, fromRuns, closed}
+use Rattle.heads.specs.Reading.{jobOf, fromEdges, fromDelays, fromRuns, closed}
 use Rattle.jobs.specs.Stages.{closing, Headed}
 
 -- A head that was put to the front of a memory.
@@ -33,16 +37,16 @@ put-in (a ∷ []) v m e x h = absurd (omega arith)
 put-in [] v m e x h = absurd (omega arith)
 
 -- A memory with a head in front that has passed its rule.
-module _ (mem : List ℕ) (h : JobHead) (q : jobHeadOf mem ≡ h) where
-  pub headed : jobHeadRule document01 h ≡ 0 → cellsFor h ≤ length mem → Headed mem
-  headed z room =
+module _ (mem : List ℕ) (links : ℕ) (h : JobHead) (q : jobHeadOf mem ≡ h) where
+  pub headed : jobHeadRule document01 h ≡ 0 → cellsFor h ≤ length mem → linksSize (h .tasks) (h .edges) ≤ links → Headed mem links
+  headed z room more =
       let (v1, v2, _, m2, e2, _, _) = job-head-parts document01 (jobHeadOf mem) (subst (λ (g : JobHead). jobHeadRule document01 g ≡ 0) (sym q) z) in
       let k : nth mem 1 + 1 ≡ 1 + nth mem 1 = omega arith in
       let r = subst (λ (g : JobHead). cellsFor g ≤ length mem) (sym q) room in
-      record { some-task = v1; tasks-most = v2; processors-most = m2; edges-most = e2; room = rw k at r }
+      record { some-task = v1; tasks-most = v2; processors-most = m2; edges-most = e2; room = rw k at r; links-room = subst (λ (g : JobHead). linksSize (g .tasks) (g .edges) ≤ links) (sym q) more }
 
-pub runs-as : (g h : JobHead) (s mem : List ℕ) (r : Step) → g ≡ h → Loaded (closed (fromRuns g s)) mem r → Loaded (closed (fromRuns h s)) mem r
-runs-as g h s mem r q l = rw q at l
+pub runs-as : (g h : JobHead) (s mem links : List ℕ) (r : Step) → g ≡ h → Loaded (closed (fromRuns document01 g s)) mem links r → Loaded (closed (fromRuns document01 h s)) mem links r
+runs-as g h s mem links r q l = rw q at l
 
 -- From the E lines on -------------------------------------------------------------------------------------------
 
@@ -57,67 +61,95 @@ edges-within v n s es r f e i =
     let (c, d) = neither (not (ltb (e .from) v)) (not (ltb (e .to) v)) b in
     (ltb-true _ _ (not-false _ c), ltb-true _ _ (not-false _ d))
 
-module _ (h : JobHead) (runs delays : List (List ℕ)) (s mem : List ℕ) where
+-- And they ascend.
+ascend-on : (v : ℕ) (seen es : List Edge) → Ascends seen → Ruled (edgeLine document01) (edgeRule document01 v) seen es → Ascends (seen ++ es)
+unfolding edgeRule
+ascend-on v seen [] a w = rw (append-nil seen) a
+ascend-on v seen (e ∷ es) a (_, z, w) = rw (append-assoc seen (e ∷ []) es) at (ascend-on v (seen ++ e ∷ []) es (ascends-more seen e a (passed _ _ _ z .1)) w)
+
+pub edges-ascend : (v n : ℕ) (s : List ℕ) (es : List Edge) (r : List ℕ) → lines (edgeLine document01) (edgeRule document01 v) n [] s ≡ found es r → Ascends es
+edges-ascend v n s es r f = let (ys, q, _, w) = lines-found (edgeLine document01) (edgeRule document01 v) n [] s es r f in rw q (ascend-on v [] ys tt w)
+
+-- What linking them says, where they can be linked.
+module _ (v : ℕ) (edges d e : List ℕ) where
+  pub as-joined : (fits circle : Bool) → fits ≡ true → LinkedAs fits circle v edges d e Joined → (circle ≡ false) × Linked v edges e
+  as-joined false circle f q = absurd (false≢true f)
+  as-joined true true f q = absurd (let z : _≡_ {A = ℕ} 0 1 = cc in omega arith)
+  as-joined true false f (q, l) = (refl, l)
+
+  pub as-circle : (fits circle : Bool) → fits ≡ true → LinkedAs fits circle v edges d e Circle → circle ≡ true
+  as-circle false circle f q = absurd (false≢true f)
+  as-circle true true f q = refl
+  as-circle true false f (q, l) = absurd (let z : _≡_ {A = ℕ} 0 1 = cc in omega arith)
+
+  pub as-misfit : (fits circle : Bool) → fits ≡ true → LinkedAs fits circle v edges d e Misfit → ⊥
+  as-misfit false circle f q = false≢true f
+  as-misfit true true f q = let z : _≡_ {A = ℕ} 0 1 = cc in omega arith
+  as-misfit true false f (q, l) = let z : _≡_ {A = ℕ} 0 1 = cc in omega arith
+
+module _ (h : JobHead) (runs delays : List (List ℕ)) (s mem links : List ℕ) where
   pub edges-no : (n : ℕ) → lines (edgeLine document01) (edgeRule document01 (h .tasks)) (h .edges) [] s ≡ refused n
-      → Loaded (closed (fromEdges h runs delays s)) mem (Refused n)
+      → Loaded (closed (fromEdges document01 h runs delays s)) mem links (Refused n)
   unfolding closed fromEdges
   edges-no n e = rw e refl
 
   module _ (es : List Edge) (t : List ℕ) (p : ℕ) (e : lines (edgeLine document01) (edgeRule document01 (h .tasks)) (h .edges) [] s ≡ found es (drop p t)) where
-    edges-left : p < length t → Loaded (closed (fromEdges h runs delays s)) mem (Refused 2)
+    edges-left : p < length t → Loaded (closed (fromEdges document01 h runs delays s)) mem links (Refused 2)
     unfolding closed fromEdges
     edges-left g = rw (e, drop-cons t p 0 g) refl
 
     -- Whether the edges form a circle.
     abbrev circle : Bool
-    circle = not (empty (remaining (h .tasks) es (below (h .tasks))))
+    circle = circles (h .tasks) es
 
     -- No line is left over.
     module _ (g : length t ≤ p) where
-      edges-circle : circle ≡ true → Loaded (closed (fromEdges h runs delays s)) mem (Refused 7)
+      edges-circle : circle ≡ true → Loaded (closed (fromEdges document01 h runs delays s)) mem links (Refused 7)
       unfolding closed fromEdges firstOf circular
       edges-circle y = rw (e, drop-of-length-le t g, y) refl
 
-      edges-end : circle ≡ false → (n : ℕ) → n ≤ length mem → take n mem ≡ jobCells (jobOf h runs delays es)
-          → Loaded (closed (fromEdges h runs delays s)) mem (Next n)
+      edges-end : circle ≡ false → (n : ℕ) → n ≤ length mem → take n mem ≡ jobCells (jobOf h runs delays es) → Linked (h .tasks) (map edgeCell es) links
+          → Loaded (closed (fromEdges document01 h runs delays s)) mem links (Next n)
       unfolding closed fromEdges firstOf circular
-      edges-end y n l q =
+      edges-end y n l q m =
           let k : length (jobCells (jobOf h runs delays es)) ≡ n = ap length (sym q) ∙ length-take-le n mem l in
-          rw (e, drop-of-length-le t g, y, k) (refl, q)
+          rw (e, drop-of-length-le t g, y, k) (refl, q, m)
 
     pub edges-closed : (n : ℕ) → n ≤ length mem → take n mem ≡ jobCells (jobOf h runs delays es)
-        → Loaded (closed (fromEdges h runs delays s)) mem (closing (ltb p (length t)) circle n)
+        → (closing (ltb p (length t)) circle n ≡ Next n → Linked (h .tasks) (map edgeCell es) links)
+        → Loaded (closed (fromEdges document01 h runs delays s)) mem links (closing (ltb p (length t)) circle n)
     edges-closed n l q = by (ltb p (length t)) circle refl refl
       where
-        by : (x y : Bool) → ltb p (length t) ≡ x → circle ≡ y → Loaded (closed (fromEdges h runs delays s)) mem (closing x y n)
-        by true y f c = edges-left (ltb-true _ _ f)
-        by false true f c = edges-circle (ltb-false _ _ f) c
-        by false false f c = edges-end (ltb-false _ _ f) c n l q
+        by : (x y : Bool) → ltb p (length t) ≡ x → circle ≡ y → (closing x y n ≡ Next n → Linked (h .tasks) (map edgeCell es) links)
+            → Loaded (closed (fromEdges document01 h runs delays s)) mem links (closing x y n)
+        by true y f c m = edges-left (ltb-true _ _ f)
+        by false true f c m = edges-circle (ltb-false _ _ f) c
+        by false false f c m = edges-end (ltb-false _ _ f) c n l q (m refl)
 
 -- From the D lines and from the C lines on ----------------------------------------------------------------------------
 
-module _ (h : JobHead) (runs : List (List ℕ)) (s mem : List ℕ) where
+module _ (h : JobHead) (runs : List (List ℕ)) (s mem links : List ℕ) where
   pub delays-no : (n : ℕ) → lines (line document01 (bytes "D,") (1 + h .processors)) (delayRule document01) (h .processors) [] s ≡ refused n
-      → Loaded (closed (fromDelays h runs s)) mem (Refused n)
+      → Loaded (closed (fromDelays document01 h runs s)) mem links (Refused n)
   unfolding closed fromDelays
   delays-no n e = rw e refl
 
   pub delays-then : (ds : List (List ℕ)) (r : List ℕ)
       → lines (line document01 (bytes "D,") (1 + h .processors)) (delayRule document01) (h .processors) [] s ≡ found ds r
-      → (g : JobHead) → g ≡ h → (x : Step) → Loaded (closed (fromEdges g runs (map (drop 1) ds) r)) mem x
-      → Loaded (closed (fromDelays h runs s)) mem x
+      → (g : JobHead) → g ≡ h → (x : Step) → Loaded (closed (fromEdges document01 g runs (map (drop 1) ds) r)) mem links x
+      → Loaded (closed (fromDelays document01 h runs s)) mem links x
   unfolding fromDelays
   delays-then ds r e g q x l = rw e (rw q at l)
 
-module _ (h : JobHead) (s mem : List ℕ) where
+module _ (h : JobHead) (s mem links : List ℕ) where
   pub runs-no : (n : ℕ) → lines (line document01 (bytes "C,") (1 + h .processors)) (runRule document01) (h .tasks) [] s ≡ refused n
-      → Loaded (closed (fromRuns h s)) mem (Refused n)
+      → Loaded (closed (fromRuns document01 h s)) mem links (Refused n)
   unfolding closed fromRuns
   runs-no n e = rw e refl
 
   pub runs-then : (rs : List (List ℕ)) (r : List ℕ)
       → lines (line document01 (bytes "C,") (1 + h .processors)) (runRule document01) (h .tasks) [] s ≡ found rs r
-      → (g : JobHead) → g ≡ h → (x : Step) → Loaded (closed (fromDelays g (map (drop 1) rs) r)) mem x
-      → Loaded (closed (fromRuns h s)) mem x
+      → (g : JobHead) → g ≡ h → (x : Step) → Loaded (closed (fromDelays document01 g (map (drop 1) rs) r)) mem links x
+      → Loaded (closed (fromRuns document01 h s)) mem links x
   unfolding fromRuns
   runs-then rs r e g q x l = rw e (rw q at l)

@@ -1,7 +1,7 @@
 -- What the public functions' answers mean: document 01's numbers and values.
 use Prim.Native.Nat.{ℕ}
 use mathlib.Core.Path.{_≡_}
-use mathlib.Core.List.{List}
+use mathlib.Core.List.{List, map}
 use lib.ListN.{length, take}
 use Rattle.definitions.specs.Limits.{document01}
 use Rattle.definitions.specs.Text.{Result, good, bad, andThen}
@@ -10,6 +10,8 @@ use Rattle.definitions.specs.Tools.{fitting}
 use Rattle.lists.specs.Over.{over}
 use Rattle.text.specs.declared.Step.{Step}
 use Rattle.text.specs.Told.{stepTold}
+use Rattle.orders.specs.Edges.{edgeCell}
+use Rattle.orders.specs.Links.{Linked}
 use Rattle.jobs.specs.Memory.{jobCells}
 use Rattle.jobs.specs.declared.Answer.{Answer}
 use Rattle.jobs.specs.declared.Answer.the-variants.{Done, Refusal}
@@ -29,7 +31,8 @@ Answered (bad n) d e r = (resultOf r ≡ bad n) × (e ≡ d)
 unfoldable pub jobAnswer : List ℕ → ℕ → Result (List ℕ)
 jobAnswer text room = andThen (readJob document01 text) (λ j. fitting room (jobCells j))
 
--- The job that was read stands at the front of a memory, and its number of cells is the answer; or the refusal.
-abbrev pub Loaded : Result Job → List ℕ → Step → Type 0
-Loaded (good j) mem r = (stepTold r ≡ good (length (jobCells j))) × (take (length (jobCells j)) mem ≡ jobCells j)
-Loaded (bad n) mem r = stepTold r ≡ bad n
+-- The job that was read stands at the front of a memory, and its number of cells is the answer; its edges are linked; or the refusal.
+abbrev pub Loaded : Result Job → List ℕ → List ℕ → Step → Type 0
+Loaded (good j) mem links r =
+    (stepTold r ≡ good (length (jobCells j))) × (take (length (jobCells j)) mem ≡ jobCells j) × Linked (j .tasks) (map edgeCell (j .edges)) links
+Loaded (bad n) mem links r = stepTold r ≡ bad n

@@ -1,17 +1,16 @@
 -- A job at the front of a memory, and links between its edges.
 use mathlib.Core.Path.{_≡_}
-use mathlib.Core.List.{List, [], _∷_, map, reverse}
-use Prim.Native.Nat.{ℕ, zero, suc, _+_, _*_, _-_, _<_, _≤_}
-use lib.Dec.{eqb}
+use mathlib.Core.List.{List, map}
+use Prim.Native.Nat.{ℕ, _+_, _*_, _<_, _≤_}
 use lib.ListN.{length, drop}
-use Rattle.definitions.specs.Lists.{if_then_else_, nth, below}
+use Rattle.definitions.specs.Lists.{nth, below}
 use Rattle.definitions.specs.Limits.{document01}
-use Rattle.definitions.specs.Job.{Edge, Job, jobHeadOf, incoming, outgoing}
+use Rattle.definitions.specs.Job.{Job, jobHeadOf, incoming, outgoing}
 use Rattle.definitions.specs.Facts.{JobFacts}
 use Rattle.orders.specs.Edges.{edgeIn}
 use Rattle.orders.specs.Order.{Arranged}
 use Rattle.orders.specs.Links.{Run, outStartAt, inStartAt, orderAt, linksSize}
-use Rattle.heads.specs.Layout.{memorySize, FitsIn, inHeadAt, inNextAt, outHeadAt, outNextAt}
+use Rattle.heads.specs.Layout.{memorySize, FitsIn}
 
 -- The cell of number p of row r, counted over the C lines and then the D lines; a row begins with its own number.
 abbrev pub numberAt : List ℕ → ℕ → ℕ → ℕ
@@ -41,32 +40,12 @@ jobIn mem =
       edges = map (λ i. edgeIn (nth mem (edgeAt mem i))) (below (nth mem 2));
     }
 
--- The edges from link k on, at most n: a link k > 0 leads to edge k − 1, whose next link is in the table; 0 ends it.
-unfoldable pub chain : ℕ → ℕ → List ℕ → ℕ → List Edge
-chain nextAt zero mem k = []
-chain nextAt (suc n) mem k =
-    let others = chain nextAt n mem (nth mem (nextAt + (k - 1))) in
-    if eqb k 0 then [] else edgeIn (nth mem (edgeAt mem (k - 1))) ∷ others
-
--- The links of a table lead from each task to its edges, the newest first, and every link is less than the one before.
-pub record Chained (edgesOf : ℕ → List Edge) (headAt nextAt : ℕ) (mem : List ℕ) : Type 0 where
-  pub chains : (t : ℕ) → t < nth mem 0 → chain nextAt (nth mem 2) mem (nth mem (headAt + t)) ≡ reverse (edgesOf t)
-  pub head-most : (t : ℕ) → t < nth mem 0 → nth mem (headAt + t) ≤ nth mem 2
-  pub falls : (i : ℕ) → i < nth mem 2 → nth mem (nextAt + i) ≤ i
-
--- The links to the edges that enter each task.
-abbrev pub LinkedIn : ℕ → List ℕ → Type 0
-LinkedIn rooms mem = Chained (incoming (jobIn mem)) (inHeadAt rooms) (inNextAt rooms) mem
-
--- The links to the edges that leave each task.
-abbrev pub LinkedOut : ℕ → List ℕ → Type 0
-LinkedOut rooms mem = Chained (outgoing (jobIn mem)) (outHeadAt rooms) (outNextAt rooms) mem
-
 -- The links of the job in a memory: the run of each task's edges, and an order of the tasks.
 pub record LinksHeld (mem links : List ℕ) : Type 0 where
   pub size : linksSize (nth mem 0) (nth mem 2) ≤ length links
   pub outs : (t : ℕ) → t < nth mem 0
       → Run (edgeAt mem (nth links (outStartAt (nth mem 0) t))) (edgeAt mem (nth links (outStartAt (nth mem 0) (t + 1)))) mem (outgoing (jobIn mem) t)
+  pub within : (t : ℕ) → t < nth mem 0 → nth links (outStartAt (nth mem 0) (t + 1)) ≤ nth mem 2
   pub ins : (t : ℕ) → t < nth mem 0
       → Run (nth links (inStartAt (nth mem 0) t)) (nth links (inStartAt (nth mem 0) (t + 1))) links (incoming (jobIn mem) t)
   pub order : Arranged (nth mem 0) (jobIn mem .edges) (drop (orderAt (nth mem 0) 0) links) (nth mem 0)

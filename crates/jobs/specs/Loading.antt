@@ -11,15 +11,15 @@ use Rattle.definitions.specs.Job.{Job, JobHead, jobHeadRule}
 use Rattle.text.specs.declared.Step.{Step}
 use Rattle.text.specs.Told.{stepTold}
 use Rattle.heads.specs.Heads.{roomy}
-use Rattle.heads.specs.Stages.{fromHead, closed}
-use Rattle.jobs.specs.Held.{jobIn, JobHeld, LinkedIn, LinkedOut}
+use Rattle.heads.specs.Reading.{fromHead, closed}
+use Rattle.jobs.specs.Held.{jobIn, JobHeld, LinksHeld}
 
--- The job of a head and of the text after it, for a memory of so many cells: the head's rule, then 8 if there is no room, then the
+-- The job of a head and of the text after it, for a memory and links of so many cells: the head's rule, then 8 if there is no room, then the
 -- rest of the text.
-unfoldable pub jobFrom : ℕ → ℕ → JobHead → List ℕ → Result Job
-jobFrom rooms size h s = if eqb (jobHeadRule document01 h) 0 && not (roomy rooms size h) then bad 8 else closed (fromHead h s)
+unfoldable pub jobFrom : ℕ → ℕ → ℕ → JobHead → List ℕ → Result Job
+jobFrom rooms size links h s = if eqb (jobHeadRule document01 h) 0 && not (roomy rooms size links h) then bad 8 else closed (fromHead document01 h s)
 
--- The job that was read stands in the memory, with all links between its edges; or the refusal.
-abbrev pub JobLoaded : ℕ → Result Job → List ℕ → Step → Type 0
-JobLoaded rooms (good j) mem r = ((n : ℕ) × (stepTold r ≡ good n)) × (jobIn mem ≡ j) × JobHeld rooms mem × LinkedIn rooms mem × LinkedOut rooms mem
-JobLoaded rooms (bad n) mem r = stepTold r ≡ bad n
+-- The job that was read stands in the memory, and its links in theirs; or the refusal.
+abbrev pub JobLoaded : ℕ → Result Job → List ℕ → List ℕ → Step → Type 0
+JobLoaded rooms (good j) mem links r = ((n : ℕ) × (stepTold r ≡ good n)) × (jobIn mem ≡ j) × JobHeld rooms mem × LinksHeld mem links
+JobLoaded rooms (bad n) mem links r = stepTold r ≡ bad n

@@ -8,6 +8,7 @@ use Rattle.definitions.specs.Lists.{nth}
 use Rattle.definitions.specs.Job.{JobHead, jobHeadOf}
 use Rattle.text.specs.declared.Step.{Step}
 use Rattle.text.specs.declared.Step.the-variants.{Next, Refused}
+use Rattle.orders.specs.Links.{linksSize}
 use Rattle.jobs.specs.Memory.{numbered}
 
 -- The answer after the last line: whether there is a line left over, whether there is a circle, and the place after the job's cells.
@@ -23,13 +24,14 @@ delaysAt h = 4 + h .tasks * (1 + h .processors)
 abbrev pub edgesAt : JobHead → ℕ
 edgesAt h = 4 + (h .tasks + h .processors) * (1 + h .processors)
 
--- A memory with a head within its limits in front, and room for the job.
-pub record Headed (mem : List ℕ) : Type 0 where
+-- A memory with a head within its limits in front, and room for the job, and for its links in so many cells.
+pub record Headed (mem : List ℕ) (links : ℕ) : Type 0 where
   pub some-task : 1 ≤ nth mem 0
   pub tasks-most : nth mem 0 ≤ 255
   pub processors-most : nth mem 1 ≤ 16
   pub edges-most : nth mem 2 ≤ 1024
   pub room : edgesAt (jobHeadOf mem) + nth mem 2 ≤ length mem
+  pub links-room : linksSize (nth mem 0) (nth mem 2) ≤ links
 
 -- The C lines' cells stand after the head; the C and D lines' cells do.
 abbrev pub RunsIn : List ℕ → List (List ℕ) → Type 0

@@ -1,4 +1,4 @@
-// A job's text, read into a memory, with links between its edges.
+// A job's text, read into a memory, and the links between its edges, into another.
 ghost use lib.ListN.{length, drop};
 ghost use Rattle.heads.specs.Heads.{headOf};
 ghost use Rattle.jobs.specs.Answers.{Answered, jobAnswer};
@@ -7,7 +7,6 @@ use heads::Head;
 use text::Step;
 
 mod job;
-mod links;
 
 // How many cells or bytes were written, or the number of the refusal.
 pub enum Answer {
@@ -15,16 +14,23 @@ pub enum Answer {
     Refusal(u64),
 }
 
-// The rest of a job's text, from `at` on, after its head, into a memory of so many rooms; its edges are then linked.
-pub fn load_job(s: &[u8], at: usize, head: Head, mem: &mut [u64], rooms: usize) -> Step
-    ensures { λ r. ⌜ JobLoaded rooms (jobFrom rooms (length (now (mem .entry))) (headOf head) (drop at (now (s .entry)))) (now (mem .exit)) r ⌝ }
+// The rest of a job's text, from `at` on, after its head, into a memory of so many rooms, and the links between its edges.
+pub fn load_job(
+    s: &[u8],
+    at: usize,
+    head: Head,
+    mem: &mut [u64],
+    links: &mut [u64],
+    rooms: usize,
+) -> Step
+    ensures { λ r. ⌜ JobLoaded rooms (jobFrom rooms (length (now (mem .entry))) (length (now (links .entry))) (headOf head) (drop at (now (s .entry)))) (now (mem .exit)) (now (links .exit)) r ⌝ }
 {
-    let x = heads::check_head(head);
+    let x = heads::head_rule(head);
     if x > 0 {
         return Step::Refused(x);
     }
-    if heads::roomy(head, mem.len(), rooms) {
-        return job::load_linked(s, at, head, mem, rooms);
+    if heads::roomy(head, mem.len(), links.len(), rooms) {
+        return job::load_rest(s, at, head, mem, links);
     }
     Step::Refused(8)
 }
@@ -34,7 +40,8 @@ pub fn read_job(text: &[u8], cells: &mut [u64]) -> Answer
     ensures { λ r. do ⌜ Answered (jobAnswer (now (text .entry)) (← ⟦cells.len()⟧ .entry)) (now (cells .entry)) (now (cells .exit)) r ⌝ }
 {
     let mut mem = [0u64; 5664];
-    match job::load_text(text, &mut mem) {
+    let mut links = [0u64; 2176];
+    match job::load_text(text, &mut mem, &mut links) {
         Step::Next(n) => {
             if cells.len() < n {
                 return Answer::Refusal(8);

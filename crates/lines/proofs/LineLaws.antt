@@ -7,9 +7,10 @@ use native.Mathlib.Numerals.{add-one}
 use borrow.Author.Tests.{eq-eqb, ne-eqb, lt-ltb, le-ltb}
 use lib.ListN.{length, getD, take, drop, set, drop-of-length-le}
 use lib.Seq.{drop-cons, take-suc-set}
-use Rattle.definitions.specs.Limits.{Limits, document01}
+use Rattle.definitions.specs.Limits.{Limits}
 use Rattle.definitions.specs.Text.{Reading, Reader, found, refused, next, due, number, exactly, numbers, line, lines, mark}
-use Rattle.text.specs.Told.{after, lineInto, ruled, PlacedBy}
+use Rattle.text.specs.Told.{told, after, lineInto, ruled, PlacedBy}
+use Rattle.text.specs.declared.Step.{Step}
 use Rattle.text.specs.declared.Num.{Num}
 use Rattle.text.specs.declared.Num.the-variants.{Value}
 
@@ -61,8 +62,9 @@ module _ (l : Limits) (s xs : List ℕ) (k i p : ℕ) where
   numbers-end h = let e : k - i ≡ 0 = omega arith in rw (e, append-nil)
 
 -- The place after a number well inside a text is in it.
-pub inner-place : (s : List ℕ) (p end : ℕ) (r : Num) (v n : ℕ) → end ≡ length s - 11 → p < end → PlacedBy (p + 10) r → r ≡ Value v n → n < length s
-inner-place s p end r v n e l h f = omega (arith, e, l, rw f at h)
+pub inner-place : (most : ℕ) (s : List ℕ) (p end : ℕ) (r : Num) (v n : ℕ) → end ≡ length s - (most + 1) → p < end → PlacedBy (p + most) r → r ≡ Value v n
+    → n < length s
+inner-place most s p end r v n e l h f = omega (arith, e, l, rw f at h)
 
 -- One more number was stored.
 pub take-more : (d : List ℕ) (i v : ℕ) → i < length d → take (i + 1) (set d i v) ≡ take i d ++ v ∷ []
@@ -78,15 +80,19 @@ module _ (l : Limits) (opening : List ℕ) (k : ℕ) (s : List ℕ) where
   line-no n e = rw e
 
 -- The slice has k cells, or not.
-module _ (room : ℕ) (opening : List ℕ) (k : ℕ) (s : List ℕ) where
-  pub line-fits : k ≤ room → lineInto room opening k s ≡ line document01 opening k s
+module _ (l : Limits) (room : ℕ) (opening : List ℕ) (k : ℕ) (s : List ℕ) where
+  pub line-fits : k ≤ room → lineInto l room opening k s ≡ line l opening k s
   line-fits h = rw (le-ltb room k h)
 
-  pub line-unfit : room < k → lineInto room opening k s ≡ refused 8
+  -- What is said of a line that was read into it, with the answer x.
+  pub line-told : (t ys : List ℕ) (r x : Step) → told t (take k ys) r ≡ lineInto l room opening k s → k ≤ room → r ≡ x → line l opening k s ≡ told t (take k ys) x
+  line-told t ys r x e h f = sym (e ∙ line-fits h) ∙ ap (told t (take k ys)) f
+
+  pub line-unfit : room < k → lineInto l room opening k s ≡ refused 8
   line-unfit h = rw (lt-ltb room k h)
 
 -- Read on if no refusal is due.
-pub due-no : {A : Type 0} (n : ℕ) (q : Reader A) (s : List ℕ) → 0 < n → refused n ≡ next (due n s) (λ _. q)
+due-no : {A : Type 0} (n : ℕ) (q : Reader A) (s : List ℕ) → 0 < n → refused n ≡ next (due n s) (λ _. q)
 due-no zero q s h = absurd (omega arith)
 due-no (suc n) q s h = refl
 
@@ -102,6 +108,18 @@ module _ {A : Type 0} (form : Reader A) (rule : List A → A → ℕ) (seen : Li
     pub ruled-yes : x ≤ 0 → found a r ≡ ruled form rule seen s
     ruled-yes g = let z : rule seen a ≡ 0 = omega arith in rw (e, z)
 
+  -- It, and what is read after it.
+  pub ruled-then : {B : Type 0} (k : A → Reader B) → next (form s) (λ a r. next (due (rule seen a) r) (λ _. k a)) ≡ next (ruled form rule seen s) k
+  ruled-then k = by (form s)
+    where
+      judged : (a : A) (r : List ℕ) (x : ℕ) → next (due x r) (λ _. k a) ≡ next (next (due x r) (λ _ q. found a q)) k
+      judged a r zero = refl
+      judged a r (suc x) = refl
+
+      by : (q : Reading A) → next q (λ a r. next (due (rule seen a) r) (λ _. k a)) ≡ next (next q (λ a r. next (due (rule seen a) r) (λ _ p. found a p))) k
+      by (found a r) = judged a r (rule seen a)
+      by (refused x) = refl
+
 -- Lines of one kind: `seen` were read, i of n, and s is the rest.
 module _ {A : Type 0} (form : Reader A) (rule : List A → A → ℕ) (n i : ℕ) (seen : List A) (s : List ℕ) where
   pub lines-end : n ≤ i → found seen s ≡ lines form rule (n - i) seen s
@@ -112,17 +130,7 @@ module _ {A : Type 0} (form : Reader A) (rule : List A → A → ℕ) (n i : ℕ
     -- One line, and the lines after it.
     one-line : lines form rule (n - i) seen s ≡ next (ruled form rule seen s) (λ a. lines form rule (n - (i + 1)) (seen ++ a ∷ []))
     unfolding lines
-    one-line = rw (left n i h) (by (form s))
-      where
-        judged : (a : A) (r : List ℕ) (x : ℕ) → next (due x r) (λ _. lines form rule (n - (i + 1)) (seen ++ a ∷ []))
-            ≡ next (next (due x r) (λ _ q. found a q)) (λ b. lines form rule (n - (i + 1)) (seen ++ b ∷ []))
-        judged a r zero = refl
-        judged a r (suc x) = refl
-
-        by : (q : Reading A) → next q (λ a r. next (due (rule seen a) r) (λ _. lines form rule (n - (i + 1)) (seen ++ a ∷ [])))
-            ≡ next (next q (λ a r. next (due (rule seen a) r) (λ _ p. found a p))) (λ b. lines form rule (n - (i + 1)) (seen ++ b ∷ []))
-        by (found a r) = judged a r (rule seen a)
-        by (refused x) = refl
+    one-line = rw (left n i h) (ruled-then form rule seen s (λ a. lines form rule (n - (i + 1)) (seen ++ a ∷ [])))
 
     pub lines-no : (x : ℕ) → ruled form rule seen s ≡ refused x → refused x ≡ lines form rule (n - i) seen s
     lines-no x e = sym (one-line ∙ rw e)

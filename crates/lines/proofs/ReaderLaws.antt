@@ -4,13 +4,13 @@ use Prim.Native.Nat.{ℕ}
 use mathlib.Core.List.{List}
 use lib.ListN.{take, drop}
 use denote.Ref.{RefT, now}
-use Rattle.definitions.specs.Limits.{document01}
+use Rattle.definitions.specs.Limits.{Limits}
 use Rattle.definitions.specs.Text.{line}
 use Rattle.text.specs.Told.{told}
 use Rattle.text.specs.declared.Step.{Step}
 use Rattle.lines.specs.declared.reader.Reader.{Reader}
 
 -- The answer r to the line at the reader d, with the numbers in zs, which had been y.
-abbrev pub LineTold : Reader → RefT (List ℕ) → ℕ → RefT (List ℕ) → List ℕ → Step → Type 0
-LineTold d opening k y zs r =
-    (told (now (d .text)) (take k zs) r ≡ line document01 (now opening) k (drop (d .at) (now (d .text)))) × (drop k zs ≡ drop k (now y))
+abbrev pub LineTold : Limits → Reader → RefT (List ℕ) → ℕ → RefT (List ℕ) → List ℕ → Step → Type 0
+LineTold l d opening k y zs r =
+    (told (now (d .text)) (take k zs) r ≡ line l (now opening) k (drop (d .at) (now (d .text)))) × (drop k zs ≡ drop k (now y))

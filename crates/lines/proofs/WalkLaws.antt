@@ -54,7 +54,8 @@ module _ {M : Type 1} {𝓤 : URA M} {H : Heap 𝓤} {A : Atoms 𝓤} {K : Type 
       let κs = y .0 .0 in
       let a = y .0 .3 in
       calls-at t fm (Of 𝓤 H A T c) known y os (λ u.
-      use1 W (later (some (λ (r : Res S κs). (raw (alive 𝓤 H A S κs (y .0 .1)) ⊛ ‵ (typeAt (S .result) κs .own r (u ∷ []))) ⊛ raw (ensured 𝓤 H A T c κs a (y .1) r)))) (id⊢ 𝓤 _) $ await t tt $ pick t (λ r.
+      use1 W (later (some (λ (r : Res S κs). (raw (alive 𝓤 H A S κs (y .0 .1)) ⊛ ‵ (typeAt (S .result) κs .own r (u ∷ []))) ⊛ raw (ensured 𝓤 H A T c κs a (y .1) r))))
+      (id⊢ 𝓤 _) $ await t tt $ pick t (λ r.
       split t $ move t (1 ∷ []) $ use1 W (some (λ (ws : Lasts T κs a). ‵ (lasts T κs a ws) ⊛ raw (c κs a .ensures (y .1) r (atExit T κs a ws)))) (id⊢ 𝓤 _) $ pick t (λ ws.
       split t $ move t (1 ∷ []) $ use1 W (raw (fact 𝓤 (φ r ws))) (clause r ws) $ heard t (φ r ws) (λ e.
       move t (1 ∷ []) $ split t $ move t (1 ∷ 0 ∷ []) $ peeks t (typeAt (S .result) κs) (Is (typeAt (S .result) κs)) (shows 𝓤 H A (typeAt (S .result) κs)) r (u ∷ []) (λ is. k u r ws e is)))))
@@ -72,7 +73,8 @@ module _ {n : ℕ} where
   fits κs [] ks a ws = tt
   fits κs (s ∷ ss) ks a ws = (tt, fits κs ss (ks .1) (a .1) (ws .1))
 
-  had : (κs : Lfts n) (ss : List (Slot n)) (ks : Kepts ss) (a : Denots (typesAt ss κs)) (ws : Fins κs ss ks a) (vss : Valss (typesAt ss κs)) → lastsOf κs ss ks a ws ≡ hasOf κs ss ks (leaves ss ks) a ws vss
+  had : (κs : Lfts n) (ss : List (Slot n)) (ks : Kepts ss) (a : Denots (typesAt ss κs)) (ws : Fins κs ss ks a) (vss : Valss (typesAt ss κs))
+      → lastsOf κs ss ks a ws ≡ hasOf κs ss ks (leaves ss ks) a ws vss
   had κs [] ks a ws vss = refl
   had κs (s ∷ ss) ks a ws vss = ap (fsep (left (s .row κs .exit (ks .0)) (a .0) (ws .0))) (had κs ss (ks .1) (a .1) (ws .1) (vss .1))
 
@@ -86,7 +88,8 @@ Walk 𝓤 H A T c = walkOf 𝓤 H A T (leaves (T .signature .params) (T .kept)) 
 module _ {M : Type 1} (𝓤 : URA M) (H : Heap 𝓤) (A : Atoms 𝓤) (W : Given 𝓤 H A) (T : Ended) (c : Clauses 𝓤 T) (y : Walk 𝓤 H A T c .Ghost) (u : Val) (r : Res (T .signature) (y .0 .0))
     (ws : Lasts T (y .0 .0) (y .0 .3)) where
   pub ended : (φ : Type 0) → ent 𝓤 (fact 𝓤 φ) (c (y .0 .0) (y .0 .3) .ensures (y .1) r (atExit T (y .0 .0) (y .0 .3) ws)) → φ
-      → ent 𝓤 (⋆ 𝓤 H A (‵ (typeAt (T .signature .result) (y .0 .0) .own r (u ∷ [])) ∷ raw (alive 𝓤 H A (T .signature) (y .0 .0) (y .0 .1)) ∷ ‵ (lasts T (y .0 .0) (y .0 .3) ws) ∷ [])) (Walk 𝓤 H A T c .post y u)
+      → ent 𝓤 (⋆ 𝓤 H A (‵ (typeAt (T .signature .result) (y .0 .0) .own r (u ∷ [])) ∷ raw (alive 𝓤 H A (T .signature) (y .0 .0) (y .0 .1)) ∷ ‵ (lasts T (y .0 .0) (y .0 .3) ws) ∷ []))
+      (Walk 𝓤 H A T c .post y u)
   ended φ clause x =
       let S = T .signature in
       qed W (‵ (typeAt (S .result) (y .0 .0) .own r (u ∷ [])) ∷ raw (alive 𝓤 H A S (y .0 .0) (y .0 .1)) ∷ ‵ (lasts T (y .0 .0) (y .0 .3) ws) ∷ []) ∵
@@ -102,7 +105,8 @@ module _ {M : Type 1} (𝓤 : URA M) (H : Heap 𝓤) (𝓜 : Model 𝓤 H) (𝓖
   pub met : (T : Ended) (c : Clauses 𝓤 T) (k : Name) (e : Fn) → Closed 𝓤 H (tables 𝓤 H 𝓜 𝓡 γ .C) (tables 𝓤 H 𝓜 𝓡 γ .Λ) k e
       → (sp : (κs : Lfts (T .signature .lifetimes)) → Spells (typesAt (T .signature .params) κs))
       → ((κs : Lfts (T .signature .lifetimes)) → Tellss (typesAt (T .signature .params) κs) (Ises (typesAt (T .signature .params) κs)) (sp κs))
-      → ((κs : Lfts (T .signature .lifetimes)) (qs : Shares (T .signature .lifetimes)) (bounds : AllOutlive (T .signature .lifetimes) (T .signature .outlives) κs) (a : Args (T .signature) κs) (g : c κs a .ghost)
+      → ((κs : Lfts (T .signature .lifetimes)) (qs : Shares (T .signature .lifetimes)) (bounds : AllOutlive (T .signature .lifetimes) (T .signature .outlives) κs) (a : Args (T .signature) κs)
+      (g : c κs a .ghost)
       → Are (typesAt (T .signature .params) κs) (Ises (typesAt (T .signature .params) κs)) a (valss (typesAt (T .signature .params) κs) (sp κs) a)
       → ent 𝓤 (sep 𝓤 (onEntry 𝓤 H (𝓖 .A) (T .signature) κs qs a (valss (typesAt (T .signature .params) κs) (sp κs) a)) (c κs a .requires g))
       (WpFn 𝓤 H (tables 𝓤 H 𝓜 𝓡 γ .C) (tables 𝓤 H 𝓜 𝓡 γ .Λ) e (flat (typesAt (T .signature .params) κs) (valss (typesAt (T .signature .params) κs) (sp κs) a))

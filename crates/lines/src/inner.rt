@@ -1,4 +1,5 @@
-// Numbers well inside a text: twelve bytes stand from their place on, so that no digit needs a test for the text's end.
+// Numbers well inside a text: from their place on there are as many bytes as a number has at most, and two more, so that no digit needs
+// a test for the text's end.
 ghost use mathlib.Core.Path.{_≡_};
 ghost use mathlib.Core.Bool.{true, false};
 ghost use Prim.Native.Nat.{_≤_, _<_, _+_, _-_};
@@ -7,12 +8,13 @@ ghost use Rattle.definitions.specs.Limits.{document01};
 ghost use Rattle.definitions.specs.Text.{isDigit, digits, number};
 ghost use Rattle.text.specs.Told.{numberTold, PlacedBy};
 use text::Num;
+use text::limits::DIGITS;
 
-// The first place with fewer than twelve bytes from there on, in a text of n bytes.
+// The first place with fewer bytes from there on, in a text of n bytes.
 pub fn end_of(n: usize) -> usize
-    ensures { λ r. ⌜ r ≡ n - 11 ⌝ }
+    ensures { λ r. ⌜ r ≡ n - (document01 .digits + 1) ⌝ }
 {
-    if n < 11 { 0 } else { n - 11 }
+    if n < DIGITS + 1 { 0 } else { n - (DIGITS + 1) }
 }
 
 // The digit that the byte b is; above 9 if it is none.
@@ -24,13 +26,13 @@ fn digit(b: u8) -> u64
 
 // The digits that follow the first one, which stands at `at`.
 fn more_digits(s: &[u8], at: usize, first: u64) -> Num
-    requires { ⌜ (at + 12 ≤ length (now s)) × (first ≤ 9) ⌝ }
-    ensures { λ r. ⌜ numberTold (now (s .entry)) r ≡ digits 9 first (drop (at + 1) (now (s .entry))) ⌝ }
-    ensures placed { λ r. ⌜ PlacedBy (at + 10) r ⌝ }
+    requires { ⌜ (at + (document01 .digits + 2) ≤ length (now s)) × (first ≤ 9) ⌝ }
+    ensures { λ r. ⌜ numberTold (now (s .entry)) r ≡ digits (document01 .digits - 1) first (drop (at + 1) (now (s .entry))) ⌝ }
+    ensures placed { λ r. ⌜ PlacedBy (at + document01 .digits) r ⌝ }
 {
     let mut acc = first;
     let mut i = 1;
-    while i < 10 {
+    while i < DIGITS {
         let d = digit(s[at + i]);
         if d > 9 {
             return Num::Value(acc, at + i);
@@ -38,17 +40,17 @@ fn more_digits(s: &[u8], at: usize, first: u64) -> Num
         acc = acc * 10 + d;
         i += 1;
     }
-    if digit(s[at + 10]) <= 9 {
+    if digit(s[at + DIGITS]) <= 9 {
         return Num::Bad;
     }
-    Num::Value(acc, at + 10)
+    Num::Value(acc, at + DIGITS)
 }
 
 // The number that stands at `at`.
 pub fn read_number(s: &[u8], at: usize) -> Num
-    requires { ⌜ at + 12 ≤ length (now s) ⌝ }
+    requires { ⌜ at + (document01 .digits + 2) ≤ length (now s) ⌝ }
     ensures { λ r. ⌜ numberTold (now (s .entry)) r ≡ number document01 (drop at (now (s .entry))) ⌝ }
-    ensures placed { λ r. ⌜ PlacedBy (at + 10) r ⌝ }
+    ensures placed { λ r. ⌜ PlacedBy (at + document01 .digits) r ⌝ }
 {
     let first = digit(s[at]);
     if first > 9 {

@@ -73,7 +73,8 @@ fn read_last(s: &[u8], at: usize, begun: usize, k: usize, vals: &mut [u64]) -> S
 // A line: its opening and k numbers, kept at the front of `vals`.
 pub fn line_at(s: &[u8], at: usize, opening: &[u8], k: usize, vals: &mut [u64]) -> Step
     requires { ⌜ k ≤ length (now vals) ⌝ }
-    ensures { λ r. ⌜ (told (now (s .entry)) (take k (now (vals .exit))) r ≡ line document01 (now (opening .entry)) k (drop at (now (s .entry)))) × (drop k (now (vals .exit)) ≡ drop k (now (vals .entry))) ⌝ }
+    ensures { λ r. ⌜ (told (now (s .entry)) (take k (now (vals .exit))) r ≡ line document01 (now (opening .entry)) k (drop at (now (s .entry))))
+        × (drop k (now (vals .exit)) ≡ drop k (now (vals .entry))) ⌝ }
 {
     match text::read_fixed(s, at, opening) {
         Step::Next(p) => read_numbers(s, p, k, vals),

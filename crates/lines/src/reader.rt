@@ -40,7 +40,8 @@ pub fn line<'a, 'b, 'c>(r: Reader<'a>, opening: &'b [u8], k: usize, vals: &'c mu
 // A line of a text, read by a reader at its place.
 pub fn line_of(s: &[u8], at: usize, opening: &[u8], k: usize, vals: &mut [u64]) -> Step
     requires { ⌜ k ≤ length (now vals) ⌝ }
-    ensures { λ r. ⌜ (told (now (s .entry)) (take k (now (vals .exit))) r ≡ line document01 (now (opening .entry)) k (drop at (now (s .entry)))) × (drop k (now (vals .exit)) ≡ drop k (now (vals .entry))) ⌝ }
+    ensures { λ r. ⌜ (told (now (s .entry)) (take k (now (vals .exit))) r ≡ line document01 (now (opening .entry)) k (drop at (now (s .entry))))
+        × (drop k (now (vals .exit)) ≡ drop k (now (vals .entry))) ⌝ }
 {
     line(moved(start(s), at), opening, k, vals)
 }

@@ -2,6 +2,7 @@
 use mathlib.Core.Path.{_≡_, refl, _∙_}
 use mathlib.Core.List.{List}
 use Prim.Native.Nat.{ℕ}
+use native.Mathlib.Omega.{arith}
 use lib.ListN.{length, drop}
 use Rattle.definitions.specs.Limits.{document01}
 use Rattle.definitions.specs.Text.{Result, good, bad, andThen}
@@ -9,36 +10,24 @@ use Rattle.definitions.specs.Job.{Job, readJob}
 use Rattle.definitions.specs.Plan.{Plan, readPlan}
 use Rattle.definitions.specs.Stops.{Stop, readStops}
 use Rattle.definitions.specs.Replay.{replay, replayText}
-use Rattle.definitions.specs.Tools.{fitting, planAnswer, verdictFor, verdictOn, verdict, replayed, replayAnswer}
-use Rattle.heads.specs.Layout.{memorySize, roomsFor}
-use Rattle.jobs.specs.Answers.{Answered}
+use Rattle.definitions.specs.Tools.{Says, fitting, planAnswer, verdictFor, verdictOn, verdict, replayed, replayAnswer}
+use Rattle.heads.specs.Layout.{memorySize, linksRoom, roomsFor}
+use Rattle.jobs.specs.Answers.{resultOf, Answered}
 use Rattle.heads.specs.Heads.{headOf, HeadRead}
 use Rattle.jobs.specs.Loading.{jobFrom}
 use Rattle.jobs.specs.declared.Answer.{Answer}
-use Rattle.jobs.specs.declared.Answer.the-variants.{Refusal}
 use Rattle.heads.specs.declared.Head.{Head}
 use Rattle.heads.specs.declared.Opening.the-variants.{Opened}
 use Rattle.jobs.proofs.Loads.{job-from}
-use Rattle.plans.specs.Loading.{withPlan, readBoth, bothFrom}
+use Rattle.plans.specs.Loading.{withPlan, readBoth}
 use Rattle.rounds.specs.Tools.{planOf, verdictBoth, replayOf, replayBoth}
-use Rattle.rounds.specs.Verdicts.{Judged}
+use Rattle.rounds.specs.Verdicts.{refusalOf, Judged}
 use Rattle.rounds.specs.declared.Checked.{Checked}
-use Rattle.rounds.specs.declared.Checked.the-variants.{Refused}
-
--- A job's text that was refused ---------------------------------------------------------------------------------------
-
-module _ (job : List ℕ) (n : ℕ) (h : readJob document01 job ≡ bad n) where
-  pub plan-refused : (d : List ℕ) → Answered (planAnswer document01 job (length d)) d d (Refusal n)
-  unfolding planAnswer
-  plan-refused d = rw h (refl, refl)
-
-  pub check-refused : (plan : List ℕ) → Judged (verdict document01 job plan) (Refused n)
-  unfolding verdict
-  check-refused plan = rw h refl
-
-  pub replay-refused : (plan stops d : List ℕ) → Answered (replayAnswer document01 job plan stops (length d)) d d (Refusal n)
-  unfolding replayAnswer replayed
-  replay-refused plan stops d = rw h (refl, refl)
+use Rattle.mirguneth.specs.Said.{doneOf, numbersOf, Wrote, Answers}
+use Rattle.mirguneth.specs.declared.choice.Tool.{Tool}
+use Rattle.mirguneth.specs.declared.choice.Tool.the-variants as Tool
+use Rattle.mirguneth.specs.declared.choice.Said.{Said}
+use Rattle.mirguneth.specs.declared.choice.Said.the-variants as Said
 
 -- The definitions by what was read of both texts ----------------------------------------------------------------------
 
@@ -78,15 +67,38 @@ module _ (job plan : List ℕ) where
 
 -- The memory that the head asks for -----------------------------------------------------------------------------------
 
-module _ (job : List ℕ) (h : Head) (at rooms size : ℕ) (o : HeadRead job (Opened h at)) (e : rooms ≡ roomsFor (headOf h)) (l : size ≡ memorySize rooms) where
-  pub plan-page : (room : ℕ) (d z : List ℕ) (r : Answer)
-      → Answered (planOf (jobFrom rooms size (headOf h) (drop at job)) room) d z r → Answered (planAnswer document01 job room) d z r
-  unfolding planAnswer
-  plan-page room d z r a = rw (job-from job h at rooms size o e l) at a
+pub tool-page : (tool : Tool) (job : List ℕ) (h : Head) (at rooms size links : ℕ) → HeadRead document01 job (Opened h at) → rooms ≡ roomsFor (headOf h)
+    → size ≡ memorySize rooms → links ≡ linksRoom rooms
+    → (plan stops d z : List ℕ) (r : Said) → Answers tool (jobFrom rooms size links (headOf h) (drop at job)) plan stops d z r
+    → Answers tool (readJob document01 job) plan stops d z r
+tool-page tool job h at rooms size links o e l k plan stops d z r a = rw (job-from job h at rooms size links o e l (omega (arith, k))) at a
 
-  pub check-page : (plan : List ℕ) (r : Checked) → Judged (verdictBoth (bothFrom rooms size (headOf h) (drop at job) plan)) r → Judged (verdict document01 job plan) r
-  check-page plan r a = rw (verdict-both job plan) (rw (job-from job h at rooms size o e l) at a)
+-- The job's text was refused.
+pub tool-refused : (tool : Tool) (x : Result Job) (n : ℕ) → x ≡ bad n → (plan stops d : List ℕ) → Answers tool x plan stops d d (Said.Refused n)
+unfolding withPlan
+tool-refused Tool.Plan x n h plan stops d = rw h (refl, refl)
+tool-refused Tool.Check x n h plan stops d = rw h refl
+tool-refused Tool.Replay x n h plan stops d = rw h (refl, refl)
 
-  pub replay-page : (plan stops : List ℕ) (room : ℕ) (d z : List ℕ) (r : Answer)
-      → Answered (replayBoth (bothFrom rooms size (headOf h) (drop at job) plan) stops room) d z r → Answered (replayAnswer document01 job plan stops room) d z r
-  replay-page plan stops room d z r a = rw (replay-both job plan stops room) (rw (job-from job h at rooms size o e l) at a)
+-- The public answers --------------------------------------------------------------------------------------------------
+
+-- What a tool that writes says, as its own answer and as that of the three.
+pub answered-wrote : (x : Result (List ℕ)) (d e : List ℕ) (r : Answer) (s : Said) → Answered x d e r → doneOf s ≡ resultOf r → Wrote x d e s
+answered-wrote (good t) d e r s (a, f) q = (q ∙ a, f)
+answered-wrote (bad n) d e r s (a, f) q = (q ∙ a, f)
+
+wrote-answered : (x : Result (List ℕ)) (d e : List ℕ) (s : Said) (r : Answer) → Wrote x d e s → resultOf r ≡ doneOf s → Answered x d e r
+wrote-answered (good t) d e s r (a, f) q = (q ∙ a, f)
+wrote-answered (bad n) d e s r (a, f) q = (q ∙ a, f)
+
+module _ (job : List ℕ) (s : Said) where
+  pub check-page : (plan : List ℕ) (r : Checked) → Says (verdictBoth (readBoth job plan)) (numbersOf s) → refusalOf r ≡ numbersOf s → Judged (verdict document01 job plan) r
+  check-page plan r a q = rw (verdict-both job plan, q) a
+
+  module _ (d e : List ℕ) (r : Answer) (q : resultOf r ≡ doneOf s) where
+    pub plan-page : Wrote (planOf (readJob document01 job) (length d)) d e s → Answered (planAnswer document01 job (length d)) d e r
+    unfolding planAnswer
+    plan-page a = wrote-answered (planOf (readJob document01 job) (length d)) d e s r a q
+
+    pub replay-page : (plan stops : List ℕ) → Wrote (replayBoth (readBoth job plan) stops (length d)) d e s → Answered (replayAnswer document01 job plan stops (length d)) d e r
+    replay-page plan stops a = rw (replay-both job plan stops (length d)) (wrote-answered (replayBoth (readBoth job plan) stops (length d)) d e s r a q)

@@ -1,4 +1,7 @@
 pub mod CircleLaws
 pub mod LinkIn
 pub mod OrderLaws
-pub mod SortLaws
+pub mod PairLaws
+pub mod RunLaws
+pub mod SortingLaws
+pub mod Walk

@@ -1,19 +1,18 @@
 -- An order of the tasks: the places of its tasks, and that it has every task exactly if the edges form no circle.
 use mathlib.Core.Path.{_≡_, refl, ap, _∙_, sym}
 use mathlib.Core.Logic.{_⊎_, inl, inr}
-use mathlib.Core.List.{List, map}
+use mathlib.Core.List.{List}
 use mathlib.Core.Bool.{Bool, true, false, not}
 use Prim.Native.Nat.{ℕ, zero, suc, _<_, _≤_}
 use native.Mathlib.Omega.{arith}
 use lib.Dec.{eqb, ltb}
 use lib.ListN.{length}
-use borrow.Author.Tests.{eqb-true, eqb-false, eq-eqb, ltb-true, ltb-false, lt-ltb, leb-true, le-leb, lt-leb, not-true}
-use Rattle.definitions.specs.Lists.{nth, below, keep, In, has, all, distinct}
+use borrow.Author.Tests.{eqb-true, eqb-false, eq-eqb, ltb-true, ltb-false, not-true}
+use Rattle.definitions.specs.Lists.{nth, below, keep, In, has, distinct}
 use Rattle.definitions.specs.Job.{Edge, Job, incoming, circular, Path, one, more}
-use Rattle.definitions.proofs.Lists.{both, both-true, in-map, map-in, all-in, in-all, in-keep, keep-in, not-has, has-not, apart-head, fits, spare, length-count, in-below, below-in, distinct-count, full}
+use Rattle.definitions.proofs.Lists.{in-keep, keep-in, not-has, has-not, apart-head, fits, spare, length-count, in-below, below-in, distinct-count, full}
 use Rattle.definitions.proofs.Circle.{free-task, circle-found}
-use Rattle.orders.specs.Edges.{edgeIn}
-use Rattle.orders.specs.Order.{Within, listed, Arranged, inner, sortable}
+use Rattle.orders.specs.Order.{listed, Arranged}
 
 -- Places ------------------------------------------------------------------------------------------------------
 
@@ -114,37 +113,3 @@ module _ (j : Job) where
           let (m, d, p) = path-back a w k h g in
           absurd (places-apart order n (a .once) m k d h (p ∙ sym g))
       by false c = refl
-
--- What can be put in an order ---------------------------------------------------------------------------------
-
-module _ (v : ℕ) (cells : List ℕ) where
-  pub sortable-parts : sortable v cells ≡ true → (v ≤ 255) × (length cells ≤ 1024) × Within v (map edgeIn cells)
-  unfolding sortable
-  sortable-parts h =
-      let (f, c) = both _ _ h in
-      let (a, b) = both _ _ f in (
-        leb-true _ _ a,
-        leb-true _ _ b,
-        λ e i.
-            let (x, k, q) = in-map edgeIn e cells i in
-            let (l, m) = both _ _ (all-in (inner v) x cells c k) in
-            rw (← q) (ltb-true _ _ l, ltb-true _ _ m),
-      )
-
-  pub sortable-made : v ≤ 255 → length cells ≤ 1024 → Within v (map edgeIn cells) → sortable v cells ≡ true
-  unfolding sortable
-  sortable-made a b w =
-      both-true (both-true (le-leb _ _ a) (le-leb _ _ b))
-      (in-all (inner v) cells (λ x i. let (l, m) = w (edgeIn x) (map-in edgeIn x cells i) in both-true (lt-ltb _ _ l) (lt-ltb _ _ m)))
-
-  pub many-tasks : 255 < v → false ≡ sortable v cells
-  unfolding sortable
-  many-tasks h = rw (lt-leb v 255 h)
-
-  pub many-edges : v ≤ 255 → 1024 < length cells → false ≡ sortable v cells
-  unfolding sortable
-  many-edges a h = rw (le-leb v 255 a, lt-leb (length cells) 1024 h)
-
-  pub sortable-all : v ≤ 255 → length cells ≤ 1024 → all (inner v) cells ≡ sortable v cells
-  unfolding sortable
-  sortable-all a b = rw (le-leb v 255 a, le-leb (length cells) 1024 b)

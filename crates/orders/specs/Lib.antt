@@ -1,3 +1,4 @@
 pub mod Edges
 pub mod Links
 pub mod Order
+pub mod Sorting

@@ -1,45 +1,38 @@
-// An order of the tasks, each after those that precede it; whether the edges form a circle. Each edge is in one cell.
+// Edges, one in a cell, and their links: the runs of the edges that leave and enter each task, and an order of the tasks.
 ghost use mathlib.Core.Path.{_≡_};
 ghost use Prim.Native.Nat.{_+_, _<_};
-ghost use Rattle.orders.specs.Edges.{edgeIn};
-ghost use Rattle.orders.specs.Links.{outStartAt, inStartAt, orderAt, linkIn};
-ghost use Rattle.orders.specs.Order.{sortable, circled, ArrangedIf};
+ghost use Rattle.orders.specs.Edges.{edgeIn, pairIn};
+ghost use Rattle.orders.specs.Links.{outStartAt, inStartAt, orderAt, linkIn, LinkedFrom};
 
-mod circle;
-mod order;
+mod runs;
+mod sorting;
+mod tables;
 
-// Tasks in an order, and how many they are.
-pub struct Arrangement {
-    pub tasks: [u8; 256],
-    pub count: usize,
+// The edges were linked; or they form a circle; or they do not ascend or are not between the tasks, or the links have no room.
+pub enum Linking {
+    Joined,
+    Circle,
+    Misfit,
 }
 
-// Puts tasks below v into an order, each after those that precede it: all, if the edges form no circle. If there are more than 255
-// tasks or 1,024 edges, or an edge is not between them, the number is 256.
-pub fn arrange(edges: &[u64], v: usize) -> Arrangement
-    ensures { λ r. ⌜ ArrangedIf (sortable v (now (edges .entry))) v (now (edges .entry)) (r .tasks) (r .count) ⌝ }
+// Links the edges between v tasks: the runs of the edges that leave and enter each task, and an order of the tasks.
+pub fn link(edges: &[u64], v: usize, links: &mut [u64]) -> Linking
+    ensures { λ r. ⌜ LinkedFrom v (now (edges .entry)) (now (links .entry)) (now (links .exit)) r ⌝ }
 {
-    let mut tasks = [0u8; 256];
-    if order::sortable(edges, v) {
-        let count = order::arrange(edges, v, &mut tasks);
-        return Arrangement { tasks, count };
+    if v >= links.len() / 4 {
+        return Linking::Misfit;
     }
-    Arrangement { tasks, count: 256 }
-}
-
-// The edges form a circle among the tasks below v: not if each rises; else if some task has no place in an order of the tasks.
-pub fn has_circle(edges: &[u64], v: usize) -> bool
-    ensures { λ r. ⌜ r ≡ circled v (now (edges .entry)) ⌝ }
-{
-    if circle::all_rise(edges) {
-        return false;
+    if edges.len() > links.len() - 4 * (v + 1) {
+        return Linking::Misfit;
     }
-    if order::sortable(edges, v) {
-        let mut tasks = [0u8; 256];
-        let n = order::arrange(edges, v, &mut tasks);
-        return n < v;
+    if runs::ascending(edges, v) {
+        runs::make_runs(edges, v, links);
+        if sorting::arrange(edges, v, links) < v {
+            return Linking::Circle;
+        }
+        return Linking::Joined;
     }
-    false
+    Linking::Misfit
 }
 
 // The task that the edge in a cell leaves.
@@ -54,6 +47,13 @@ pub fn edge_to(cell: u64) -> usize
     ensures { λ r. ⌜ (r ≡ edgeIn cell .to) × (r < 256) ⌝ }
 {
     (cell / 256 % 256) as usize
+}
+
+// The pair of both as one number, by from, then by to.
+pub fn edge_pair(cell: u64) -> u64
+    ensures { λ r. ⌜ r ≡ pairIn cell ⌝ }
+{
+    cell % 256 * 256 + cell / 256 % 256
 }
 
 // Its volume.

@@ -1,18 +1,27 @@
 -- The lines of a plan in a memory, after a change elsewhere.
-use mathlib.Core.Path.{_≡_, refl, _∙_}
+use mathlib.Core.Path.{_≡_, refl, ap, _∙_}
 use mathlib.Core.Logic.{_⊎_, inl, inr, ⊎-elim}
 use mathlib.Core.List.{List}
 use mathlib.Core.Bool.{Bool, true, false}
-use Prim.Native.Nat.{ℕ, zero, suc, _+_, _*_, _-_, _<_, _≤_}
+use Prim.Native.Nat.{ℕ, zero, suc, _+_, _*_, _-_, _%_, _<_, _≤_}
 use native.Mathlib.Omega.{arith}
 use lib.ListN.{length}
-use Rattle.definitions.specs.Lists.{if_then_else_, nth}
-use Rattle.heads.specs.Layout.{jobSize, inHeadAt, inNextAt, levelAt, lineAt, blockedAt, rowAt, processorAt, earlyAt, lateAt, timeAt}
-use Rattle.jobs.specs.Held.{jobIn}
-use Rattle.plans.specs.Lines.{rowOutcomes, placedIn, rowReplicas, linesIn, RowHeld, Standing}
+use Rattle.definitions.specs.Lists.{nth}
+use Rattle.heads.specs.Layout.{jobSize, levelAt, lineAt, blockedAt, rowAt, processorAt, earlyAt, lateAt, timeAt}
+use Rattle.plans.specs.Lines.{rowEnd, rowOutcomes, placedIn, rowReplicas, linesIn, RowHeld, Standing}
 use Rattle.lists.specs.Kept.{KeptOutside}
 use Rattle.lists.proofs.Kept.{Same, same-part, same-before, same-behind}
-use Rattle.jobs.proofs.Held.{sizes, Sizes, job-same, held-same, chained-same}
+use Rattle.jobs.proofs.Held.{sizes, Sizes, held-same}
+
+-- In a line no processor and no late time stands where an early one does.
+pub early-apart : (a c n : ℕ) → (processorAt a n ≡ earlyAt a c → ⊥) × (lateAt a n ≡ earlyAt a c → ⊥)
+early-apart a c n =
+    let early : (2 + 3 * c) % 3 ≡ 2 = omega arith in
+    let on : (1 + 3 * n) % 3 ≡ 1 = omega arith in
+    let late : (3 + 3 * n) % 3 ≡ 0 = omega arith in (
+      λ q. let e : 1 + 3 * n ≡ 2 + 3 * c = omega arith in omega (arith, ap (λ (x : ℕ). x % 3) e, early, on),
+      λ q. let e : 3 + 3 * n ≡ 2 + 3 * c = omega arith in omega (arith, ap (λ (x : ℕ). x % 3) e, early, late),
+    )
 
 -- Lines -------------------------------------------------------------------------------------------------------
 
@@ -61,7 +70,7 @@ module _ (d e : List ℕ) where
 
 -- A plan's lines ------------------------------------------------------------------------------------------------
 
-pub row-held-same : {rooms : ℕ} {d e : List ℕ} (a : ℕ) → Sizes rooms d → Same 0 4 d e → Same a (a + 25) d e → RowHeld a d → RowHeld a e
+pub row-held-same : {rooms : ℕ} {d e : List ℕ} (a : ℕ) → Sizes rooms d → Same 0 4 d e → Same a (rowEnd a) d e → RowHeld a d → RowHeld a e
 row-held-same {d} {e} a s j x r =
     let m : nth e 1 ≡ nth d 1 = j .cell 1 (omega arith) (omega arith) in
     let l : nth e 3 ≡ nth d 3 = j .cell 3 (omega arith) (omega arith) in
@@ -71,27 +80,24 @@ row-held-same {d} {e} a s j x r =
       late-of = λ c h. rw (x .cell (lateAt a c) (omega arith) (omega arith)) (r .late-of c (rw l at h));
     }
 
--- The job with its links, the table of lines and the first k lines are as they were.
+-- The job, the table of lines and the first k lines are as they were.
 pub standing-same : {rooms k : ℕ} {d e : List ℕ} → length e ≡ length d → Same 0 (levelAt rooms) d e → Same (lineAt rooms) (blockedAt rooms) d e → Same (rowAt rooms 0) (rowAt rooms k) d e
     → Standing rooms k d → Standing rooms k e
 standing-same {rooms} {k} {d} {e} z j l r s =
     let w = sizes (s .job) in
     let a : Same 0 (jobSize rooms) d e = same-part 0 (jobSize rooms) j (omega arith) (omega arith) in
-    let b : jobIn e ≡ jobIn d = job-same w a in
     let v : nth e 0 ≡ nth d 0 = j .cell 0 (omega arith) (omega arith) in
     let task : (i : ℕ) → i < k → nth e (rowAt rooms i) ≡ nth d (rowAt rooms i) = λ i h. r .cell (rowAt rooms i) (omega arith) (omega arith) in
     let line : (t : ℕ) → t < nth d 0 → nth e (lineAt rooms + t) ≡ nth d (lineAt rooms + t) = λ t h. l .cell (lineAt rooms + t) (omega arith) (omega arith) in
     record {
       job = held-same (s .job) z a;
-      linked = rw b (chained-same w a (same-part (inHeadAt rooms) (inHeadAt rooms + nth d 0) j (omega arith) (omega arith))
-          (same-part (inNextAt rooms) (inNextAt rooms + nth d 2) j (omega arith) (omega arith)) (s .linked));
       count = rw v (s .count);
       task-of = λ i h. rw (task i h, v) (s .task-of i h);
       line-of = λ i h. rw (task i h, line (nth d (rowAt rooms i)) (s .task-of i h)) (s .line-of i h);
       placed = λ t h.
           let g : t < nth d 0 = rw v at h in
           rw (line t g) (⊎-elim (λ p. inl p) (λ p. inr (p .0, p .1, p .2, task (p .0) (p .1) ∙ p .3)) (s .placed t g));
-      row = λ i h. row-held-same (rowAt rooms i) w (same-part 0 4 j (omega arith) (omega arith)) (same-part (rowAt rooms i) (rowAt rooms i + 25) r (omega arith) (omega arith)) (s .row i h);
+      row = λ i h. row-held-same (rowAt rooms i) w (same-part 0 4 j (omega arith) (omega arith)) (same-part (rowAt rooms i) (rowEnd (rowAt rooms i)) r (omega arith) (omega arith)) (s .row i h);
     }
 
 -- A change among what serves the choice of a task, or behind the k lines.

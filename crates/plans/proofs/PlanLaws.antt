@@ -3,25 +3,29 @@ use mathlib.Core.Path.{_≡_, refl, ap, sym, _∙_}
 use mathlib.Core.Logic.{_⊎_, inl, inr, ⊎-elim}
 use mathlib.Core.List.{List, [], _∷_, _++_, map, map-append, reverseAux}
 use mathlib.Core.Bool.{Bool, true, false, not, _&&_, _||_, and-true, or-true, or-false, or-assoc}
-use Prim.Native.Nat.{ℕ, zero, suc, _+_, _-_, _*_, _%_, _<_, _≤_}
+use Prim.Native.Nat.{ℕ, zero, suc, _+_, _-_, _<_, _≤_}
 use native.Mathlib.Omega.{arith}
 use native.Mathlib.Numerals.{add-one}
 use borrow.Author.Tests.{ltb-true, lt-ltb, le-ltb, eq-eqb, ne-eqb, not-false}
 use lib.Dec.{eqb, ltb}
+use lib.ListN.{length}
 use Rattle.definitions.specs.Lists.{nth, In, any, all, has}
 use Rattle.definitions.specs.Limits.{document01}
 use Rattle.definitions.specs.Text.{firstOf}
 use Rattle.definitions.specs.Job.{incoming, outside}
 use Rattle.definitions.specs.Plan.{Replica, Line, processorsOf, descends, PlanHead, planHeadRule, strays, planLineRule}
 use Rattle.definitions.proofs.Lists.{neither, inside, not-outside, either-right, in-append, append-left, append-right, in-has, has-not, in-keep}
-use Rattle.heads.specs.Layout.{inHeadAt, inNextAt, lineAt, rowAt, processorAt, earlyAt, lateAt}
-use Rattle.jobs.specs.Held.{edgeAt, jobIn, chain, LinkedIn}
-use Rattle.plans.specs.Lines.{rowReplicas, linesIn, RowHeld, Standing}
+use Rattle.heads.specs.Layout.{lineAt, rowAt, processorAt, earlyAt, lateAt}
+use Rattle.jobs.specs.Held.{jobIn, JobHeld, LinksHeld}
+use Rattle.plans.specs.Lines.{replicaIn, replicaStrays, rowReplicas, linesIn, RowHeld, Standing}
+use Rattle.orders.specs.Edges.{edgeIn}
+use Rattle.orders.specs.Links.{Run, inStartAt, linkIn}
+use Rattle.orders.proofs.LinkIn.{link-in}
+use Rattle.orders.proofs.Walk.{passed, pass-none, pass-more, pass-in, pass-all}
 use Rattle.plans.specs.Loading.{lineIn}
-use Rattle.lists.proofs.ListLaws.{all-same}
-use Rattle.lists.proofs.ListLaws.{any-last}
+use Rattle.lists.proofs.ListLaws.{all-same, any-last}
 use Rattle.lists.proofs.Counting.{last-or-before}
-use Rattle.jobs.proofs.Held.{chain-step, chain-end, tasks-in}
+use Rattle.jobs.proofs.Held.{sizes, tasks-in}
 
 -- The head --------------------------------------------------------------------------------------------------------
 
@@ -92,7 +96,6 @@ module _ (mem : List ℕ) (h : PlanHead) where
 
 -- The processors and ticks of a line --------------------------------------------------------------------------------
 
--- A replica is on no processor of the job, or has a tick outside its range.
 abbrev strayed : List ℕ → Replica → Bool
 strayed mem r = not (ltb (r .processor) (nth mem 1)) || outside 0 4294967295 (r .early) || outside 0 4294967295 (r .late)
 
@@ -100,38 +103,18 @@ strayed mem r = not (ltb (r .processor) (nth mem 1)) || outside 0 4294967295 (r 
 unfoldable pub rowStrays : List ℕ → ℕ → ℕ → Bool
 rowStrays mem a c = any (strayed mem) (rowReplicas a c mem)
 
-abbrev replicaAt : List ℕ → ℕ → ℕ → Replica
-replicaAt mem a c = record { processor = nth mem (processorAt a c); early = nth mem (earlyAt a c); late = nth mem (lateAt a c) }
-
 module _ (mem : List ℕ) (a : ℕ) where
-  strays-last : (c : ℕ) → rowStrays mem a (suc c) ≡ (rowStrays mem a c || strayed mem (replicaAt mem a c))
+  strays-last : (c : ℕ) → rowStrays mem a (suc c) ≡ (rowStrays mem a c || replicaStrays a c mem)
   unfolding rowStrays rowReplicas
-  strays-last c = any-last (strayed mem) (rowReplicas a c mem) (replicaAt mem a c)
-
-  last-strays : (c n : ℕ) → n ≡ suc c → strayed mem (replicaAt mem a c) ≡ true → true ≡ rowStrays mem a n
-  last-strays c n q e = rw (q, strays-last c, either-right (rowStrays mem a c) e)
+  strays-last c = any-last (strayed mem) (rowReplicas a c mem) (replicaIn a c mem)
 
   -- Replica c is the last of n.
   module _ (c n : ℕ) (q : n ≡ suc c) where
-    pub stray-processor : nth mem 1 ≤ nth mem (processorAt a c) → true ≡ rowStrays mem a n
-    stray-processor h = last-strays c n q (rw (le-ltb _ _ h))
+    pub stray-here : replicaStrays a c mem ≡ true → true ≡ rowStrays mem a n
+    stray-here e = rw (q, strays-last c, either-right (rowStrays mem a c) e)
 
-    module _ (p : nth mem (processorAt a c) < nth mem 1) where
-      pub stray-early : 4294967295 < nth mem (earlyAt a c) → true ≡ rowStrays mem a n
-      stray-early h = last-strays c n q (rw (lt-ltb _ _ p, le-ltb (nth mem (earlyAt a c)) 0 (omega arith), lt-ltb _ _ h))
-
-      module _ (e : nth mem (earlyAt a c) ≤ 4294967295) where
-        early-good : outside 0 4294967295 (nth mem (earlyAt a c)) ≡ false
-        early-good = not-outside 0 4294967295 (nth mem (earlyAt a c)) (omega arith) e
-
-        pub stray-late : 4294967295 < nth mem (lateAt a c) → true ≡ rowStrays mem a n
-        stray-late h = last-strays c n q (rw (lt-ltb _ _ p, early-good, le-ltb (nth mem (lateAt a c)) 0 (omega arith), lt-ltb _ _ h))
-
-        pub stray-none : nth mem (lateAt a c) ≤ 4294967295 → rowStrays mem a c ≡ rowStrays mem a n
-        stray-none h =
-            let g : strayed mem (replicaAt mem a c) ≡ false =
-            rw (lt-ltb _ _ p, early-good) (not-outside 0 4294967295 (nth mem (lateAt a c)) (omega arith) h) in
-            rw (q, strays-last c, g) (sym (or-false (rowStrays mem a c)))
+    pub stray-not : replicaStrays a c mem ≡ false → rowStrays mem a c ≡ rowStrays mem a n
+    stray-not e = rw (q, strays-last c, e) (sym (or-false (rowStrays mem a c)))
 
   pub strays-none : false ≡ rowStrays mem a 0
   unfolding rowStrays rowReplicas any
@@ -146,10 +129,10 @@ module _ (mem : List ℕ) (a : ℕ) where
   strays-row h = rw (lt-ltb (nth mem a) (nth mem 0) h)
 
   -- A line that does not stray.
-  row-within-range : (n c : ℕ) → rowStrays mem a n ≡ false → c < n → strayed mem (replicaAt mem a c) ≡ false
+  row-within-range : (n c : ℕ) → rowStrays mem a n ≡ false → c < n → replicaStrays a c mem ≡ false
   row-within-range zero c e h = absurd (omega arith)
   row-within-range (suc n) c e h =
-      let (f, g) = neither (rowStrays mem a n) (strayed mem (replicaAt mem a n)) (sym (strays-last n) ∙ e) in
+      let (f, g) = neither (rowStrays mem a n) (replicaStrays a n mem) (sym (strays-last n) ∙ e) in
       ⊎-elim (λ (i : c ≡ n). rw i g) (λ l. row-within-range n c f l) (last-or-before n c h)
 
   pub strays-not : strays document01 (jobIn mem) (lineIn a mem) ≡ false → (nth mem a < nth mem 0) × RowHeld a mem
@@ -178,22 +161,23 @@ unfoldable pub rowDescends : List ℕ → ℕ → ℕ → Bool
 rowDescends mem a c = descends (map (λ r. r .processor) (rowReplicas a c mem))
 
 module _ (mem : List ℕ) (a : ℕ) where
-  row-last : (c : ℕ) → rowDescends mem a (suc (suc c)) ≡ (rowDescends mem a (suc c) || ltb (nth mem (a + (1 + 3 * suc c))) (nth mem (processorAt a c)))
+  row-last : (c : ℕ) → rowDescends mem a (suc (suc c)) ≡ (rowDescends mem a (suc c) || ltb (nth mem (processorAt a (suc c))) (nth mem (processorAt a c)))
   unfolding rowDescends rowReplicas
   row-last c =
       let ps : List ℕ = map (λ r. r .processor) (rowReplicas a c mem) in
       let p = nth mem (processorAt a c) in
-      let one : map (λ r. r .processor) (rowReplicas a c mem ++ replicaAt mem a c ∷ []) ≡ ps ++ p ∷ [] = map-append (λ r. r .processor) (rowReplicas a c mem) (replicaAt mem a c ∷ []) in
-      let two = map-append (λ r. r .processor) (rowReplicas a c mem ++ replicaAt mem a c ∷ []) (replicaAt mem a (suc c) ∷ []) in
-      rw (two, one) (descends-last ps p (nth mem (a + (1 + 3 * suc c))))
+      let one : map (λ r. r .processor) (rowReplicas a c mem ++ replicaIn a c mem ∷ []) ≡ ps ++ p ∷ [] = map-append (λ r. r .processor) (rowReplicas a c mem) (replicaIn a c mem ∷ []) in
+      let two = map-append (λ r. r .processor) (rowReplicas a c mem ++ replicaIn a c mem ∷ []) (replicaIn a (suc c) mem ∷ []) in
+      rw (two, one) (descends-last ps p (nth mem (processorAt a (suc c))))
 
   -- Processor c is the last but one of n.
   module _ (c n : ℕ) (q : n ≡ suc c) where
     pub descends-here : nth mem (processorAt a n) < nth mem (processorAt a c) → true ≡ rowDescends mem a (n + 1)
-    descends-here h = let e : nth mem (a + (1 + 3 * suc c)) < nth mem (processorAt a c) = rw q at h in rw (add-one, q, row-last c, lt-ltb _ _ e) (sym (or-true (rowDescends mem a (suc c))))
+    descends-here h = let e : nth mem (processorAt a (suc c)) < nth mem (processorAt a c) = rw q at h in rw (add-one, q, row-last c, lt-ltb _ _ e) (sym (or-true (rowDescends mem a (suc c))))
 
     pub descends-not : nth mem (processorAt a c) ≤ nth mem (processorAt a n) → rowDescends mem a (c + 1) ≡ rowDescends mem a (n + 1)
-    descends-not h = let e : nth mem (processorAt a c) ≤ nth mem (a + (1 + 3 * suc c)) = rw q at h in rw (add-one, add-one, q, row-last c, le-ltb _ _ e) (sym (or-false (rowDescends mem a (suc c))))
+    descends-not h = let e : nth mem (processorAt a c) ≤ nth mem (processorAt a (suc c)) = rw q at h in
+        rw (add-one, add-one, q, row-last c, le-ltb _ _ e) (sym (or-false (rowDescends mem a (suc c))))
 
   pub descends-one : false ≡ rowDescends mem a (0 + 1)
   unfolding rowDescends rowReplicas descends
@@ -219,35 +203,43 @@ all-reverse f (x ∷ xs) ys = all-reverse f xs (x ∷ ys) ∙ by (f x) (all f xs
 abbrev pub hasLine : ℕ → List ℕ → ℕ → Bool
 hasLine rooms mem t = not (eqb (nth mem (lineAt rooms + t)) 0)
 
--- The edges from link k on lead to what is left to see of the predecessors of t.
-module _ (rooms : ℕ) (mem : List ℕ) (t : ℕ) where
-  unfoldable pub linedFrom : ℕ → Bool
-  linedFrom k = all (λ e. hasLine rooms mem (e .from)) (chain (inNextAt rooms) (nth mem 2) mem k)
+-- The edges up to cell k, from cell a on, are what is left to see of the predecessors of t.
+abbrev pub linedTo : ℕ → List ℕ → List ℕ → ℕ → ℕ → Bool
+linedTo rooms mem links a k = all (λ e. hasLine rooms mem (e .from)) (passed a k links)
 
-  pub lined-all : LinkedIn rooms mem → t < nth mem 0 → linedFrom (nth mem (inHeadAt rooms + t)) ≡ all (λ e. hasLine rooms mem (e .from)) (incoming (jobIn mem) t)
-  unfolding linedFrom all
-  lined-all l h =
-      rw (l .chains t h) (all-reverse (λ e. hasLine rooms mem (e .from)) (incoming (jobIn mem) t) [] ∙ and-true (all (λ e. hasLine rooms mem (e .from)) (incoming (jobIn mem) t)))
+module _ (rooms : ℕ) (mem links : List ℕ) (a : ℕ) where
+  pub lined-end : (k : ℕ) → k ≤ a → true ≡ linedTo rooms mem links a k
+  unfolding all
+  lined-end k h = rw (pass-none a links k h)
 
-  pub lined-end : true ≡ linedFrom 0
-  unfolding linedFrom all
-  lined-end = rw (chain-end (inNextAt rooms) mem (nth mem 2))
+  module _ (k n : ℕ) (h : a ≤ k) (e : n ≡ k + 1) where
+    pub lined-no : nth mem (lineAt rooms + edgeIn (nth links k) .from) ≡ 0 → false ≡ linedTo rooms mem links a n
+    unfolding all
+    lined-no z = rw (pass-more a links k n h e, eq-eqb (nth mem (lineAt rooms + edgeIn (nth links k) .from)) 0 z)
 
-  -- The edge of a link, and those after it.
-  module _ (l : LinkedIn rooms mem) (k : ℕ) (h : 0 < k) (g : k ≤ nth mem 2) where
-    abbrev here : ℕ
-    here = nth mem (edgeAt mem (k - 1)) % 256
+    pub lined-next : (nth mem (lineAt rooms + edgeIn (nth links k) .from) ≡ 0 → ⊥) → linedTo rooms mem links a k ≡ linedTo rooms mem links a n
+    unfolding all
+    lined-next z = rw (pass-more a links k n h e, ne-eqb (nth mem (lineAt rooms + edgeIn (nth links k) .from)) 0 z)
 
-    pub lined-no : eqb (nth mem (lineAt rooms + here)) 0 ≡ true → false ≡ linedFrom k
-    unfolding linedFrom all
-    lined-no e = rw (chain-step l k h g, e)
+-- The run of the edges that enter task t.
+module _ {rooms : ℕ} {mem links : List ℕ} (h : JobHeld rooms mem) (l : LinksHeld mem links) (t : ℕ) (g : t < nth mem 0) where
+  pub entering-run : Run (linkIn (nth mem 0) t (inStartAt (nth mem 0) t) links) (linkIn (nth mem 0) t (inStartAt (nth mem 0) (t + 1)) links) links (incoming (jobIn mem) t)
+  entering-run = rw (link-in (nth mem 0) t (inStartAt (nth mem 0) t) links (nth mem 2) (l .size) g, link-in (nth mem 0) t (inStartAt (nth mem 0) (t + 1)) links (nth mem 2) (l .size) g) (l .ins t g)
 
-    pub lined-next : eqb (nth mem (lineAt rooms + here)) 0 ≡ false → linedFrom (nth mem (inNextAt rooms + (k - 1))) ≡ linedFrom k
-    unfolding linedFrom all
-    lined-next e = rw (chain-step l k h g, e)
+  module _ {a b : ℕ} (r : Run a b links (incoming (jobIn mem) t)) where
+    pub lined-all : linedTo rooms mem links a b ≡ all (λ e. hasLine rooms mem (e .from)) (incoming (jobIn mem) t)
+    unfolding all
+    lined-all =
+        rw (pass-all r b refl)
+        (all-reverse (λ e. hasLine rooms mem (e .from)) (incoming (jobIn mem) t) [] ∙ and-true (all (λ e. hasLine rooms mem (e .from)) (incoming (jobIn mem) t)))
 
-    pub link-falls : nth mem (inNextAt rooms + (k - 1)) < k
-    link-falls = omega (arith, l .falls (k - 1) (omega arith))
+    -- A predecessor has its place in the table.
+    pub sender-below : (k : ℕ) → a ≤ k → k < b → lineAt rooms + edgeIn (nth links k) .from < length mem
+    unfolding incoming
+    sender-below k p q =
+        let w = sizes h in
+        let (m, _) = in-keep (λ d. eqb (d .to) t) (edgeIn (nth links k)) (jobIn mem .edges) (pass-in r k p q) in
+        omega (arith, w .size, w .tasks-most, tasks-in mem, h .facts .from-task (edgeIn (nth links k)) m)
 
 -- The tasks of the first k lines, in order.
 module _ (rooms w : ℕ) (mem : List ℕ) where

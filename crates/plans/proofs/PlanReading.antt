@@ -1,5 +1,5 @@
 -- A plan's lines, read into rows.
-use mathlib.Core.Path.{_≡_, refl, ap, sym, _∙_}
+use mathlib.Core.Path.{_≡_, refl, ap, sym, subst, _∙_}
 use mathlib.Core.Logic.{_⊎_, inl, inr, ⊎-elim}
 use mathlib.Core.List.{List, [], _∷_, _++_}
 use Prim.Native.Nat.{ℕ, zero, suc, _+_, _-_, _*_, _<_, _≤_}
@@ -14,9 +14,9 @@ use Rattle.definitions.specs.Limits.{document01}
 use Rattle.definitions.specs.Text.{Reading, Reader, found, refused, line, lines}
 use Rattle.definitions.specs.Job.{Job}
 use Rattle.definitions.specs.Plan.{Replica, Line, triples, lineOf, planLine, planLineRule}
-use Rattle.heads.specs.Layout.{jobSize, inHeadAt, inNextAt, levelAt, lineAt, blockedAt, rowAt, farAt}
-use Rattle.jobs.specs.Held.{jobIn, LinkedIn, JobHeld}
-use Rattle.plans.specs.Lines.{rowReplicas, linesIn, RowHeld, Standing}
+use Rattle.heads.specs.Layout.{levelAt, lineAt, blockedAt, rowAt, farAt}
+use Rattle.jobs.specs.Held.{jobIn, JobHeld, LinksHeld}
+use Rattle.plans.specs.Lines.{lineCells, rowEnd, rowReplicas, linesIn, RowHeld, Standing}
 use Rattle.lists.specs.Kept.{KeptOutside}
 use Rattle.text.specs.declared.Step.{Step}
 use Rattle.text.specs.declared.Step.the-variants.{Next, Refused}
@@ -25,7 +25,7 @@ use Rattle.plans.specs.Loading.{lineIn, LineRead}
 use Rattle.lines.proofs.LineLaws.{ruled-bad, ruled-no, ruled-yes, lines-end, lines-no, lines-next}
 use Rattle.lists.proofs.Counting.{equal-or-not, last-or-before}
 use Rattle.lists.proofs.Kept.{Same, same-part, same-before, same-behind, kept-all, kept-then, kept-wider, kept-set}
-use Rattle.jobs.proofs.Held.{Sizes, sizes, job-same, job-kept, held-kept, chained-same, losses-in}
+use Rattle.jobs.proofs.Held.{Sizes, sizes, job-kept, held-kept, links-kept, losses-in}
 use Rattle.plans.proofs.Lines.{lines-same, row-held-same, standing-behind}
 
 -- The table of lines, emptied -------------------------------------------------------------------------------------------
@@ -37,20 +37,12 @@ cleared-more rooms d t l h u g =
     (λ b. getD-set-other d (lineAt rooms + t) (lineAt rooms + u) 0 0 (λ e. omega arith) ∙ h u b)
     (last-or-before t u (omega arith))
 
--- The links from each task to the edges that enter it are as they were.
-pub linked-in-same : {rooms : ℕ} {d e : List ℕ} → JobHeld rooms d → Same 0 (levelAt rooms) d e → LinkedIn rooms d → LinkedIn rooms e
-linked-in-same {rooms} {d} {e} h j c =
-    let w = sizes h in
-    let a : Same 0 (jobSize rooms) d e = same-part 0 (jobSize rooms) j (omega arith) (omega arith) in
-    rw (job-same w a) (chained-same w a (same-part (inHeadAt rooms) (inHeadAt rooms + nth d 0) j (omega arith) (omega arith)) (same-part (inNextAt rooms) (inNextAt rooms + nth d 2) j (omega arith) (omega arith)) c)
-
 -- No line yet.
-pub standing-none : {rooms : ℕ} {d : List ℕ} → JobHeld rooms d → LinkedIn rooms d → ((t : ℕ) → t < 8 * rooms → nth d (lineAt rooms + t) ≡ 0) → Standing rooms 0 d
-standing-none h l z =
+pub standing-none : {rooms : ℕ} {d : List ℕ} → JobHeld rooms d → ((t : ℕ) → t < 8 * rooms → nth d (lineAt rooms + t) ≡ 0) → Standing rooms 0 d
+standing-none h z =
     let w = sizes h in
     record {
       job = h;
-      linked = l;
       count = omega arith;
       task-of = λ i g. absurd (omega arith);
       line-of = λ i g. absurd (omega arith);
@@ -58,12 +50,9 @@ standing-none h l z =
       row = λ i g. absurd (omega arith);
     }
 
--- The line of row k gets its place in the table.
-module _ {rooms k : ℕ} {d : List ℕ} (s : Standing rooms k d) (b : k < nth d 0) (t : nth d (rowAt rooms k) < nth d 0) (z : nth d (lineAt rooms + nth d (rowAt rooms k)) ≡ 0)
-    (r : RowHeld (rowAt rooms k) d) where
-  abbrev task : ℕ
-  task = nth d (rowAt rooms k)
-
+-- The line of row k, of a task, gets its place in the table.
+module _ {rooms k : ℕ} {d : List ℕ} (s : Standing rooms k d) (b : k < nth d 0) (task : ℕ) (here : nth d (rowAt rooms k) ≡ task) (t : task < nth d 0)
+    (z : nth d (lineAt rooms + task) ≡ 0) (r : RowHeld (rowAt rooms k) d) where
   abbrev e : List ℕ
   e = set d (lineAt rooms + task) (suc k)
 
@@ -85,19 +74,19 @@ module _ {rooms k : ℕ} {d : List ℕ} (s : Standing rooms k d) (b : k < nth d 
   line-cell : (u : ℕ) → (u ≡ task → ⊥) → nth e (lineAt rooms + u) ≡ nth d (lineAt rooms + u)
   line-cell u n = other (lineAt rooms + u) (λ f. n (omega arith))
 
-  same-rows : (i : ℕ) → Same (rowAt rooms i) (rowAt rooms i + 25) d e
+  same-rows : (i : ℕ) → Same (rowAt rooms i) (rowEnd (rowAt rooms i)) d e
   same-rows i = record { cell = λ x p q. other x (λ f. omega (arith, w)) }
 
   tasks-same : nth e 0 ≡ nth d 0
   tasks-same = same-job .cell 0 (omega arith) (omega arith)
 
   of-task : (i : ℕ) → i < suc k → nth d (rowAt rooms i) < nth d 0
-  of-task i h = ⊎-elim (λ (q : i ≡ k). rw q t) (λ l. s .task-of i l) (last-or-before k i h)
+  of-task i h = ⊎-elim (λ (q : i ≡ k). rw (q, here) t) (λ l. s .task-of i l) (last-or-before k i h)
 
   of-line : (i : ℕ) → i < suc k → nth e (lineAt rooms + nth d (rowAt rooms i)) ≡ suc i
   of-line i h =
       ⊎-elim
-      (λ (q : i ≡ k). rw q new)
+      (λ (q : i ≡ k). rw (q, here) new)
       (λ l.
       let n : nth d (rowAt rooms i) ≡ task → ⊥ = λ (q : nth d (rowAt rooms i) ≡ task). let x : nth d (lineAt rooms + task) ≡ suc i = rw q at (s .line-of i l) in omega arith in
       line-cell (nth d (rowAt rooms i)) n ∙ s .line-of i l)
@@ -106,7 +95,7 @@ module _ {rooms k : ℕ} {d : List ℕ} (s : Standing rooms k d) (b : k < nth d 
   of-place : (u : ℕ) → u < nth d 0 → (nth e (lineAt rooms + u) ≡ 0) ⊎ ((i : ℕ) × (i < suc k) × (nth e (lineAt rooms + u) ≡ suc i) × (nth e (rowAt rooms i) ≡ u))
   of-place u h =
       ⊎-elim
-      (λ (q : u ≡ task). inr (k, omega arith, rw q new, row-cell k ∙ sym q))
+      (λ (q : u ≡ task). inr (k, omega arith, rw q new, row-cell k ∙ here ∙ sym q))
       (λ n.
       ⊎-elim
       (λ x. inl (line-cell u n ∙ x))
@@ -117,12 +106,11 @@ module _ {rooms k : ℕ} {d : List ℕ} (s : Standing rooms k d) (b : k < nth d 
   of-row : (i : ℕ) → i < suc k → RowHeld (rowAt rooms i) d
   of-row i h = ⊎-elim (λ (q : i ≡ k). rw q r) (λ l. s .row i l) (last-or-before k i h)
 
-  pub standing-more : Standing rooms (suc k) (set d (lineAt rooms + nth d (rowAt rooms k)) (suc k))
+  pub standing-more : Standing rooms (suc k) (set d (lineAt rooms + task) (suc k))
   standing-more =
       let c : KeptOutside (lineAt rooms) (blockedAt rooms) d e = kept-set (lineAt rooms + task) (suc k) kept-all (omega arith) (omega (arith, w)) in
       record {
         job = held-kept (s .job) c (omega arith);
-        linked = linked-in-same (s .job) same-job (s .linked);
         count = rw tasks-same (omega arith);
         task-of = λ i h. rw (row-cell i, tasks-same) (of-task i h);
         line-of = λ i h. rw (row-cell i) (of-line i h);
@@ -188,7 +176,7 @@ module _ (mem : List ℕ) (a : ℕ) (vs : List ℕ) (h : (i : ℕ) → i < lengt
             (3 + 3 * c) (omega arith) (omega arith),
       ))
 
-  pub row-line : length vs ≡ 4 + 3 * nth mem 3 → lineOf vs ≡ lineIn a mem
+  pub row-line : length vs ≡ lineCells mem → lineOf vs ≡ lineIn a mem
   row-line g =
       let t : nth vs 0 ≡ nth mem a = sym (h 0 (omega arith)) ∙ ap (λ (y : ℕ). nth mem y) (add-zero a) in
       let m : length (drop 1 vs) ≤ 3 * (nth mem 3 + 1) = omega (arith, length-drop 1 vs) in
@@ -196,19 +184,19 @@ module _ (mem : List ℕ) (a : ℕ) (vs : List ℕ) (h : (i : ℕ) → i < lengt
 
 -- One line ----------------------------------------------------------------------------------------------------------------
 
-line-bad : (d s : List ℕ) (n x : ℕ) → n ≡ 4 + 3 * nth d 3 → line document01 (bytes "T,") n s ≡ refused x → planLine document01 (jobIn d) s ≡ refused x
+line-bad : (d s : List ℕ) (n x : ℕ) → n ≡ lineCells d → line document01 (bytes "T,") n s ≡ refused x → planLine document01 (jobIn d) s ≡ refused x
 unfolding planLine
 line-bad d s n x q e = let m : 1 + 3 * (1 + jobIn d .losses) ≡ n = omega (arith, losses-in d) in rw (m, e)
 
-line-read : (d s vs r : List ℕ) (n : ℕ) → n ≡ 4 + 3 * nth d 3 → line document01 (bytes "T,") n s ≡ found vs r → planLine document01 (jobIn d) s ≡ found (lineOf vs) r
+line-read : (d s vs r : List ℕ) (n : ℕ) → n ≡ lineCells d → line document01 (bytes "T,") n s ≡ found vs r → planLine document01 (jobIn d) s ≡ found (lineOf vs) r
 unfolding planLine
 line-read d s vs r n q e = let m : 1 + 3 * (1 + jobIn d .losses) ≡ n = omega (arith, losses-in d) in rw (m, e)
 
 -- One line more, after the lines in `seen`.
-lines-more : (rooms : ℕ) (d mem : List ℕ) (k : ℕ) (seen : List Line) → linesIn rooms (nth d 3 + 1) k mem ≡ seen → nth mem 3 ≡ nth d 3
-    → linesIn rooms (nth d 3 + 1) (suc k) mem ≡ seen ++ lineIn (rowAt rooms k) mem ∷ []
+lines-more : (rooms : ℕ) (d mem : List ℕ) (k a : ℕ) (seen : List Line) → a ≡ rowAt rooms k → linesIn rooms (nth d 3 + 1) k mem ≡ seen → nth mem 3 ≡ nth d 3
+    → linesIn rooms (nth d 3 + 1) (suc k) mem ≡ seen ++ lineIn a mem ∷ []
 unfolding linesIn
-lines-more rooms d mem k seen e l = rw (e, l)
+lines-more rooms d mem k a seen z e l = rw (e, l, z)
 
 -- What a T line of the job in d has to be.
 abbrev formOf : List ℕ → Reader Line
@@ -222,47 +210,50 @@ refused-no : {A : Type 0} (x n : ℕ) → Refused x ≡ Next n → A
 refused-no x n e = let z : _≡_ {A = ℕ} 0 1 = cc in absurd (omega (arith, z))
 
 -- The row of one line more ends within the memory.
-pub row-within : {rooms k : ℕ} {d : List ℕ} → Standing rooms k d → k < nth d 0 → rowAt rooms k + 25 ≤ length d
+pub row-within : {rooms k : ℕ} {d : List ℕ} → Standing rooms k d → k < nth d 0 → rowEnd (rowAt rooms k) ≤ length d
 row-within u h = omega (arith, sizes (u .job), h)
 
-pub row-numbers : {rooms k : ℕ} {d : List ℕ} → Standing rooms k d → 4 + 3 * nth d 3 ≤ 25
+pub row-numbers : {rooms k : ℕ} {d : List ℕ} → Standing rooms k d → lineCells d ≤ rowEnd 0
 row-numbers u = omega (arith, sizes (u .job) .losses-most)
 
--- k lines stand in d, and the numbers of one more, n, were read from the text s into its row.
-module _ {rooms k : ℕ} {d : List ℕ} (u : Standing rooms k d) (h : k < nth d 0) (n : ℕ) (q : n ≡ 4 + 3 * nth d 3) (ys : List ℕ)
-    (l : length ys ≡ length (midOf (rowAt rooms k) (rowAt rooms k + n - rowAt rooms k) d)) where
+-- k lines stand in d, and the numbers of one more, n, were read from the text s into its row, at a.
+module _ {rooms k : ℕ} {d : List ℕ} (u : Standing rooms k d) (h : k < nth d 0) (a n : ℕ) (z : a ≡ rowAt rooms k) (q : n ≡ lineCells d) (ys : List ℕ)
+    (l : length ys ≡ length (midOf a (a + n - a) d)) where
   abbrev seen : List Line
   seen = linesIn rooms (nth d 3 + 1) k d
 
   abbrev filled : List ℕ
-  filled = putMid (rowAt rooms k) (rowAt rooms k + n - rowAt rooms k) d ys
+  filled = putMid a (a + n - a) d ys
 
   limits : Sizes rooms d
   limits = sizes (u .job)
 
-  fits : rowAt rooms k + n ≤ rowAt rooms k + 25
+  fits : a + n ≤ rowEnd a
   fits = omega (arith, row-numbers u, q)
 
-  within : rowAt rooms k + n ≤ length d
-  within = omega (arith, row-within u h, fits)
+  within : a + n ≤ length d
+  within = omega (arith, row-within u h, fits, z)
 
-  width : length ys ≡ rowAt rooms k + n - rowAt rooms k
-  width = l ∙ mid-len (rowAt rooms k) (rowAt rooms k + n) d within
+  width : length ys ≡ a + n - a
+  width = l ∙ mid-len a (a + n) d within
 
-  pub line-room : n ≤ length (midOf (rowAt rooms k) (rowAt rooms k + n - rowAt rooms k) d)
+  pub line-room : n ≤ length (midOf a (a + n - a) d)
   line-room = omega (arith, l, width)
 
-  row-kept : KeptOutside (rowAt rooms k) (rowAt rooms k + n) d filled
-  row-kept = lent-kept (rowAt rooms k) (rowAt rooms k + n) d ys (omega arith) within width
+  row-kept : KeptOutside a (a + n) d filled
+  row-kept = lent-kept a (a + n) d ys (omega arith) within width
 
   all-kept : KeptOutside (lineAt rooms) (farAt rooms) d filled
-  all-kept = kept-wider (lineAt rooms) (farAt rooms) row-kept (omega arith) (omega (arith, limits, fits, h))
+  all-kept = kept-wider (lineAt rooms) (farAt rooms) row-kept (omega (arith, z)) (omega (arith, limits, fits, h, z))
 
-  pub line-standing : Standing rooms k (putMid (rowAt rooms k) (rowAt rooms k + n - rowAt rooms k) d ys)
-  line-standing = standing-behind row-kept u (omega arith)
+  pub line-standing : Standing rooms k (putMid a (a + n - a) d ys)
+  line-standing = standing-behind row-kept u (omega (arith, z))
+
+  pub line-links : {links : List ℕ} → LinksHeld d links → LinksHeld (putMid a (a + n - a) d ys) links
+  line-links = links-kept (u .job) row-kept (omega (arith, z))
 
   -- The task that stands in the row, if the job has it, has its place in the memory.
-  pub line-place : nth filled (rowAt rooms k) < nth filled 0 → lineAt rooms + nth filled (rowAt rooms k) < length filled
+  pub line-place : nth filled a < nth filled 0 → lineAt rooms + nth filled a < length filled
   line-place t = omega (arith, sizes (line-standing .job), t)
 
   job-filled : jobIn filled ≡ jobIn d
@@ -272,14 +263,14 @@ module _ {rooms k : ℕ} {d : List ℕ} (u : Standing rooms k d) (h : k < nth d 
   losses-filled = all-kept .before 3 (omega arith)
 
   lines-filled : linesIn rooms (nth d 3 + 1) k filled ≡ seen
-  lines-filled = lines-same d filled rooms (nth d 3 + 1) k (omega (arith, limits)) (same-before (rowAt rooms 0) (rowAt rooms k) row-kept (omega arith))
+  lines-filled = lines-same d filled rooms (nth d 3 + 1) k (omega (arith, limits)) (same-before (rowAt rooms 0) (rowAt rooms k) row-kept (omega (arith, z)))
 
   module _ (s : List ℕ) (at : ℕ) where
     pub read-bad : (x : ℕ) → line document01 (bytes "T,") n (drop at s) ≡ refused x → LineRead rooms k s at d filled (Refused x)
     read-bad x e =
         record {
           kept = all-kept;
-          latest = lineIn (rowAt rooms k) filled;
+          latest = lineIn a filled;
           answer = ruled-bad (formOf d) (ruleOf d) seen (drop at s) x (line-bad d (drop at s) n x q e);
           standing = λ m f. refused-no x m f;
           more = λ m f. refused-no x m f;
@@ -287,44 +278,45 @@ module _ {rooms k : ℕ} {d : List ℕ} (u : Standing rooms k d) (h : k < nth d 
 
     -- The line was read, and r is the place after it; x is what its rule says.
     module _ (r : ℕ) (e : line document01 (bytes "T,") n (drop at s) ≡ found (take n ys) (drop r s)) (x : ℕ)
-        (f : x ≡ planLineRule document01 (jobIn filled) (linesIn rooms (nth filled 3 + 1) k filled) (lineIn (rowAt rooms k) filled)) where
-      read-line : formOf d (drop at s) ≡ found (lineIn (rowAt rooms k) filled) (drop r s)
+        (f : x ≡ planLineRule document01 (jobIn filled) (linesIn rooms (nth filled 3 + 1) k filled) (lineIn a filled)) where
+      read-line : formOf d (drop at s) ≡ found (lineIn a filled) (drop r s)
       read-line =
           let m : length ys ≡ n = omega (arith, width) in
-          let g : lineOf ys ≡ lineIn (rowAt rooms k) filled = row-line filled (rowAt rooms k) ys (lent-cell (rowAt rooms k) (rowAt rooms k + n) d ys (omega arith) within width) (omega (arith, losses-filled, m, q)) in
+          let g : lineOf ys ≡ lineIn a filled = row-line filled a ys (lent-cell a (a + n) d ys (omega arith) within width) (omega (arith, losses-filled, m, q)) in
           line-read d (drop at s) (take n ys) (drop r s) n q e ∙ rw (take-all n ys (omega (arith, m)), g)
 
-      by-rule : x ≡ ruleOf d seen (lineIn (rowAt rooms k) filled)
+      by-rule : x ≡ ruleOf d seen (lineIn a filled)
       by-rule =
-          f ∙ ap (λ (j : Job). planLineRule document01 j (linesIn rooms (nth filled 3 + 1) k filled) (lineIn (rowAt rooms k) filled)) job-filled
-          ∙ ap (λ (z : ℕ). ruleOf d (linesIn rooms (z + 1) k filled) (lineIn (rowAt rooms k) filled)) losses-filled
-          ∙ ap (λ (ns : List Line). ruleOf d ns (lineIn (rowAt rooms k) filled)) lines-filled
+          f ∙ ap (λ (j : Job). planLineRule document01 j (linesIn rooms (nth filled 3 + 1) k filled) (lineIn a filled)) job-filled
+          ∙ ap (λ (z : ℕ). ruleOf d (linesIn rooms (z + 1) k filled) (lineIn a filled)) losses-filled
+          ∙ ap (λ (ns : List Line). ruleOf d ns (lineIn a filled)) lines-filled
 
       pub read-no : 0 < x → LineRead rooms k s at d filled (Refused x)
       read-no g =
           record {
             kept = all-kept;
-            latest = lineIn (rowAt rooms k) filled;
-            answer = ruled-no (formOf d) (ruleOf d) seen (drop at s) (lineIn (rowAt rooms k) filled) (drop r s) read-line x by-rule g;
+            latest = lineIn a filled;
+            answer = ruled-no (formOf d) (ruleOf d) seen (drop at s) (lineIn a filled) (drop r s) read-line x by-rule g;
             standing = λ m f. refused-no x m f;
             more = λ m f. refused-no x m f;
           }
 
-      pub read-yes : x ≤ 0 → (nth filled (rowAt rooms k) < nth filled 0) × (nth filled (lineAt rooms + nth filled (rowAt rooms k)) ≡ 0) × RowHeld (rowAt rooms k) filled
-          → LineRead rooms k s at d (set filled (lineAt rooms + nth filled (rowAt rooms k)) (k + 1)) (Next r)
-      read-yes g (b, z, t) =
-          let last = set filled (lineAt rooms + nth filled (rowAt rooms k)) (suc k) in
-          let c : KeptOutside (lineAt rooms) (blockedAt rooms) filled last = kept-set (lineAt rooms + nth filled (rowAt rooms k)) (suc k) kept-all (omega arith) (omega (arith, sizes (line-standing .job), b)) in
+      pub read-yes : x ≤ 0 → (nth filled a < nth filled 0) × (nth filled (lineAt rooms + nth filled a) ≡ 0) × RowHeld a filled
+          → LineRead rooms k s at d (set filled (lineAt rooms + nth filled a) (k + 1)) (Next r)
+      read-yes g (b, v, t) =
+          let last = set filled (lineAt rooms + nth filled a) (suc k) in
+          let c : KeptOutside (lineAt rooms) (blockedAt rooms) filled last = kept-set (lineAt rooms + nth filled a) (suc k) kept-all (omega arith) (omega (arith, sizes (line-standing .job), b)) in
           let w : nth d 3 + 1 ≤ 8 = omega (arith, limits) in
           rw (add-one k)
           (record {
             kept = kept-then all-kept (kept-wider (lineAt rooms) (farAt rooms) c (omega arith) (omega arith));
-            latest = lineIn (rowAt rooms k) filled;
-            answer = ruled-yes (formOf d) (ruleOf d) seen (drop at s) (lineIn (rowAt rooms k) filled) (drop r s) read-line x by-rule g;
-            standing = λ m f. standing-more line-standing (omega (arith, all-kept .before 0 (omega arith), h)) b z t;
+            latest = lineIn a filled;
+            answer = ruled-yes (formOf d) (ruleOf d) seen (drop at s) (lineIn a filled) (drop r s) read-line x by-rule g;
+            standing = λ m f. standing-more line-standing (omega (arith, all-kept .before 0 (omega arith), h)) (nth filled a) (ap (nth filled) (sym z)) b v
+                (subst (λ (i : ℕ). RowHeld i filled) z t);
             more = λ m f.
                 lines-same filled last rooms (nth d 3 + 1) (suc k) w (same-behind (rowAt rooms 0) (rowAt rooms (suc k)) c (omega arith))
-                ∙ lines-more rooms d filled k seen lines-filled losses-filled;
+                ∙ lines-more rooms d filled k a seen z lines-filled losses-filled;
           })
 
 -- Line by line ----------------------------------------------------------------------------------------------------------

@@ -11,15 +11,15 @@ use Rattle.definitions.specs.Limits.{document01}
 use Rattle.definitions.specs.Text.{found, refused, next, return, line, lines, ended}
 use Rattle.definitions.specs.Plan.{Line, planHeadOf, planHead, planHeadRule, planLines, readPlan}
 use Rattle.text.specs.declared.Step.the-variants.{Next, Refused}
-use Rattle.heads.specs.Layout.{levelAt, lineAt, blockedAt, rowAt, bestAt, worstAt}
-use Rattle.jobs.specs.Held.{jobIn, LinkedIn, JobHeld}
+use Rattle.heads.specs.Layout.{lineAt, blockedAt, rowAt, bestAt, worstAt}
+use Rattle.jobs.specs.Held.{jobIn, JobHeld}
 use Rattle.plans.specs.Lines.{linesIn, Standing}
 use Rattle.lists.specs.Kept.{KeptOutside}
 use Rattle.plans.specs.Loading.{planIn, planFrom, PlanLoaded}
 use Rattle.jobs.proofs.Held.{sizes, job-kept, held-kept, tasks-in}
-use Rattle.lists.proofs.Kept.{same-before, same-behind, kept-all, kept-set}
+use Rattle.lists.proofs.Kept.{same-behind, kept-all, kept-set}
 use Rattle.plans.proofs.Lines.{lines-same, standing-choice}
-use Rattle.plans.proofs.PlanReading.{allLines, linked-in-same, standing-none}
+use Rattle.plans.proofs.PlanReading.{allLines, standing-none}
 
 module _ (d s : List ℕ) where
   pub plan-long : (rooms : ℕ) (mem : List ℕ) → 65536 < length s → PlanLoaded rooms (readPlan document01 (jobIn d) s) mem (Refused 1)
@@ -66,9 +66,9 @@ module _ (d s : List ℕ) where
       plan-good mem l m t = rw (plan-lines, ← g, drop-of-length-le s l) ((q, refl), m, t)
 
 -- The table of lines is empty.
-module _ {rooms : ℕ} {d mem : List ℕ} (h : JobHeld rooms d) (l : LinkedIn rooms d) (k : KeptOutside (lineAt rooms) (blockedAt rooms) d mem) where
+module _ {rooms : ℕ} {d mem : List ℕ} (h : JobHeld rooms d) (k : KeptOutside (lineAt rooms) (blockedAt rooms) d mem) where
   pub cleared-standing : ((t : ℕ) → t < 8 * rooms → nth mem (lineAt rooms + t) ≡ 0) → Standing rooms 0 mem
-  cleared-standing z = standing-none (held-kept h k (omega arith)) (linked-in-same h (same-before 0 (levelAt rooms) k (omega arith)) l) z
+  cleared-standing z = standing-none (held-kept h k (omega arith)) z
 
   pub cleared-lines : (s : List ℕ) (p : ℕ) → allLines mem s p ≡ allLines d s p
   cleared-lines s p = rw (job-kept h k (omega arith), k .before 0 (omega arith))

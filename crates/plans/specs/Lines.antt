@@ -2,15 +2,25 @@
 use mathlib.Core.Path.{_≡_}
 use mathlib.Core.Logic.{_⊎_}
 use mathlib.Core.List.{List, [], _∷_, _++_}
-use mathlib.Core.Bool.{Bool}
-use Prim.Native.Nat.{ℕ, zero, suc, _+_, _*_, _-_, _<_, _≤_}
-use Rattle.definitions.specs.Lists.{if_then_else_, nth}
+use mathlib.Core.Bool.{Bool, not, _||_}
+use Prim.Native.Nat.{ℕ, zero, suc, _+_, _-_, _<_, _≤_}
+use lib.Dec.{ltb}
+use Rattle.definitions.specs.Lists.{nth}
 use Rattle.definitions.specs.Limits.{document01}
+use Rattle.definitions.specs.Job.{outside}
 use Rattle.definitions.specs.Plan.{Replica, Line}
 use Rattle.definitions.specs.Times.{Outcome}
 use Rattle.ticks.specs.Cells.{timeIn, Small}
-use Rattle.heads.specs.Layout.{lineAt, rowAt, processorAt, earlyAt, lateAt, timeAt}
-use Rattle.jobs.specs.Held.{JobHeld, LinkedIn}
+use Rattle.heads.specs.Layout.{lineAt, rowAt, processorAt, earlyAt, lateAt, timeAt, replicaEnd}
+use Rattle.jobs.specs.Held.{JobHeld}
+
+-- The cells of a line of the job in a memory.
+abbrev pub lineCells : List ℕ → ℕ
+lineCells mem = replicaEnd 0 (nth mem 3)
+
+-- The place after the line at a, which has room for the most replicas.
+abbrev pub rowEnd : ℕ → ℕ
+rowEnd a = replicaEnd a (document01 .losses)
 
 -- The first c replicas of the line at a, newest first, with their early or their late times.
 unfoldable pub rowOutcomes : Bool → ℕ → ℕ → List ℕ → List Outcome
@@ -24,12 +34,18 @@ unfoldable pub placedIn : ℕ → Bool → ℕ → ℕ → List ℕ → List Out
 placedIn rooms late w zero mem = []
 placedIn rooms late w (suc k) mem = rowOutcomes late (rowAt rooms k) w mem ++ placedIn rooms late w k mem
 
+-- Replica c of the line at a, as a plan's line has it.
+abbrev pub replicaIn : ℕ → ℕ → List ℕ → Replica
+replicaIn a c mem = record { processor = nth mem (processorAt a c); early = nth mem (earlyAt a c); late = nth mem (lateAt a c) }
+
+-- It is on no processor of the job, or has a tick outside its range.
+abbrev pub replicaStrays : ℕ → ℕ → List ℕ → Bool
+replicaStrays a c mem = let r = replicaIn a c mem in not (ltb (r .processor) (nth mem 1)) || outside 0 4294967295 (r .early) || outside 0 4294967295 (r .late)
+
 -- The first c replicas of the line at a, as a plan's line has them.
 unfoldable pub rowReplicas : ℕ → ℕ → List ℕ → List Replica
 rowReplicas a zero mem = []
-rowReplicas a (suc c) mem =
-    rowReplicas a c mem
-    ++ record { processor = nth mem (processorAt a c); early = nth mem (earlyAt a c); late = nth mem (lateAt a c) } ∷ []
+rowReplicas a (suc c) mem = rowReplicas a c mem ++ replicaIn a c mem ∷ []
 
 -- The first k lines of a plan, w replicas in each.
 unfoldable pub linesIn : ℕ → ℕ → ℕ → List ℕ → List Line
@@ -46,10 +62,9 @@ pub record RowHeld (a : ℕ) (mem : List ℕ) : Type 0 where
   pub early-of : (c : ℕ) → c < nth mem 3 + 1 → Small (document01 .tick) (nth mem (earlyAt a c))
   pub late-of : (c : ℕ) → c < nth mem 3 + 1 → Small (document01 .tick) (nth mem (lateAt a c))
 
--- A job with its links, and k lines of a plan, each task in one line at the most.
+-- A job, and k lines of a plan, each task in one line at the most.
 pub record Standing (rooms k : ℕ) (mem : List ℕ) : Type 0 where
   pub job : JobHeld rooms mem
-  pub linked : LinkedIn rooms mem
   pub count : k ≤ nth mem 0
   pub task-of : (i : ℕ) → i < k → nth mem (rowAt rooms i) < nth mem 0
   pub line-of : (i : ℕ) → i < k → nth mem (lineAt rooms + nth mem (rowAt rooms i)) ≡ suc i

@@ -13,7 +13,7 @@ use Rattle.text.specs.declared.Step.the-variants.{Next}
 use Rattle.text.specs.Told.{told, stepTold, ruled}
 use Rattle.lists.specs.Kept.{KeptOutside}
 use Rattle.heads.specs.Layout.{bestAt, worstAt, lineAt, farAt}
-use Rattle.jobs.specs.Held.{jobIn, LinkedOut}
+use Rattle.jobs.specs.Held.{jobIn, LinksHeld}
 use Rattle.jobs.specs.Loading.{jobFrom}
 use Rattle.plans.specs.Lines.{rowReplicas, linesIn, Standing}
 use Rattle.definitions.specs.Facts.{PlanFacts}
@@ -53,14 +53,14 @@ withPlan x plan = andThen x λ j. andThen (readPlan document01 j plan) λ p. goo
 abbrev pub readBoth : List ℕ → List ℕ → Result (Job × Plan)
 readBoth job plan = withPlan (readJob document01 job) plan
 
--- The same after the job's head, for a memory of so many cells.
-abbrev pub bothFrom : ℕ → ℕ → JobHead → List ℕ → List ℕ → Result (Job × Plan)
-bothFrom rooms size h s plan = withPlan (jobFrom rooms size h s) plan
+-- The same after the job's head, for a memory and links of so many cells.
+abbrev pub bothFrom : ℕ → ℕ → ℕ → JobHead → List ℕ → List ℕ → Result (Job × Plan)
+bothFrom rooms size links h s plan = withPlan (jobFrom rooms size links h s) plan
 
--- The job and the plan that were read stand in one memory, with all links between edges; or the refusal.
-abbrev pub BothLoaded : ℕ → Result (Job × Plan) → List ℕ → Step → Type 0
-BothLoaded rooms (good (j, p)) mem r = ((n : ℕ) × (stepTold r ≡ good n)) × (jobIn mem ≡ j) × (planIn rooms mem ≡ p) × Standing rooms (nth mem 0) mem × LinkedOut rooms mem
-BothLoaded rooms (bad n) mem r = stepTold r ≡ bad n
+-- The job and the plan that were read stand in one memory, and the job's links in theirs; or the refusal.
+abbrev pub BothLoaded : ℕ → Result (Job × Plan) → List ℕ → List ℕ → Step → Type 0
+BothLoaded rooms (good (j, p)) mem links r = ((n : ℕ) × (stepTold r ≡ good n)) × (jobIn mem ≡ j) × (planIn rooms mem ≡ p) × Standing rooms (nth mem 0) mem × LinksHeld mem links
+BothLoaded rooms (bad n) mem links r = stepTold r ≡ bad n
 
 -- A plan that was read stands in a memory with its job, a line for each task.
 pub record PlanHeld (rooms : ℕ) (mem : List ℕ) : Type 0 where

@@ -6,20 +6,24 @@ use heads::Head;
 use text::Step;
 
 mod plans;
+mod row;
 
-// The rest of a job's text, from `at` on, after its head, and a plan's text, into a memory of so many rooms.
+// The rest of a job's text, from `at` on, after its head, and a plan's text, into a memory of so many rooms, and the links between
+// the job's edges.
 pub fn load_both(
     job: &[u8],
     at: usize,
     head: Head,
     plan: &[u8],
     mem: &mut [u64],
+    links: &mut [u64],
     rooms: usize,
 ) -> Step
-    ensures { λ r. ⌜ BothLoaded rooms (bothFrom rooms (length (now (mem .entry))) (headOf head) (drop at (now (job .entry))) (now (plan .entry))) (now (mem .exit)) r ⌝ }
+    ensures { λ r. ⌜ (BothLoaded rooms
+        (bothFrom rooms (length (now (mem .entry))) (length (now (links .entry))) (headOf head) (drop at (now (job .entry))) (now (plan .entry))) (now (mem .exit)) (now (links .exit)) r) ⌝ }
 {
-    match jobs::load_job(job, at, head, mem, rooms) {
-        Step::Next(_) => plans::load_plan(plan, mem, rooms),
+    match jobs::load_job(job, at, head, mem, links, rooms) {
+        Step::Next(_) => plans::load_plan(plan, mem, links, rooms),
         Step::Refused(x) => Step::Refused(x),
     }
 }

@@ -2,7 +2,7 @@
 ghost use mathlib.Core.Path.{_≡_};
 ghost use mathlib.Core.List.{[]};
 ghost use mathlib.Core.Bool.{not, _||_};
-ghost use Prim.Native.Nat.{ℕ, _+_, _*_, _%_, _≤_, _<_};
+ghost use Prim.Native.Nat.{ℕ, _+_, _*_, _≤_, _<_};
 ghost use lib.Dec.{eqb};
 ghost use lib.ListN.{length, drop};
 ghost use Rattle.definitions.specs.Lists.{nth, all};
@@ -13,16 +13,14 @@ ghost use Rattle.definitions.specs.Plan.{processorsOf, planHeadOf, planHeadRule
 ghost use Rattle.definitions.specs.Plan as Plan;
 ghost use Rattle.text.specs.Told.{told};
 ghost use Rattle.text.specs.declared.Step.the-variants.{Next};
-ghost use Rattle.heads.specs.Layout.{memorySize, lineAt, blockedAt, farAt};
-ghost use Rattle.jobs.specs.Held.{edgeAt, jobIn, JobHeld, JobStands, LinkedIn};
-ghost use Rattle.plans.specs.Lines.{linesIn, RowHeld, Standing};
+ghost use Rattle.heads.specs.Layout.{memorySize, lineAt, blockedAt, farAt, replicaEnd};
+ghost use Rattle.jobs.specs.Held.{jobIn, JobHeld, JobStands, LinksHeld};
+ghost use Rattle.plans.specs.Lines.{rowEnd, replicaStrays, linesIn, RowHeld, Standing};
 ghost use Rattle.lists.specs.Kept.{KeptOutside};
 ghost use Rattle.plans.specs.Loading.{lineIn, LineRead, planFrom, PlanLoaded};
+use crate::row;
 use heads::layout::BEST;
-use heads::layout::IN_HEAD;
-use heads::layout::IN_NEXT;
 use heads::layout::LINE;
-use heads::layout::ROWS;
 use heads::layout::WORST;
 use text::Step;
 
@@ -76,25 +74,33 @@ fn check_head(mem: &[u64], head: &[u64]) -> u64
     0
 }
 
+// Replica c of the line at `a` is on no processor of the job, or has a tick outside its range.
+fn replica_strays(mem: &[u64], a: usize, c: usize) -> bool
+    requires { ⌜ (4 ≤ length (now mem)) × (replicaEnd a c ≤ length (now mem)) ⌝ }
+    ensures { λ r. ⌜ r ≡ replicaStrays a c (now (mem .entry)) ⌝ }
+{
+    let x = row::replica_at(mem, a, c);
+    if x.processor >= mem[1] {
+        return true;
+    }
+    if x.early > LAST_TICK {
+        return true;
+    }
+    x.late > LAST_TICK
+}
+
 // The task, a processor or a tick of the line at `a` is outside its range.
 fn strays(mem: &[u64], a: usize) -> bool
-    requires { ⌜ JobStands (now mem) × (a + 25 ≤ length (now mem)) ⌝ }
+    requires { ⌜ JobStands (now mem) × (rowEnd a ≤ length (now mem)) ⌝ }
     ensures { λ r. ⌜ r ≡ Plan.strays document01 (jobIn (now (mem .entry))) (lineIn a (now (mem .entry))) ⌝ }
 {
     if mem[a] >= mem[0] {
         return true;
     }
-    let m = mem[1];
     let mut c = mem[3] as usize + 1;
     while c > 0 {
         c -= 1;
-        if mem[a + (1 + 3 * c)] >= m {
-            return true;
-        }
-        if mem[a + (2 + 3 * c)] > LAST_TICK {
-            return true;
-        }
-        if mem[a + (3 + 3 * c)] > LAST_TICK {
+        if replica_strays(mem, a, c) {
             return true;
         }
     }
@@ -103,12 +109,14 @@ fn strays(mem: &[u64], a: usize) -> bool
 
 // In the line at `a` a processor is less than the one before.
 fn descends(mem: &[u64], a: usize) -> bool
-    requires { ⌜ JobStands (now mem) × (a + 25 ≤ length (now mem)) ⌝ }
+    requires { ⌜ JobStands (now mem) × (rowEnd a ≤ length (now mem)) ⌝ }
     ensures { λ r. ⌜ r ≡ Plan.descends (processorsOf (lineIn a (now (mem .entry)))) ⌝ }
 {
     let mut c = mem[3] as usize;
     while c > 0 {
-        if mem[a + (1 + 3 * c)] < mem[a + (1 + 3 * (c - 1))] {
+        let last = row::replica_at(mem, a, c);
+        let before = row::replica_at(mem, a, c - 1);
+        if last.processor < before.processor {
             return true;
         }
         c -= 1;
@@ -116,42 +124,32 @@ fn descends(mem: &[u64], a: usize) -> bool
     false
 }
 
-// The task that edge k leaves has no line.
-fn sender_unplaced(mem: &[u64], rooms: usize, k: usize) -> bool
-    requires { ⌜ JobHeld rooms (now mem) × (k < nth (now mem) 2) ⌝ }
-    ensures { λ r. ⌜ r ≡ eqb (nth (now (mem .entry)) (lineAt rooms + nth (now (mem .entry)) (edgeAt (now (mem .entry)) k) % 256)) 0 ⌝ }
-{
-    let v = mem[0] as usize;
-    let m = mem[1] as usize;
-    let g = 4 + (v + m) * (m + 1);
-    let from = (mem[g + k] % 256) as usize;
-    mem[LINE * rooms + from] == 0
-}
-
 // Every predecessor of t has a line.
-fn fed(mem: &[u64], rooms: usize, t: usize) -> bool
-    requires { ⌜ JobHeld rooms (now mem) × LinkedIn rooms (now mem) × (t < nth (now mem) 0) ⌝ }
+fn fed(mem: &[u64], links: &[u64], rooms: usize, t: usize) -> bool
+    requires { ⌜ JobHeld rooms (now mem) × LinksHeld (now mem) (now links) × (t < nth (now mem) 0) ⌝ }
     ensures { λ r. ⌜ r ≡ all (λ e. not (eqb (nth (now (mem .entry)) (lineAt rooms + e .from)) 0)) (incoming (jobIn (now (mem .entry))) t) ⌝ }
 {
-    let in_next = IN_NEXT * rooms;
-    let mut k = mem[IN_HEAD * rooms + t] as usize;
-    while k > 0 {
-        if sender_unplaced(mem, rooms, k - 1) {
+    let line = LINE * rooms;
+    let run = orders::entering(links, mem[0] as usize, t);
+    let start = run.start;
+    let mut k = run.end;
+    while k > start {
+        k -= 1;
+        let from = orders::edge_from(links[k]);
+        if mem[line + from] == 0 {
             return false;
         }
-        k = mem[in_next + (k - 1)] as usize;
     }
     true
 }
 
 // The number of the refusal of the line at `a`, after the lines that have a place in the table, or 0.
-fn check_line(mem: &[u64], rooms: usize, a: usize) -> u64
-    requires { ⌜ JobHeld rooms (now mem) × LinkedIn rooms (now mem) × (a + 25 ≤ length (now mem)) ⌝ }
+fn check_line(mem: &[u64], links: &[u64], rooms: usize, a: usize) -> u64
+    requires { ⌜ JobHeld rooms (now mem) × LinksHeld (now mem) (now links) × (rowEnd a ≤ length (now mem)) ⌝ }
     ensures { λ r. ⌜ ((k : ℕ) → Standing rooms k (now (mem .entry)) → r ≡ planLineRule document01 (jobIn (now (mem .entry)))
         (linesIn rooms (nth (now (mem .entry)) 3 + 1) k (now (mem .entry))) (lineIn a (now (mem .entry))))
         × (r ≡ 0 → (nth (now (mem .entry)) a < nth (now (mem .entry)) 0) × (nth (now (mem .entry)) (lineAt rooms + nth (now (mem .entry)) a) ≡ 0) × RowHeld a (now (mem .entry))) ⌝ }
 {
-    let line = LINE * rooms;
     if strays(mem, a) {
         return 3;
     }
@@ -159,10 +157,10 @@ fn check_line(mem: &[u64], rooms: usize, a: usize) -> u64
         return 11;
     }
     let t = mem[a] as usize;
-    if mem[line + t] != 0 {
+    if row::line_of(mem, rooms, t) != 0 {
         return 10;
     }
-    if fed(mem, rooms, t) {
+    if fed(mem, links, rooms, t) {
         return 0;
     }
     10
@@ -183,22 +181,28 @@ fn clear_lines(mem: &mut [u64], rooms: usize)
 }
 
 // The T line at `at`, kept as row k, after the k lines before it.
-fn read_plan_line(s: &[u8], at: usize, mem: &mut [u64], rooms: usize, k: usize) -> Step
-    requires { ⌜ Standing rooms k (now mem) × (k < nth (now mem) 0) ⌝ }
+fn read_plan_line(
+    s: &[u8],
+    at: usize,
+    mem: &mut [u64],
+    links: &[u64],
+    rooms: usize,
+    k: usize,
+) -> Step
+    requires { ⌜ Standing rooms k (now mem) × LinksHeld (now mem) (now links) × (k < nth (now mem) 0) ⌝ }
     ensures { λ r. ⌜ LineRead rooms k (now (s .entry)) at (now (mem .entry)) (now (mem .exit)) r ⌝ }
 {
-    let line = LINE * rooms;
-    let n = 4 + 3 * mem[3] as usize;
-    let a = ROWS * rooms + k * 25;
+    let n = row::line_cells(&mem[..]);
+    let a = row::row_at(rooms, k);
     let b = a + n;
     match lines::read_line(s, at, b"T,", n, &mut mem[a..b]) {
         Step::Next(p) => {
-            let x = check_line(&mem[..], rooms, a);
+            let x = check_line(&mem[..], links, rooms, a);
             if x > 0 {
                 return Step::Refused(x);
             }
             let t = mem[a] as usize;
-            mem[line + t] = (k + 1) as u64;
+            row::put_line(mem, rooms, t, k);
             Step::Next(p)
         }
         Step::Refused(x) => Step::Refused(x),
@@ -206,8 +210,8 @@ fn read_plan_line(s: &[u8], at: usize, mem: &mut [u64], rooms: usize, k: usize) 
 }
 
 // The T lines, kept as rows.
-fn read_plan_lines(s: &[u8], at: usize, mem: &mut [u64], rooms: usize) -> Step
-    requires { ⌜ Standing rooms 0 (now mem) ⌝ }
+fn read_plan_lines(s: &[u8], at: usize, mem: &mut [u64], links: &[u64], rooms: usize) -> Step
+    requires { ⌜ Standing rooms 0 (now mem) × LinksHeld (now mem) (now links) ⌝ }
     ensures { λ r. ⌜ KeptOutside (lineAt rooms) (farAt rooms) (now (mem .entry)) (now (mem .exit))
         × (told (now (s .entry)) (linesIn rooms (nth (now (mem .exit)) 3 + 1) (nth (now (mem .exit)) 0) (now (mem .exit))) r ≡ lines
         (planLine document01 (jobIn (now (mem .entry)))) (planLineRule document01 (jobIn (now (mem .entry)))) (nth (now (mem .entry)) 0) [] (drop at (now (s .entry))))
@@ -217,7 +221,7 @@ fn read_plan_lines(s: &[u8], at: usize, mem: &mut [u64], rooms: usize) -> Step
     let mut p = at;
     let mut k = 0;
     while k < v {
-        match read_plan_line(s, p, mem, rooms, k) {
+        match read_plan_line(s, p, mem, links, rooms, k) {
             Step::Next(next) => p = next,
             Step::Refused(x) => return Step::Refused(x),
         }
@@ -227,12 +231,21 @@ fn read_plan_lines(s: &[u8], at: usize, mem: &mut [u64], rooms: usize) -> Step
 }
 
 // The T lines, and then M* and M, which the head has.
-fn load_lines(s: &[u8], at: usize, best: u64, worst: u64, mem: &mut [u64], rooms: usize) -> Step
-    requires { ⌜ JobHeld rooms (now mem) × LinkedIn rooms (now mem) ⌝ }
-    ensures { λ r. ⌜ KeptOutside (lineAt rooms) (farAt rooms) (now (mem .entry)) (now (mem .exit)) × PlanLoaded rooms (planFrom (jobIn (now (mem .entry))) best worst (drop at (now (s .entry)))) (now (mem .exit)) r ⌝ }
+fn load_lines(
+    s: &[u8],
+    at: usize,
+    best: u64,
+    worst: u64,
+    mem: &mut [u64],
+    links: &[u64],
+    rooms: usize,
+) -> Step
+    requires { ⌜ JobHeld rooms (now mem) × LinksHeld (now mem) (now links) ⌝ }
+    ensures { λ r. ⌜ KeptOutside (lineAt rooms) (farAt rooms) (now (mem .entry)) (now (mem .exit))
+        × PlanLoaded rooms (planFrom (jobIn (now (mem .entry))) best worst (drop at (now (s .entry)))) (now (mem .exit)) r ⌝ }
 {
     clear_lines(mem, rooms);
-    match read_plan_lines(s, at, mem, rooms) {
+    match read_plan_lines(s, at, mem, links, rooms) {
         Step::Next(p) => {
             if p < s.len() {
                 return Step::Refused(2);
@@ -245,10 +258,11 @@ fn load_lines(s: &[u8], at: usize, best: u64, worst: u64, mem: &mut [u64], rooms
     }
 }
 
-// A plan's text for the job in memory, whose edges are linked.
-pub fn load_plan(s: &[u8], mem: &mut [u64], rooms: usize) -> Step
-    requires { ⌜ JobHeld rooms (now mem) × LinkedIn rooms (now mem) ⌝ }
-    ensures { λ r. ⌜ KeptOutside (lineAt rooms) (farAt rooms) (now (mem .entry)) (now (mem .exit)) × PlanLoaded rooms (readPlan document01 (jobIn (now (mem .entry))) (now (s .entry))) (now (mem .exit)) r ⌝ }
+// A plan's text for the job in memory, whose links are in theirs.
+pub fn load_plan(s: &[u8], mem: &mut [u64], links: &[u64], rooms: usize) -> Step
+    requires { ⌜ JobHeld rooms (now mem) × LinksHeld (now mem) (now links) ⌝ }
+    ensures { λ r. ⌜ KeptOutside (lineAt rooms) (farAt rooms) (now (mem .entry)) (now (mem .exit))
+        × PlanLoaded rooms (readPlan document01 (jobIn (now (mem .entry))) (now (s .entry))) (now (mem .exit)) r ⌝ }
 {
     if s.len() > 65536 {
         return Step::Refused(1);
@@ -260,7 +274,7 @@ pub fn load_plan(s: &[u8], mem: &mut [u64], rooms: usize) -> Step
             if x > 0 {
                 return Step::Refused(x);
             }
-            load_lines(s, p, head[3], head[4], mem, rooms)
+            load_lines(s, p, head[3], head[4], mem, links, rooms)
         }
         Step::Refused(x) => Step::Refused(x),
     }

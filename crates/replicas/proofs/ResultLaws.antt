@@ -1,62 +1,54 @@
 -- The R lines and the L line.
-use mathlib.Core.Path.{_≡_, refl, _∙_}
+use mathlib.Core.Path.{_≡_, sym, _∙_}
 use mathlib.Core.List.{List, [], _∷_, _++_}
-use Prim.Native.Nat.{ℕ, _+_, _<_, _≤_}
+use Prim.Native.Nat.{ℕ, _+_, _≤_}
 use native.Mathlib.Omega.{arith}
 use lib.ListN.{length, length-append}
 use borrow.Author.Tests.{ne-eqb}
 use Rattle.definitions.specs.Lists.{bytes}
-use Rattle.definitions.specs.Limits.{document01}
+use Rattle.definitions.specs.Limits.{Limits}
 use Rattle.definitions.specs.Text.{width, decimal, lineText}
 use Rattle.definitions.specs.Times.{never}
 use Rattle.definitions.specs.Replay.{resultLine, endLine}
 use Rattle.definitions.proofs.Decimal.{length-decimal}
 use Rattle.lists.specs.Over.{over}
 use Rattle.text.specs.Told.{written, placeAfter}
-use Rattle.text.proofs.Writing.{written-fits, place-fits, front-fits, front-unfit, written-more, place-more}
+use Rattle.text.proofs.Writing.{written-fits, place-fits, written-more, place-more}
 use Rattle.ticks.specs.Cells.{neverCell, timeIn}
 
-module _ (t x p : ℕ) where
-  -- A task that is done.
-  pub result-tick : (x ≡ neverCell → ⊥) → resultLine document01 t (timeIn x) p ≡ lineText document01 (bytes "R,") (t ∷ p ∷ x ∷ [])
-  result-tick n = rw (ne-eqb x neverCell n)
+module _ (l : Limits) where
+  module _ (t x p : ℕ) where
+    -- A task that is done.
+    pub result-tick : (x ≡ neverCell → ⊥) → resultLine l t (timeIn x) p ≡ lineText l (bytes "R,") (t ∷ p ∷ x ∷ [])
+    result-tick n = rw (ne-eqb x neverCell n)
 
-  -- A task that is not.
-  pub result-never : x ≡ neverCell → resultLine document01 t (timeIn x) p ≡ resultLine document01 t never 0
-  result-never e = rw e
+    -- A task that is not.
+    pub result-never : x ≡ neverCell → resultLine l t (timeIn x) p ≡ resultLine l t never 0
+    result-never e = rw e
 
-module _ (x : ℕ) where
-  pub end-tick : (x ≡ neverCell → ⊥) → endLine document01 (timeIn x) ≡ lineText document01 (bytes "L,") (x ∷ [])
-  end-tick n = rw (ne-eqb x neverCell n)
+  module _ (x : ℕ) where
+    pub end-tick : (x ≡ neverCell → ⊥) → endLine l (timeIn x) ≡ lineText l (bytes "L,") (x ∷ [])
+    end-tick n = rw (ne-eqb x neverCell n)
 
-  pub end-never : x ≡ neverCell → endLine document01 (timeIn x) ≡ bytes "L,-\n"
-  end-never e = rw e
+    pub end-never : x ≡ neverCell → endLine l (timeIn x) ≡ bytes "L,-\n"
+    end-never e = rw e
 
--- The line of a task that is not done, in three parts -----------------------------------------------------------------
+  -- The line of a task that is not done, in three parts.
+  module _ (t : ℕ) where
+    pub undone-length : length (resultLine l t never 0) ≡ 7 + width l t
+    undone-length = simp length-append (omega (arith, length-decimal l t))
 
-module _ (t : ℕ) where
-  pub undone-length : length (resultLine document01 t never 0) ≡ 7 + width document01 t
-  undone-length = simp length-append (omega (arith, length-decimal document01 t))
-
-  module _ (d : List ℕ) where
-    pub undone-short : length d < 7 + width document01 t
-        → (0 ≡ placeAfter d 0 (resultLine document01 t never 0)) × (d ≡ written d 0 (resultLine document01 t never 0))
-    undone-short h = front-unfit d (resultLine document01 t never 0) (omega (arith, undone-length))
-
-    pub undone-whole : (x₁ x₂ x₃ : List ℕ) (a b c : ℕ) → 7 + width document01 t ≤ length d
+    pub undone-whole : (d x₁ x₂ x₃ : List ℕ) (a b : ℕ) → 7 + width l t ≤ length d
         → x₁ ≡ written d 0 (bytes "R,") → a ≡ placeAfter d 0 (bytes "R,")
-        → x₂ ≡ written x₁ a (decimal document01 t) → b ≡ placeAfter x₁ a (decimal document01 t)
-        → x₃ ≡ written x₂ b (bytes ",-,-\n") → c ≡ placeAfter x₂ b (bytes ",-,-\n")
-        → (c ≡ placeAfter d 0 (resultLine document01 t never 0)) × (x₃ ≡ written d 0 (resultLine document01 t never 0))
-    undone-whole x₁ x₂ x₃ a b c h f₁ g₁ f₂ g₂ f₃ g₃ =
+        → x₂ ≡ written x₁ a (decimal l t) → b ≡ placeAfter x₁ a (decimal l t)
+        → x₃ ≡ written x₂ b (bytes ",-,-\n") → x₃ ≡ written d 0 (resultLine l t never 0)
+    undone-whole d x₁ x₂ x₃ a b h f₁ g₁ f₂ g₂ f₃ =
         let s : List ℕ = bytes "R," in
-        let u : List ℕ = s ++ decimal document01 t in
-        let whole = resultLine document01 t never 0 in
-        let n : length u ≡ 2 + width document01 t = simp length-append (omega (arith, length-decimal document01 t)) in
-        let k : length (u ++ bytes ",-,-\n") ≡ 7 + width document01 t = simp length-append (omega (arith, length-decimal document01 t)) in
+        let u : List ℕ = s ++ decimal l t in
+        let n : length u ≡ 2 + width l t = simp length-append (omega (arith, length-decimal l t)) in
+        let k : length (u ++ bytes ",-,-\n") ≡ 7 + width l t = simp length-append (omega (arith, length-decimal l t)) in
         let e₁ : x₁ ≡ over d 0 s = f₁ ∙ written-fits d 0 s (omega arith) in
         let p₁ : a ≡ 0 + length s = g₁ ∙ place-fits d 0 s (omega arith) in
-        let e₂ : x₂ ≡ over d 0 u = f₂ ∙ written-more d x₁ 0 a s (decimal document01 t) e₁ p₁ (omega arith) in
-        let p₂ : b ≡ 0 + length u = g₂ ∙ place-more d x₁ 0 a s (decimal document01 t) e₁ p₁ (omega arith) in
-        front-fits d whole (omega (arith, undone-length)) c x₃
-        (omega (arith, g₃, place-more d x₂ 0 b u (bytes ",-,-\n") e₂ p₂ (omega arith))) (f₃ ∙ written-more d x₂ 0 b u (bytes ",-,-\n") e₂ p₂ (omega arith))
+        let e₂ : x₂ ≡ over d 0 u = f₂ ∙ written-more d x₁ 0 a s (decimal l t) e₁ p₁ (omega arith) in
+        let p₂ : b ≡ 0 + length u = g₂ ∙ place-more d x₁ 0 a s (decimal l t) e₁ p₁ (omega arith) in
+        f₃ ∙ written-more d x₂ 0 b u (bytes ",-,-\n") e₂ p₂ (omega arith) ∙ sym (written-fits d 0 (resultLine l t never 0) (omega (arith, undone-length, h)))

@@ -3,18 +3,18 @@ use mathlib.Core.Path.{_≡_, refl, ap, _∙_, sym}
 use mathlib.Core.Logic.{⊎-elim}
 use mathlib.Core.List.{List, [], _∷_}
 use mathlib.Core.Bool.{Bool, true, false, _&&_, _||_, true≢false}
-use Prim.Native.Nat.{ℕ, zero, suc, _+_, _*_, _-_, _/_, _<_, _≤_}
+use Prim.Native.Nat.{ℕ, zero, suc, _+_, _-_, _<_, _≤_}
 use native.Mathlib.Omega.{arith}
 use native.Mathlib.Numerals.{add-one}
 use borrow.Author.Tests.{eqb-true, eq-eqb, ne-eqb, lt-ltb, le-ltb}
-use lib.Dec.{eqb, ltb}
+use lib.Dec.{eqb}
 use lib.ListN.{length, take, drop}
 use Rattle.definitions.specs.Lists.{if_then_else_, nth, empty}
 use Rattle.definitions.proofs.Lists.{either-right}
 use Rattle.lists.proofs.Counting.{last-or-before}
 use Rattle.lists.proofs.ListLaws.{part-length, part-nth}
 use Rattle.ticks.specs.Cells.{neverCell}
-use Rattle.replicas.specs.Cells.{twins, twice, cellsOf, firstTwice, leastEarly, leastOn}
+use Rattle.replicas.specs.Cells.{onCell, nextCell, earlyCell, lineCell, replicasOf, twins, twice, cellsOf, firstTwice, leastEarly, leastOn}
 
 -- Neighbours --------------------------------------------------------------------------------------------------------
 
@@ -23,7 +23,7 @@ module _ (cells : List ℕ) where
   unfolding twins
   twins-none = refl
 
-  pub twins-next : (c : ℕ) → twins c cells ≡ false → (nth cells (3 * c) ≡ nth cells (3 * c + 3) → ⊥) → twins (c + 1) cells ≡ false
+  pub twins-next : (c : ℕ) → twins c cells ≡ false → (nth cells (onCell c) ≡ nth cells (nextCell c) → ⊥) → twins (c + 1) cells ≡ false
   unfolding twins
   twins-next c h n = rw (add-one c, h, ne-eqb _ _ n)
 
@@ -37,18 +37,18 @@ module _ (cells : List ℕ) where
       (last-or-before (suc n) c (omega arith))
 
   -- Two neighbours on one processor, among n replicas.
-  pub twins-here : (c n : ℕ) → c + 1 < n → nth cells (3 * c) ≡ nth cells (3 * c + 3) → true ≡ twins (n - 1) cells
+  pub twins-here : (c n : ℕ) → c + 1 < n → nth cells (onCell c) ≡ nth cells (nextCell c) → true ≡ twins (n - 1) cells
   unfolding twins
   twins-here c n l e = sym (twins-more (suc c) (n - 1) (omega arith) (either-right (twins c cells) (eq-eqb _ _ e)))
 
   -- Where they are.
-  pub twins-place : (n : ℕ) → twins n cells ≡ true → (c : ℕ) × (c < n) × (nth cells (3 * c) ≡ nth cells (3 * c + 3))
+  pub twins-place : (n : ℕ) → twins n cells ≡ true → (c : ℕ) × (c < n) × (nth cells (onCell c) ≡ nth cells (nextCell c))
   unfolding twins
   twins-place zero h = absurd (true≢false (sym h))
-  twins-place (suc n) h = by (twins-place n) (twins n cells) refl (eqb (nth cells (3 * n)) (nth cells (3 * n + 3))) refl h
+  twins-place (suc n) h = by (twins-place n) (twins n cells) refl (eqb (nth cells (onCell n)) (nth cells (nextCell n))) refl h
     where
-      by : (twins n cells ≡ true → (c : ℕ) × (c < n) × (nth cells (3 * c) ≡ nth cells (3 * c + 3))) → (a : Bool) → twins n cells ≡ a → (b : Bool) → eqb (nth cells (3 * n)) (nth cells (3 * n + 3)) ≡ b → (a || b) ≡ true
-          → (c : ℕ) × (c < suc n) × (nth cells (3 * c) ≡ nth cells (3 * c + 3))
+      by : (twins n cells ≡ true → (c : ℕ) × (c < n) × (nth cells (onCell c) ≡ nth cells (nextCell c))) → (a : Bool) → twins n cells ≡ a → (b : Bool) → eqb (nth cells (onCell n)) (nth cells (nextCell n)) ≡ b → (a || b) ≡ true
+          → (c : ℕ) × (c < suc n) × (nth cells (onCell c) ≡ nth cells (nextCell c))
       by r true f b g e = let (c, l, q) = r f in (c, omega arith, q)
       by r false f true g e = (n, omega arith, eqb-true _ _ g)
       by r false f false g e = absurd (true≢false (sym e))
@@ -60,7 +60,7 @@ module _ (cells : List ℕ) where
       by true e = absurd (true≢false (sym (twins-more c n l e) ∙ h))
       by false e = refl
 
-  pub twins-apart : (c : ℕ) → twins (suc c) cells ≡ false → nth cells (3 * c) ≡ nth cells (3 * c + 3) → ⊥
+  pub twins-apart : (c : ℕ) → twins (suc c) cells ≡ false → nth cells (onCell c) ≡ nth cells (nextCell c) → ⊥
   unfolding twins
   twins-apart c h e = true≢false (sym (either-right (twins c cells) (eq-eqb _ _ e)) ∙ h)
 
@@ -68,8 +68,8 @@ module _ (cells : List ℕ) where
 
 module _ (w : ℕ) (lines : List ℕ) where
   -- The part of the lines that is looked at.
-  pub part-cells : (k : ℕ) {b : Bool} → b ≡ twice (take (k * 25 + 1 + 3 * w - (k * 25 + 1)) (drop (k * 25 + 1) lines)) → b ≡ twice (cellsOf w k lines)
-  part-cells k h = let e : k * 25 + 1 + 3 * w - (k * 25 + 1) ≡ 3 * w = omega arith in rw e at h
+  pub part-cells : (k : ℕ) {b : Bool} → b ≡ twice (take (lineCell k + 1 + onCell w - (lineCell k + 1)) (drop (lineCell k + 1) lines)) → b ≡ twice (cellsOf w k lines)
+  part-cells k h = let e : lineCell k + 1 + onCell w - (lineCell k + 1) ≡ onCell w = omega arith in rw e at h
 
   pub first-none : firstTwice w 0 lines ≡ []
   unfolding firstTwice
@@ -88,12 +88,12 @@ module _ (w : ℕ) (lines : List ℕ) where
       (λ (g : c < suc n). rw (first-stays t c n (omega arith) h))
       (last-or-before (suc n) c (omega arith))
 
-  first-yes : (k : ℕ) → firstTwice w k lines ≡ [] → true ≡ twice (cellsOf w k lines) → firstTwice w (suc k) lines ≡ nth lines (k * 25) ∷ []
+  first-yes : (k : ℕ) → firstTwice w k lines ≡ [] → true ≡ twice (cellsOf w k lines) → firstTwice w (suc k) lines ≡ nth lines (lineCell k) ∷ []
   unfolding firstTwice
   first-yes k h e = rw (h, ← e)
 
-  pub first-here : (k n : ℕ) → k < n → firstTwice w k lines ≡ [] → true ≡ twice (cellsOf w k lines) → nth lines (k * 25) ∷ [] ≡ firstTwice w n lines
-  first-here k n l h e = sym (first-stays (nth lines (k * 25)) (suc k) n (omega arith) (first-yes k h e))
+  pub first-here : (k n : ℕ) → k < n → firstTwice w k lines ≡ [] → true ≡ twice (cellsOf w k lines) → nth lines (lineCell k) ∷ [] ≡ firstTwice w n lines
+  first-here k n l h e = sym (first-stays (nth lines (lineCell k)) (suc k) n (omega arith) (first-yes k h e))
 
   -- What the answer says of the lines.
   pub first-all : (n : ℕ) → firstTwice w n lines ≡ [] → (k : ℕ) → k < n → twice (cellsOf w k lines) ≡ false
@@ -101,20 +101,20 @@ module _ (w : ℕ) (lines : List ℕ) where
   first-all (suc n) h k l = by (first-all n) (firstTwice w n lines) refl (twice (cellsOf w n lines)) refl h
     where
       by : (firstTwice w n lines ≡ [] → (k : ℕ) → k < n → twice (cellsOf w k lines) ≡ false) → (a : List ℕ) → firstTwice w n lines ≡ a → (b : Bool) → twice (cellsOf w n lines) ≡ b
-          → (if empty a && b then nth lines (n * 25) ∷ [] else a) ≡ []
+          → (if empty a && b then nth lines (lineCell n) ∷ [] else a) ≡ []
           → twice (cellsOf w k lines) ≡ false
       by r (x ∷ a) f b g e = absurd (true≢false (sym (ap empty e)))
       by r [] f true g e = absurd (true≢false (sym (ap empty e)))
       by r [] f false g e = ⊎-elim (λ (q : k ≡ n). rw q g) (λ (m : k < n). r f k m) (last-or-before n k l)
 
-  pub first-some : (t n : ℕ) → firstTwice w n lines ≡ t ∷ [] → (k : ℕ) × (k < n) × (twice (cellsOf w k lines) ≡ true) × (nth lines (k * 25) ≡ t)
+  pub first-some : (t n : ℕ) → firstTwice w n lines ≡ t ∷ [] → (k : ℕ) × (k < n) × (twice (cellsOf w k lines) ≡ true) × (nth lines (lineCell k) ≡ t)
   unfolding firstTwice
   first-some t zero h = absurd (true≢false (ap empty h))
   first-some t (suc n) h = by (first-some t n) (firstTwice w n lines) refl (twice (cellsOf w n lines)) refl h
     where
-      by : (firstTwice w n lines ≡ t ∷ [] → (k : ℕ) × (k < n) × (twice (cellsOf w k lines) ≡ true) × (nth lines (k * 25) ≡ t)) → (a : List ℕ) → firstTwice w n lines ≡ a → (b : Bool)
-          → twice (cellsOf w n lines) ≡ b → (if empty a && b then nth lines (n * 25) ∷ [] else a) ≡ t ∷ []
-          → (k : ℕ) × (k < suc n) × (twice (cellsOf w k lines) ≡ true) × (nth lines (k * 25) ≡ t)
+      by : (firstTwice w n lines ≡ t ∷ [] → (k : ℕ) × (k < n) × (twice (cellsOf w k lines) ≡ true) × (nth lines (lineCell k) ≡ t)) → (a : List ℕ) → firstTwice w n lines ≡ a → (b : Bool)
+          → twice (cellsOf w n lines) ≡ b → (if empty a && b then nth lines (lineCell n) ∷ [] else a) ≡ t ∷ []
+          → (k : ℕ) × (k < suc n) × (twice (cellsOf w k lines) ≡ true) × (nth lines (lineCell k) ≡ t)
       by r [] f false g e = absurd (true≢false (ap empty e))
       by r [] f true g e = (n, omega arith, g, ap (λ (l : List ℕ). nth l 0) e)
       by r (x ∷ a) f b g e = let (k, l, p, q) = r (f ∙ e) in (k, omega arith, p, q)
@@ -126,12 +126,12 @@ unfolding leastEarly leastOn
 least-none cells = (refl, refl)
 
 module _ (cells : List ℕ) (c : ℕ) where
-  pub least-sooner : nth cells (3 * c + 1) < leastEarly c cells
-      → (nth cells (3 * c + 1) ≡ leastEarly (c + 1) cells) × (nth cells (3 * c) ≡ leastOn (c + 1) cells)
+  pub least-sooner : nth cells (earlyCell c) < leastEarly c cells
+      → (nth cells (earlyCell c) ≡ leastEarly (c + 1) cells) × (nth cells (onCell c) ≡ leastOn (c + 1) cells)
   unfolding leastEarly leastOn
   least-sooner h = rw (add-one c, lt-ltb _ _ h) (refl, refl)
 
-  pub least-stays : leastEarly c cells ≤ nth cells (3 * c + 1)
+  pub least-stays : leastEarly c cells ≤ nth cells (earlyCell c)
       → (leastEarly c cells ≡ leastEarly (c + 1) cells) × (leastOn c cells ≡ leastOn (c + 1) cells)
   unfolding leastEarly leastOn
   least-stays h = rw (add-one c, le-ltb _ _ h) (refl, refl)
@@ -139,20 +139,23 @@ module _ (cells : List ℕ) (c : ℕ) where
 -- The cells of a line -----------------------------------------------------------------------------------------------
 
 -- The cells of the first w replicas of the line at a of a memory, as they are looked at.
-module _ (mem : List ℕ) (a w : ℕ) (h : a + (1 + 3 * w) ≤ length mem) where
-  pub cells-count : length (take (a + 1 + 3 * w - (a + 1)) (drop (a + 1) mem)) / 3 ≡ w
-  cells-count = omega (arith, part-length mem (a + 1) (a + 1 + 3 * w - (a + 1)) (omega arith))
+abbrev pub cellsAt : ℕ → ℕ → List ℕ → List ℕ
+cellsAt a w mem = take (a + 1 + onCell w - (a + 1)) (drop (a + 1) mem)
 
-  cells-nth : (c i : ℕ) → 3 * c + i < 3 * w → nth (take (a + 1 + 3 * w - (a + 1)) (drop (a + 1) mem)) (3 * c + i) ≡ nth mem (a + (1 + i + 3 * c))
+module _ (mem : List ℕ) (a w : ℕ) (h : a + (1 + onCell w) ≤ length mem) where
+  pub cells-count : replicasOf (length (cellsAt a w mem)) ≡ w
+  cells-count = omega (arith, part-length mem (a + 1) (a + 1 + onCell w - (a + 1)) (omega arith))
+
+  cells-nth : (c i : ℕ) → onCell c + i < onCell w → nth (cellsAt a w mem) (onCell c + i) ≡ nth mem (a + (1 + i + onCell c))
   cells-nth c i l =
-      let e : a + 1 + (3 * c + i) ≡ a + (1 + i + 3 * c) = omega arith in
-      part-nth mem (a + 1) (a + 1 + 3 * w - (a + 1)) (3 * c + i) (omega arith) ∙ ap (nth mem) e
+      let e : a + 1 + (onCell c + i) ≡ a + (1 + i + onCell c) = omega arith in
+      part-nth mem (a + 1) (a + 1 + onCell w - (a + 1)) (onCell c + i) (omega arith) ∙ ap (nth mem) e
 
   -- The processor of replica c, and its early time.
-  pub cells-on : (c : ℕ) → c < w → nth (take (a + 1 + 3 * w - (a + 1)) (drop (a + 1) mem)) (3 * c) ≡ nth mem (a + (1 + 3 * c))
+  pub cells-on : (c : ℕ) → c < w → nth (cellsAt a w mem) (onCell c) ≡ nth mem (a + (1 + onCell c))
   cells-on c l =
-      let e : 3 * c + 0 ≡ 3 * c = omega arith in
-      ap (nth (take (a + 1 + 3 * w - (a + 1)) (drop (a + 1) mem))) (sym e) ∙ cells-nth c 0 (omega arith)
+      let e : onCell c + 0 ≡ onCell c = omega arith in
+      ap (nth (cellsAt a w mem)) (sym e) ∙ cells-nth c 0 (omega arith)
 
-  pub cells-early : (c : ℕ) → c < w → nth (take (a + 1 + 3 * w - (a + 1)) (drop (a + 1) mem)) (3 * c + 1) ≡ nth mem (a + (2 + 3 * c))
+  pub cells-early : (c : ℕ) → c < w → nth (cellsAt a w mem) (earlyCell c) ≡ nth mem (a + (2 + onCell c))
   cells-early c l = cells-nth c 1 (omega arith)

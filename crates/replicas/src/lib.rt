@@ -2,19 +2,26 @@
 // processor, a line's first finish, and the lines of a replay's answer.
 ghost use mathlib.Core.Path.{_≡_};
 ghost use mathlib.Core.List.{[]};
-ghost use Prim.Native.Nat.{_/_, _≤_};
+ghost use Prim.Native.Nat.{_≤_};
 ghost use lib.Dec.{leb};
 ghost use lib.ListN.{length};
 ghost use Rattle.definitions.specs.Lists.{if_then_else_};
 ghost use Rattle.definitions.specs.Limits.{document01};
 ghost use Rattle.definitions.specs.Replay.{resultLine, endLine};
-ghost use Rattle.text.specs.Told.{written, placeAfter};
+ghost use Rattle.text.specs.Told.{written};
 ghost use Rattle.ticks.specs.Cells.{timeIn};
-ghost use Rattle.replicas.specs.Cells.{doubledIn, firstTwice, leastEarly, leastOn};
+ghost use Rattle.replicas.specs.Cells.{replicasOf, linesOf, doubledIn, firstTwice, leastEarly, leastOn};
 use ticks::lanes::NEVER;
 
 mod twice;
 mod undone;
+
+// The cells of a line, those of a replica, and its early time's place among them.
+const ROW: usize = 25;
+
+const REPLICA: usize = 3;
+
+const EARLY: usize = 1;
 
 // Whether some line has two replicas on one processor, and the task of the first that has.
 pub enum Doubling {
@@ -31,7 +38,7 @@ pub struct First {
 // Looks for the first of the lines, 25 cells each, that has neighbouring replicas on one processor, among its first w, which are 8 at
 // most.
 pub fn doubled_task(lines: &[u64], w: usize) -> Doubling
-    ensures { λ r. ⌜ doubledIn r ≡ (if leb w 8 then firstTwice w (length (now (lines .entry)) / 25) (now (lines .entry)) else []) ⌝ }
+    ensures { λ r. ⌜ doubledIn r ≡ (if leb w 8 then firstTwice w (linesOf (length (now (lines .entry)))) (now (lines .entry)) else []) ⌝ }
 {
     if w > 8 {
         return Doubling::Single;
@@ -41,62 +48,43 @@ pub fn doubled_task(lines: &[u64], w: usize) -> Doubling
 
 // The first finish among the replicas in `cells`, three cells each, by their early times, and the processor of the first that has it.
 pub fn first_finish(cells: &[u64]) -> First
-    ensures time { λ r. ⌜ r .time ≡ leastEarly (length (now (cells .entry)) / 3) (now (cells .entry)) ⌝ }
-    ensures processor { λ r. ⌜ r .processor ≡ leastOn (length (now (cells .entry)) / 3) (now (cells .entry)) ⌝ }
+    ensures time { λ r. ⌜ r .time ≡ leastEarly (replicasOf (length (now (cells .entry)))) (now (cells .entry)) ⌝ }
+    ensures processor { λ r. ⌜ r .processor ≡ leastOn (replicasOf (length (now (cells .entry)))) (now (cells .entry)) ⌝ }
 {
-    let n = cells.len() / 3;
+    let n = cells.len() / REPLICA;
     let mut time = NEVER;
     let mut processor = 0;
     let mut c = 0;
     while c < n {
-        let x = cells[3 * c + 1];
+        let x = cells[REPLICA * c + EARLY];
         if x < time {
             time = x;
-            processor = cells[3 * c];
+            processor = cells[REPLICA * c];
         }
         c += 1;
     }
     First { time, processor }
 }
 
-// The bytes that the R line of t takes.
-pub fn result_length(t: u64, first: First) -> usize
+// The R line of t, written at the front of `out`, if it fits. The answer is its length in either case.
+pub fn result_line(out: &mut [u8], t: u64, first: First) -> usize
     ensures { λ r. ⌜ (r ≡ length (resultLine document01 t (timeIn (first .time)) (first .processor))) × (r ≤ 35) ⌝ }
-{
-    if first.time == NEVER {
-        return 7 + text::width_of(t);
-    }
-    printing::line_length(b"R,", &[t, first.processor, first.time])
-}
-
-// The R line of t, written at the front of `out`, if it fits. The answer is its length, or 0.
-pub fn write_result(out: &mut [u8], t: u64, first: First) -> usize
-    ensures { λ r. ⌜ r ≡ placeAfter (now (out .entry)) 0 (resultLine document01 t (timeIn (first .time)) (first .processor)) ⌝ }
     ensures holds { λ r. ⌜ now (out .exit) ≡ written (now (out .entry)) 0 (resultLine document01 t (timeIn (first .time)) (first .processor)) ⌝ }
 {
     if first.time == NEVER {
-        return undone::write_undone(out, t);
+        return undone::undone_line(out, t);
     }
-    printing::write_line(out, b"R,", &[t, first.processor, first.time])
+    printing::line(out, b"R,", &[t, first.processor, first.time])
 }
 
-// The bytes that the L line takes.
-pub fn end_length(end: u64) -> usize
-    ensures { λ r. ⌜ (r ≡ length (endLine document01 (timeIn end))) × (r ≤ 13) ⌝ }
-{
-    if end == NEVER {
-        return 4;
-    }
-    printing::line_length(b"L,", &[end])
-}
-
-// The L line, written at the front of `out`, if it fits. The answer is its length, or 0.
-pub fn write_end(out: &mut [u8], time: u64) -> usize
-    ensures { λ r. ⌜ r ≡ placeAfter (now (out .entry)) 0 (endLine document01 (timeIn time)) ⌝ }
+// The L line, written at the front of `out`, if it fits. The answer is its length in either case.
+pub fn end_line(out: &mut [u8], time: u64) -> usize
+    ensures { λ r. ⌜ (r ≡ length (endLine document01 (timeIn time))) × (r ≤ 13) ⌝ }
     ensures holds { λ r. ⌜ now (out .exit) ≡ written (now (out .entry)) 0 (endLine document01 (timeIn time)) ⌝ }
 {
     if time == NEVER {
-        return text::write_fixed(out, 0, b"L,-\n");
+        text::write_fixed(out, 0, b"L,-\n");
+        return 4;
     }
-    printing::write_line(out, b"L,", &[time])
+    printing::line(out, b"L,", &[time])
 }

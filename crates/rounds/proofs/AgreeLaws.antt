@@ -21,22 +21,20 @@ use Rattle.definitions.proofs.Guarantee.{same-times, times-same}
 use Rattle.heads.specs.Layout.{lineAt, rowAt, processorAt, earlyAt, lateAt, timeAt}
 use Rattle.jobs.specs.Held.{jobIn, JobHeld}
 use Rattle.ticks.specs.Cells.{timeIn}
-use Rattle.plans.specs.Lines.{rowOutcomes, placedIn, rowReplicas, linesIn, Standing}
+use Rattle.plans.specs.Lines.{replicaIn, rowOutcomes, placedIn, rowReplicas, linesIn, Standing}
 use Rattle.rounds.specs.Schedule.{choiceOf, dataIn, lineTicks, ShortTo}
 use Rattle.rounds.specs.Arrivals.{DelayTable, BothFed, ShortClocks, BothFinish}
-use Rattle.rounds.specs.Planning.{finishOn}
-use Rattle.plans.specs.Loading.{lineIn, planIn}
-use Rattle.plans.specs.Loading.{PlanHeld}
+use Rattle.rounds.specs.Clocks.{finishOn}
+use Rattle.plans.specs.Loading.{lineIn, planIn, PlanHeld}
 use Rattle.rounds.specs.Checking.{ClocksAfter, finishIn, AgreesTo, LineAgrees}
 use Rattle.ticks.specs.declared.clocks.Clocks.{Clocks}
 use Rattle.lists.proofs.Counting.{last-or-before}
 use Rattle.jobs.proofs.Held.{tasks-in, processors-in, sizes}
 use Rattle.rounds.proofs.TimeLaws.{time-tick}
 use Rattle.rounds.proofs.Placed.{FedBy}
-use Rattle.rounds.proofs.DrawLaws.{outcomeOn, walk-apart}
-use Rattle.rounds.proofs.Drawing.{replicaAt, in-replicas, outcomeOf, outcomes-row, row-on, finish-at, all-come, clocks-short, fed-short}
-use Rattle.rounds.proofs.OutsetLaws.{outset-clocks}
+use Rattle.rounds.proofs.ClockLaws.{outset-clocks}
 use Rattle.rounds.proofs.CheckLaws.{line-among, line-facts, doubled-in}
+use Rattle.rounds.proofs.Outcomes.{copies-more, all-come, clocks-short, fed-short, finish-at, in-replicas, outcomeOf, outcomeOn, outcomes-row, row-on, walk-apart}
 
 -- The replicas of a line --------------------------------------------------------------------------------------------
 
@@ -47,17 +45,17 @@ written late r = if late then r .late else r .early
 abbrev cellOf : Bool → ℕ → ℕ → List ℕ → ℕ
 cellOf late a c mem = nth mem (timeAt late a c)
 
-written-at : (late : Bool) (a c : ℕ) (mem : List ℕ) → written late (replicaAt a c mem) ≡ cellOf late a c mem
+written-at : (late : Bool) (a c : ℕ) (mem : List ℕ) → written late (replicaIn a c mem) ≡ cellOf late a c mem
 written-at true a c mem = refl
 written-at false a c mem = refl
 
-replicas-in : (a n : ℕ) (mem : List ℕ) (r : Replica) → In r (rowReplicas a n mem) → (c : ℕ) × (c < n) × (replicaAt a c mem ≡ r)
+replicas-in : (a n : ℕ) (mem : List ℕ) (r : Replica) → In r (rowReplicas a n mem) → (c : ℕ) × (c < n) × (replicaIn a c mem ≡ r)
 unfolding rowReplicas
 replicas-in a (suc n) mem r i =
     ⊎-elim
     (λ k. let (c, l, e) = replicas-in a n mem r k in (c, omega arith, e))
     (⊎-elim (λ e. (n, omega arith, e)) absurd)
-    (in-append r (rowReplicas a n mem) (replicaAt a n mem ∷ []) i)
+    (in-append r (rowReplicas a n mem) (replicaIn a n mem ∷ []) i)
 
 outcomes-line : (late : Bool) (a c : ℕ) (mem : List ℕ) → map (outcomeOf late (nth mem a)) (rowReplicas a c mem) ≡ reverse (rowOutcomes late a c mem)
 outcomes-line late a c mem = sym (ap reverse (outcomes-row late a c mem) ∙ reverse-reverse (map (outcomeOf late (nth mem a)) (rowReplicas a c mem)))
@@ -87,7 +85,7 @@ module _ {rooms : ℕ} {mem : List ℕ} (h : PlanHeld rooms mem) (k : ℕ) (l : 
   unfolding planIn
   ticks-most late c g =
       let w = nth mem 3 + 1 in
-      let (e, x) = h .facts .ticks-most (lineIn (rowAt rooms k) mem) (line-among rooms k (nth mem 0) mem l) (replicaAt (rowAt rooms k) c mem) (in-replicas (rowAt rooms k) w c mem g) in
+      let (e, x) = h .facts .ticks-most (lineIn (rowAt rooms k) mem) (line-among rooms k (nth mem 0) mem l) (replicaIn (rowAt rooms k) c mem) (in-replicas (rowAt rooms k) w c mem g) in
       by late e x
     where
       by : (late : Bool) → nth mem (earlyAt (rowAt rooms k) c) ≤ document01 .tick → nth mem (lateAt (rowAt rooms k) c) ≤ document01 .tick → cellOf late (rowAt rooms k) c mem ≤ document01 .tick
@@ -212,12 +210,6 @@ map-at : {A B : Type 0} (f g : A → B) (xs : List A) → map f xs ≡ map g xs 
 map-at f g (y ∷ xs) e x (inl i) = let q : f y ≡ g y = cc in rw i at q
 map-at f g (y ∷ xs) e x (inr i) = map-at f g xs (cc) x i
 
-pub copies-more : (j : Job) (ns : List Line) (n : Line) → copies j (ns ++ n ∷ []) ≡ copies j ns ++ copiesOf j (n .task) (processorsOf n)
-unfolding copies
-copies-more j [] n = append-nil (copiesOf j (n .task) (processorsOf n))
-copies-more j (m ∷ ns) n =
-    rw (copies-more j ns n) (sym (append-assoc (copiesOf j (m .task) (processorsOf m)) (copies j ns) (copiesOf j (n .task) (processorsOf n))))
-
 replicas-more : (ns : List Line) (n : Line) → replicasOf (ns ++ n ∷ []) ≡ replicasOf ns ++ n .replicas
 unfolding replicasOf
 replicas-more [] n = append-nil (n .replicas)
@@ -329,7 +321,7 @@ module _ {rooms : ℕ} {mem : List ℕ} (h : PlanHeld rooms mem) (one : doubledT
 
   told-line : (k : ℕ) → k < nth mem 0 → ((late : Bool) → times (lineWalk late k) ≡ map (tell late) (line k .replicas)) → LineAgrees rooms k mem
   told-line k l t late c g =
-      map-at (finishBy late k) (tell late) (line k .replicas) (sym (line-times late k l) ∙ t late) (replicaAt (rowAt rooms k) c mem) (in-replicas (rowAt rooms k) wide c mem g)
+      map-at (finishBy late k) (tell late) (line k .replicas) (sym (line-times late k l) ∙ t late) (replicaIn (rowAt rooms k) c mem) (in-replicas (rowAt rooms k) wide c mem g)
       ∙ ap tick (written-at late (rowAt rooms k) c mem) ∙ sym (tick-in h k l late c g)
 
   -- The times of the first k lines are the written ones exactly if their ticks are the equations'.

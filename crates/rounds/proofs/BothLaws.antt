@@ -1,26 +1,26 @@
 -- Data on all processors at once, by the first replicas and by the last.
-use mathlib.Core.Path.{_≡_, refl, ap, _∙_, sym}
+use mathlib.Core.Path.{_≡_, ap, _∙_, sym}
 use mathlib.Core.List.{List}
 use mathlib.Core.Bool.{Bool, true, false}
 use Prim.Native.Nat.{ℕ, _+_, _*_, _-_, _<_, _≤_, max, min}
 use native.Mathlib.Omega.{arith}
 use lib.ListN.{length, replicate, length-replicate, getD-replicate}
 use Rattle.definitions.specs.Lists.{nth}
-use Rattle.definitions.specs.Job.{Edge, runTime, delay}
+use Rattle.definitions.specs.Job.{incoming, runTime, delay}
 use Rattle.definitions.specs.Times.{Time, tick, later, after, least, largest}
 use Rattle.orders.specs.Edges.{edgeIn}
-use Rattle.heads.specs.Layout.{inHeadAt, inNextAt, processorAt, earlyAt, lateAt}
-use Rattle.jobs.specs.Held.{runAt, edgeAt, jobIn}
+use Rattle.orders.proofs.Walk.{Passed}
+use Rattle.heads.specs.Layout.{processorAt, earlyAt, lateAt}
+use Rattle.jobs.specs.Held.{jobIn}
 use Rattle.ticks.specs.Cells.{timeIn}
-use Rattle.plans.specs.Lines.{rowOutcomes, rowOf, RowHeld, Standing}
+use Rattle.plans.specs.Lines.{rowOutcomes, rowOf, RowHeld}
 use Rattle.rounds.specs.Schedule.{dataIn}
 use Rattle.ticks.specs.Lanes.{lanes, finishes, shortNever}
 use Rattle.ticks.specs.declared.clocks.Clocks.{Clocks}
-use Rattle.rounds.specs.Arrivals.{shortIn, lastArrival, DelayTable, BothShort, BothFed, BothRaised, BothReady, ShortClocks, RunsOf, BothFinish}
+use Rattle.rounds.specs.Arrivals.{shortIn, lastArrival, DelayTable, BothShort, BothRaised, BothReady, ShortClocks, RunsOf, BothFinish}
 use Rattle.ticks.proofs.LaneLaws.{lanes-each, finishes-short}
-use Rattle.jobs.proofs.Held.{Sizes, sizes, run-in}
-use Rattle.rounds.specs.Walks.{Feeds}
-use Rattle.rounds.proofs.TimeLaws.{message-most, time-tick, chosenBy, arrival-chosen, later-comm, later-assoc, later-zero, arrives, Gathering, gather-first, gather-enters, gather-edge, gather-falls, gather-next, gather-done}
+use Rattle.jobs.proofs.Held.{Sizes}
+use Rattle.rounds.proofs.TimeLaws.{message-most, time-tick, chosenBy, arrival-chosen, later-comm, later-assoc, later-zero, arrives, gather-first, gather-next, gather-done, Gathered}
 use Rattle.rounds.proofs.ShortLaws.{short-tick, short-sooner, chosen-more}
 
 -- The data of one predecessor -------------------------------------------------------------------------------------
@@ -104,67 +104,51 @@ module _ {rooms : ℕ} (volume a : ℕ) (mem l : List ℕ) (s : Sizes rooms mem)
 
 -- All data of a task ------------------------------------------------------------------------------------------------
 
--- The edges from link k on are still to be seen; e and l have for each processor the largest times of the others that enter t.
-pub record BothGathering (rooms t : ℕ) (mem e l : List ℕ) (k : ℕ) : Type 0 where
+-- e and l have for each processor the largest times of the edges that are passed at cell k of a run from a on.
+pub record BothGathered (rooms : ℕ) (mem : List ℕ) (a : ℕ) (cells e l : List ℕ) (k : ℕ) : Type 0 where
   pub early-size : length e ≡ 16
   pub late-size : length l ≡ 16
-  pub most : k ≤ nth mem 2
-  pub early : (p : ℕ) → p < nth mem 1 → Gathering rooms (arrives rooms false p mem) t mem (tick (nth e p)) k
-  pub late : (p : ℕ) → p < nth mem 1 → Gathering rooms (arrives rooms true p mem) t mem (tick (nth l p)) k
+  pub early : (p : ℕ) → p < nth mem 1 → Gathered (arrives rooms false p mem) a cells (tick (nth e p)) k
+  pub late : (p : ℕ) → p < nth mem 1 → Gathered (arrives rooms true p mem) a cells (tick (nth l p)) k
   pub early-most : (p : ℕ) → p < nth mem 1 → nth e p ≤ lastArrival
   pub late-most : (p : ℕ) → p < nth mem 1 → nth l p ≤ lastArrival
 
-module _ {rooms : ℕ} (n t : ℕ) (mem : List ℕ) (s : Standing rooms n mem) where
-  nothing : (p : ℕ) → p < nth mem 1 → nth (replicate 16 0) p ≡ 0
-  nothing p h = let w = sizes (s .job) in getD-replicate {A = ℕ} 16 p 0 0 (omega (arith, w .processors-most))
-
-  pub both-first : t < nth mem 0 → BothGathering rooms t mem (replicate 16 0) (replicate 16 0) (nth mem (inHeadAt rooms + t))
-  both-first h =
+module _ {rooms : ℕ} {mem : List ℕ} {a : ℕ} {cells : List ℕ} where
+  pub both-first : nth mem 1 ≤ 16 → BothGathered rooms mem a cells (replicate 16 0) (replicate 16 0) a
+  both-first few =
+      let nothing : (p : ℕ) → p < nth mem 1 → nth (replicate 16 0) p ≡ 0 = λ p h. getD-replicate {A = ℕ} 16 p 0 0 (omega arith) in
       record {
         early-size = length-replicate {A = ℕ} 16 0;
         late-size = length-replicate {A = ℕ} 16 0;
-        most = s .linked .head-most t h;
-        early = λ p j. rw (nothing p j) (gather-first (arrives rooms false p mem) n t mem s h);
-        late = λ p j. rw (nothing p j) (gather-first (arrives rooms true p mem) n t mem s h);
+        early = λ p j. rw (nothing p j) gather-first;
+        late = λ p j. rw (nothing p j) gather-first;
         early-most = λ p j. omega (arith, nothing p j);
         late-most = λ p j. omega (arith, nothing p j);
       }
 
-  module _ {e l : List ℕ} {k : ℕ} (g : BothGathering rooms t mem e l k) where
-    module _ (h : 0 < k) where
-      abbrev here : Edge
-      here = edgeIn (nth mem (edgeAt mem (k - 1)))
+  module _ {e l : List ℕ} {k : ℕ} (g : BothGathered rooms mem a cells e l k) where
+    pub both-next : {row volume : ℕ} {f h : List ℕ} → row ≡ rowOf rooms (edgeIn (nth cells k) .from) mem → volume ≡ edgeIn (nth cells k) .volume
+        → BothRaised volume row mem e f l h → BothGathered rooms mem a cells f h (k + 1)
+    both-next {f} {h} i j o =
+        let here = edgeIn (nth cells k) in
+        let r : BothRaised (here .volume) (rowOf rooms (here .from) mem) mem e f l h = rw (← i, ← j) o in
+        record {
+          early-size = r .early-size;
+          late-size = r .late-size;
+          early = λ p j. gather-next (g .early p j) (tick (nth f p)) (r .early-raised p j ∙ later-comm (tick (nth e p)) (arrives rooms false p mem here));
+          late = λ p j. gather-next (g .late p j) (tick (nth h p)) (r .late-raised p j ∙ later-comm (tick (nth l p)) (arrives rooms true p mem here));
+          early-most = λ p j. r .early-most p j (g .early-most p j);
+          late-most = λ p j. r .late-most p j (g .late-most p j);
+        }
 
-      some : Gathering rooms (arrives rooms false 0 mem) t mem (tick (nth e 0)) k
-      some = g .early 0 (sizes (s .job) .some-processor)
-
-      pub both-edge : BothFed rooms t mem → Feeds rooms here mem × BothShort (rowOf rooms (here .from) mem) mem
-      both-edge d =
-          (gather-edge (arrives rooms false 0 mem) n t mem s some h (λ e i. d e i .0), d here (gather-enters (arrives rooms false 0 mem) n t mem s some h) .1)
-
-      pub both-next : (x y : List ℕ) → BothRaised (here .volume) (rowOf rooms (here .from) mem) mem e x l y → BothGathering rooms t mem x y (nth mem (inNextAt rooms + (k - 1)))
-      both-next x y r =
-          record {
-            early-size = r .early-size;
-            late-size = r .late-size;
-            most = gather-next (arrives rooms false 0 mem) n t mem s some h (later (arrives rooms false 0 mem here) (tick (nth e 0))) refl .most;
-            early = λ p j. gather-next (arrives rooms false p mem) n t mem s (g .early p j) h (tick (nth x p)) (r .early-raised p j ∙ later-comm (tick (nth e p)) (arrives rooms false p mem here));
-            late = λ p j. gather-next (arrives rooms true p mem) n t mem s (g .late p j) h (tick (nth y p)) (r .late-raised p j ∙ later-comm (tick (nth l p)) (arrives rooms true p mem here));
-            early-most = λ p j. r .early-most p j (g .early-most p j);
-            late-most = λ p j. r .late-most p j (g .late-most p j);
-          }
-
-      pub both-falls : nth mem (inNextAt rooms + (k - 1)) < k
-      both-falls = gather-falls (arrives rooms false 0 mem) n t mem s some h
-
-    pub both-done : k ≡ 0 → BothReady rooms t mem e l
+    pub both-done : {b t : ℕ} → Passed a b cells (incoming (jobIn mem) t) k → b ≤ k → BothReady rooms t mem e l
     unfolding dataIn
-    both-done z =
+    both-done w z =
         record {
           early-size = g .early-size;
           late-size = g .late-size;
-          early-ready = λ p j. gather-done (arrives rooms false p mem) n t mem s (g .early p j) z;
-          late-ready = λ p j. gather-done (arrives rooms true p mem) n t mem s (g .late p j) z;
+          early-ready = λ p j. gather-done w z (g .early p j);
+          late-ready = λ p j. gather-done w z (g .late p j);
           early-most = g .early-most;
           late-most = g .late-most;
         }
@@ -175,12 +159,12 @@ module _ {rooms : ℕ} (n t : ℕ) (mem : List ℕ) (s : Standing rooms n mem) w
 abbrev pub Finish : ℕ → Bool → ℕ → List ℕ → List ℕ → ℕ → ℕ → Type 0
 Finish rooms late t clocks mem p x = tick x ≡ after (runTime (jobIn mem) t p) (later (tick (nth clocks p)) (dataIn rooms late t p mem))
 
-finish-cell : (rooms : ℕ) (late : Bool) (t : ℕ) (clocks mem : List ℕ) (p y n x : ℕ) → t < nth mem 0 → p < nth mem 1
+finish-cell : (rooms : ℕ) (late : Bool) (t : ℕ) (clocks mem : List ℕ) (p y n x : ℕ)
     → tick y ≡ dataIn rooms late t p mem
-    → n ≡ nth mem (runAt mem t p)
+    → n ≡ runTime (jobIn mem) t p
     → x ≡ max (nth clocks p) y + n
     → Finish rooms late t clocks mem p x
-finish-cell rooms late t clocks mem p y n x h g d r e = rw (e, r, run-in mem t p h g, ← d)
+finish-cell rooms late t clocks mem p y n x d r e = rw (e, r, ← d)
 
 -- On all processors, from the run times.
 pub finish-made : (rooms t : ℕ) (clocks : Clocks) (mem e l runs f g : List ℕ) → t < nth mem 0 → nth mem 1 ≤ 16
@@ -195,9 +179,9 @@ finish-made rooms t clocks mem e l runs f g h m b s r i j =
       early-size = u;
       late-size = v;
       early-finish = λ p o.
-          finish-cell rooms false t (clocks .early) mem p (nth e p) (nth runs p) (nth f p) h o (b .early-ready p o) (r .run p o)
+          finish-cell rooms false t (clocks .early) mem p (nth e p) (nth runs p) (nth f p) (b .early-ready p o) (r .run p o)
           (early p (omega arith) ∙ finishes-short (nth (clocks .early) p) (nth e p) (nth runs p) (s .early-short p o) (b .early-most p o) (r .most p o));
       late-finish = λ p o.
-          finish-cell rooms true t (clocks .late) mem p (nth l p) (nth runs p) (nth g p) h o (b .late-ready p o) (r .run p o)
+          finish-cell rooms true t (clocks .late) mem p (nth l p) (nth runs p) (nth g p) (b .late-ready p o) (r .run p o)
           (late p (omega arith) ∙ finishes-short (nth (clocks .late) p) (nth l p) (nth runs p) (s .late-short p o) (b .late-most p o) (r .most p o));
     }

@@ -18,8 +18,7 @@ use Rattle.definitions.specs.Facts.{Ordered, LineFacts}
 use Rattle.heads.specs.Layout.{rowAt, processorAt, earlyAt, lateAt, replicaEnd}
 use Rattle.jobs.specs.Held.{jobIn}
 use Rattle.plans.specs.Lines.{rowReplicas, linesIn}
-use Rattle.plans.specs.Loading.{lineIn, planIn}
-use Rattle.plans.specs.Loading.{PlanHeld}
+use Rattle.plans.specs.Loading.{lineIn, planIn, PlanHeld}
 use Rattle.lists.proofs.Counting.{last-or-before}
 use Rattle.lists.proofs.ListLaws.{part-length, part-nth}
 use Rattle.plans.proofs.PlanLaws.{in-tasks-row}
@@ -237,18 +236,18 @@ module _ {rooms : ℕ} {mem : List ℕ} (h : PlanHeld rooms mem) (k : ℕ) (l : 
 
 -- The line that is found --------------------------------------------------------------------------------------------
 
-module _ {rooms : ℕ} {mem : List ℕ} (h : PlanHeld rooms mem) where
+module _ {rooms : ℕ} {mem : List ℕ} (h : PlanHeld rooms mem) (from to : ℕ) (x : from ≡ rowAt rooms 0) (y : to ≡ rowAt rooms (nth mem 0)) where
   -- The lines as they are looked at.
   abbrev lines : List ℕ
-  lines = take (289 * rooms + nth mem 0 * 25 - 289 * rooms) (drop (289 * rooms) mem)
+  lines = take (to - from) (drop from mem)
 
   lines-length : length lines ≡ nth mem 0 * 25
   lines-length =
       let s = sizes (h .standing .job) in
-      omega (arith, part-length mem (289 * rooms) (289 * rooms + nth mem 0 * 25 - 289 * rooms) (omega (arith, s .size, s .tasks-most .1)))
+      omega (arith, part-length mem from (to - from) (omega (arith, x, y, s .size, s .tasks-most .1)), x, y)
 
-  lines-nth : (i : ℕ) → i < nth mem 0 * 25 → nth lines i ≡ nth mem (289 * rooms + i)
-  lines-nth i l = part-nth mem (289 * rooms) (289 * rooms + nth mem 0 * 25 - 289 * rooms) i (omega arith)
+  lines-nth : (i : ℕ) → i < nth mem 0 * 25 → nth lines i ≡ nth mem (from + i)
+  lines-nth i l = part-nth mem from (to - from) i (omega arith)
 
   abbrev cells : ℕ → List ℕ
   cells k = cellsOf (nth mem 3 + 1) k lines
@@ -262,14 +261,14 @@ module _ {rooms : ℕ} {mem : List ℕ} (h : PlanHeld rooms mem) where
     cells-on : (c : ℕ) → c < nth mem 3 + 1 → nth (cells k) (3 * c) ≡ nth mem (processorAt (rowAt rooms k) c)
     cells-on c g =
         let s = sizes (h .standing .job) in
-        let e : 289 * rooms + (k * 25 + 1 + 3 * c) ≡ processorAt (rowAt rooms k) c = omega arith in
+        let e : from + (k * 25 + 1 + 3 * c) ≡ processorAt (rowAt rooms k) c = omega arith in
         part-nth lines (k * 25 + 1) (3 * (nth mem 3 + 1)) (3 * c) (omega arith) ∙ lines-nth (k * 25 + 1 + 3 * c) (omega (arith, s .losses-most)) ∙ ap (nth mem) e
 
     twice-here : twice (cells k) ≡ not (distinct (processorsOf (lineIn (rowAt rooms k) mem)))
     twice-here = line-twice (rowAt rooms k) mem (cells k) cells-on (line-ascends h k l) (length (cells k) / 3 - 1) cells-count
 
     task-here : nth lines (k * 25) ≡ nth mem (rowAt rooms k)
-    task-here = lines-nth (k * 25) (omega arith)
+    task-here = let e : from + k * 25 ≡ rowAt rooms k = omega arith in lines-nth (k * 25) (omega arith) ∙ ap (nth mem) e
 
   none-to : ((k : ℕ) → k < nth mem 0 → twice (cells k) ≡ false) → (k : ℕ) → k ≤ nth mem 0 → doubledTasks (linesIn rooms (nth mem 3 + 1) k mem) ≡ []
   none-to f zero l = doubled-none mem 0 rooms

@@ -1,14 +1,15 @@
 -- The clocks, replica by replica and line by line.
 use mathlib.Core.Path.{_≡_, refl, ap, _∙_, sym}
-use mathlib.Core.List.{List, _∷_, _++_}
+use mathlib.Core.List.{List, _∷_, _++_, []}
 use mathlib.Core.Bool.{Bool, true, false}
-use Prim.Native.Nat.{ℕ, _+_, _*_, _<_, _≤_}
+use Prim.Native.Nat.{ℕ, _+_, _<_, _≤_, _-_}
 use native.Mathlib.Omega.{arith}
 use native.Mathlib.Numerals.{add-one}
 use borrow.Author.Tests.{eqb-true, eqb-false, lt-ltb}
 use lib.Dec.{eqb, ltb}
-use lib.ListN.{length, set, length-set}
+use lib.ListN.{length, set, length-set, replicate, length-replicate, getD-replicate}
 use lib.Seq.{getD-set-same, getD-set-other}
+use Rattle.definitions.proofs.Ready.{first-ready}
 use Rattle.definitions.specs.Lists.{if_then_else_, nth}
 use Rattle.definitions.specs.Job.{Job}
 use Rattle.definitions.specs.Times.{tick, Outcome, ready}
@@ -16,7 +17,7 @@ use Rattle.heads.specs.Layout.{rowAt, processorAt, earlyAt, lateAt}
 use Rattle.jobs.specs.Held.{jobIn}
 use Rattle.plans.specs.Lines.{rowOutcomes, placedIn, Standing}
 use Rattle.rounds.specs.Schedule.{ShortTo}
-use Rattle.rounds.specs.Planning.{earliesIn, latesIn, ClocksHeld, LineTimed}
+use Rattle.rounds.specs.Clocks.{earliesIn, latesIn, ClocksHeld, LineTimed}
 use Rattle.ticks.specs.declared.clocks.Clocks.{Clocks}
 use Rattle.jobs.proofs.Held.{sizes}
 use Rattle.rounds.proofs.TimeLaws.{time-tick}
@@ -80,3 +81,14 @@ pub clocks-line : (rooms k : ℕ) (mem : List ℕ) (clocks : Clocks)
     → ClocksHeld clocks (jobIn mem) (earliesIn rooms (k + 1) mem) (latesIn rooms (k + 1) mem)
 unfolding placedIn
 clocks-line rooms k mem clocks s = rw (add-one k) s
+
+-- All clocks are at 0.
+pub outset-clocks : {j : Job} {clocks : Clocks} → j .processors ≤ 16 → clocks .early ≡ replicate 16 0 → clocks .late ≡ replicate 16 0 → ClocksHeld clocks j [] []
+unfolding ready
+outset-clocks {j} h e l =
+    record {
+      early-size = rw e (length-replicate {A = ℕ} 16 0);
+      late-size = rw l (length-replicate {A = ℕ} 16 0);
+      early-ready = λ p g. rw (e, first-ready j p) (ap tick (getD-replicate 16 p 0 0 (omega arith)));
+      late-ready = λ p g. rw (l, first-ready j p) (ap tick (getD-replicate 16 p 0 0 (omega arith)));
+    }

@@ -3,19 +3,18 @@ use mathlib.Core.Path.{_≡_, refl, ap, ap₂, _∙_, sym}
 use mathlib.Core.Logic.{inl, inr}
 use mathlib.Core.List.{List, [], _∷_, map, map-map, reverseAux}
 use mathlib.Core.Bool.{Bool, true, false, not, _&&_}
-use Prim.Native.Nat.{ℕ, zero, suc, _+_, _-_, _<_, _≤_, max, min}
+use Prim.Native.Nat.{ℕ, zero, suc, _+_, _-_, _<_, _≤_}
 use native.Mathlib.Omega.{arith}
 use borrow.Author.Tests.{ne-eqb}
 use lib.Dec.{eqb, ltb}
 use lib.ListN.{length}
-use Rattle.definitions.specs.Lists.{if_then_else_, In, nth, keep, all, distinct, countFrom, below}
-use Rattle.definitions.specs.Job.{Edge, Job, incoming}
-use Rattle.definitions.specs.Times.{Time, tick, later, sooner, after, least, largest, Copy, Outcome, outcome, ofTask, ready, arrival, dataReady, start, finish, walk, copiesOf, copyOf}
+use Rattle.definitions.specs.Lists.{if_then_else_, In, nth, keep, all, countFrom, below}
+use Rattle.definitions.specs.Job.{Job}
+use Rattle.definitions.specs.Times.{after, least, largest, Copy, Outcome, finish, walk, copiesOf, copyOf}
 use Rattle.definitions.specs.Planner.{tickOf, Waiting, waitingFrom, freeTasks, ranked, criticalTask, trial, goesBefore, chosen, replicas, place}
-use Rattle.definitions.proofs.Lists.{map-same, apart-head, in-below, nth-below}
+use Rattle.definitions.proofs.Lists.{in-below, nth-below}
 use Rattle.definitions.proofs.Chosen.{chosen-count}
 use Rattle.definitions.proofs.Placing.{greatest-in}
-use Rattle.rounds.specs.Schedule.{choiceOf}
 use Rattle.rounds.specs.Planning.{bestOf}
 use Rattle.lists.proofs.ListLaws.{keep-same, keep-keep}
 use Rattle.lists.proofs.Upward.{count-yes, count-no}
@@ -113,80 +112,11 @@ module _ (j : Job) (losses n : ℕ) (waiting : List Waiting) (es ls : List Outco
 
 -- A line's replicas -------------------------------------------------------------------------------------------------
 
-other-task : (u : ℕ) (d : Outcome) (ds : List Outcome) → (d .task ≡ u → ⊥) → ofTask u (d ∷ ds) ≡ ofTask u ds
-unfolding ofTask keep
-other-task u d ds h = rw (ne-eqb (d .task) u h)
-
-module _ (j : Job) (choose : List Time → Time) where
-  -- The outcome of t on p after what is placed.
-  abbrev pub outcomeOn : List Outcome → ℕ → ℕ → Outcome
-  outcomeOn placed t p = outcome (copyOf j t p) (finish j choose [] placed (copyOf j t p))
-
-  -- A replica that does not feed t, on another processor, changes nothing for t on p.
-  finish-other : (placed : List Outcome) (d : Outcome) (t p : ℕ) → ((e : Edge) → In e (incoming j t) → d .task ≡ e .from → ⊥) → (d .processor ≡ p → ⊥)
-      → finish j choose [] (d ∷ placed) (copyOf j t p) ≡ finish j choose [] placed (copyOf j t p)
-  unfolding finish start dataReady arrival ready
-  finish-other placed d t p h n =
-      let a : map (arrival j choose (d ∷ placed) p) (incoming j t) ≡ map (arrival j choose placed p) (incoming j t) =
-      map-same (arrival j choose (d ∷ placed) p) (arrival j choose placed p) (incoming j t) (λ e i. rw (other-task (e .from) d placed (h e i))) in
-      rw (ne-eqb (d .processor) p n, a)
-
-  -- The copies of a task that does not feed itself, on different processors: each as if it were alone.
-  pub walk-apart : (t : ℕ) → ((e : Edge) → In e (incoming j t) → t ≡ e .from → ⊥) → (ps : List ℕ) → distinct ps ≡ true → (placed : List Outcome)
-      → walk j choose [] placed (copiesOf j t ps) ≡ map (outcomeOn placed t) ps
-  unfolding walk
-  walk-apart t h [] d placed = refl
-  walk-apart t h (p ∷ ps) d placed =
-      let (new, apart) = apart-head p ps d in
-      ap (outcomeOn placed t p ∷_)
-      (walk-apart t h ps apart (outcomeOn placed t p ∷ placed)
-      ∙ map-same (outcomeOn (outcomeOn placed t p ∷ placed) t) (outcomeOn placed t) ps
-      (λ q i. ap (outcome (copyOf j t q)) (finish-other placed (outcomeOn placed t p) t q h (λ e. new (rw (← e) at i)))))
-
 pub replicas-map : (f g : ℕ → Outcome) (ps : List ℕ)
     → replicas (map f ps) (map g ps) ≡ map (λ p. record { processor = f p .processor; early = tickOf (f p .time); late = tickOf (g p .time) }) ps
 unfolding replicas
 replicas-map f g [] = refl
 replicas-map f g (p ∷ ps) = ap₂ _∷_ refl (replicas-map f g ps)
-
--- Times that come by a tick -----------------------------------------------------------------------------------------
-
--- x is a tick that does not pass b.
-abbrev pub Comes : ℕ → Time → Type 0
-Comes b x = (y : ℕ) × (x ≡ tick y) × (y ≤ b)
-
-pub comes-wider : {b c : ℕ} {x : Time} → b ≤ c → Comes b x → Comes c x
-comes-wider h (y, e, l) = (y, e, omega arith)
-
-pub comes-after : {b : ℕ} {x : Time} (m n : ℕ) → n ≤ m → Comes b x → Comes (b + m) (after n x)
-comes-after m n h (y, e, l) = (y + n, rw e, omega arith)
-
-pub comes-later : {b : ℕ} {x y : Time} → Comes b x → Comes b y → Comes b (later x y)
-comes-later (x, e, l) (y, f, m) = (max x y, rw (e, f), omega arith)
-
-comes-sooner : {b : ℕ} {x y : Time} → Comes b x → Comes b y → Comes b (sooner x y)
-comes-sooner (x, e, l) (y, f, m) = (min x y, rw (e, f), omega arith)
-
-pub comes-largest : {A : Type 0} {b : ℕ} (f : A → Time) (xs : List A) → ((x : A) → In x xs → Comes b (f x)) → Comes b (largest (map f xs))
-unfolding largest
-comes-largest f [] h = (0, refl, omega arith)
-comes-largest f (x ∷ xs) h = comes-later (h x (inl refl)) (comes-largest f xs (λ y i. h y (inr i)))
-
-comes-least : {A : Type 0} {b : ℕ} (f : A → Time) (x : A) (xs : List A) → ((y : A) → In y (x ∷ xs) → Comes b (f y)) → Comes b (least (map f (x ∷ xs)))
-unfolding least
-comes-least f x [] h = let (y, e, l) = h x (inl refl) in (y, rw e, l)
-comes-least f x (z ∷ xs) h = comes-sooner (h x (inl refl)) (comes-least f z xs (λ y i. h y (inr i)))
-
-pub comes-choice : {A : Type 0} {b : ℕ} (late : Bool) (f : A → Time) (xs : List A) → 0 < length xs → ((x : A) → In x xs → Comes b (f x)) → Comes b (choiceOf late (map f xs))
-comes-choice late f [] h g = absurd (omega arith)
-comes-choice true f (x ∷ xs) h g = comes-largest f (x ∷ xs) g
-comes-choice false f (x ∷ xs) h g = comes-least f x xs g
-
-pub tick-back : {b : ℕ} {x : Time} → Comes b x → tick (tickOf x) ≡ x
-tick-back (y, e, l) = rw e
-
-pub tick-most : {b : ℕ} {x : Time} → Comes b x → tickOf x ≤ b
-tick-most (y, e, l) = rw e l
 
 -- The processors that are chosen ------------------------------------------------------------------------------------
 

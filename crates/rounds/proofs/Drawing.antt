@@ -1,7 +1,7 @@
 -- The memory while a plan is drawn up: its ticks, a line more, and what a change elsewhere leaves as it was.
 use mathlib.Core.Path.{_≡_, refl, ap, _∙_, sym}
-use mathlib.Core.Logic.{inl, inr, ⊎-elim}
-use mathlib.Core.List.{List, [], _∷_, _++_, map, map-map, map-append, reverse, reverseAux-append, append-nil}
+use mathlib.Core.Logic.{⊎-elim}
+use mathlib.Core.List.{List, [], _∷_, _++_, map, map-map, map-append, append-nil}
 use mathlib.Core.Bool.{Bool, true, false, not, _&&_}
 use Prim.Native.Nat.{ℕ, zero, suc, _+_, _*_, _-_, _<_, _≤_}
 use native.Mathlib.Omega.{arith}
@@ -11,156 +11,34 @@ use borrow.Author.Tests.{eqb-true, eqb-false, eq-eqb, ne-eqb, lt-ltb, not-true}
 use lib.Dec.{eqb, ltb}
 use lib.ListN.{length, set, length-append, length-map, length-set}
 use lib.Seq.{getD-set-same, getD-set-other}
-use Rattle.definitions.specs.Lists.{if_then_else_, In, nth, keep, all, has, below}
+use Rattle.definitions.specs.Lists.{In, nth, keep, all, has, below}
 use Rattle.definitions.specs.Limits.{document01}
-use Rattle.definitions.specs.Job.{Edge, Job, runTime, delay, incoming}
-use Rattle.definitions.specs.Plan.{Replica}
-use Rattle.definitions.specs.Times.{tick, later, after, Outcome, ready, arrival, dataReady, start, stopTime, finish, copyOf}
+use Rattle.definitions.specs.Job.{Edge, runTime, delay, incoming}
+use Rattle.definitions.specs.Times.{tick, after, arrival, dataReady, start, stopTime, finish, copyOf}
 use Rattle.definitions.specs.Planner.{tickOf, Waiting, freeTasks, ranked, scale, topLevel, trial, replicas, place, planFor}
-use Rattle.definitions.proofs.Lists.{both, in-map, in-keep, map-same, map-keep, in-append, append-left, append-right, in-below, all-in}
+use Rattle.definitions.proofs.Lists.{both, in-map, in-keep, map-same, map-keep, in-below, all-in}
 use Rattle.definitions.proofs.Tasks.{in-incoming}
-use Rattle.definitions.proofs.Ready.{first-ready}
 use Rattle.definitions.proofs.Placing.{placed-count}
-use Rattle.heads.specs.Layout.{memorySize, jobSize, levelAt, lineAt, blockedAt, priorityAt, rowAt, farAt, processorAt, earlyAt, lateAt, timeAt, replicaEnd}
+use Rattle.heads.specs.Layout.{memorySize, jobSize, levelAt, lineAt, blockedAt, priorityAt, rowAt, farAt, processorAt, earlyAt, lateAt, replicaEnd}
 use Rattle.jobs.specs.Held.{jobIn}
-use Rattle.ticks.specs.Cells.{neverCell, timeIn}
-use Rattle.plans.specs.Lines.{rowOutcomes, placedIn, rowReplicas, linesIn, rowOf, Standing}
-use Rattle.rounds.specs.Schedule.{choiceOf, dataIn, topIn, FedIn, lineTicks, ShortTo}
+use Rattle.plans.specs.Lines.{replicaIn, rowOutcomes, placedIn, rowReplicas, linesIn, rowOf}
+use Rattle.rounds.specs.Schedule.{choiceOf, topIn, FedIn, lineTicks}
 use Rattle.lists.specs.Kept.{KeptOutside}
-use Rattle.rounds.specs.Arrivals.{lastShort, BothFed, ShortClocks}
 use Rattle.ticks.specs.declared.clocks.Clocks.{Clocks}
-use Rattle.rounds.specs.Planning.{isFree, freeIn, bestOf, FreeList, waitingIn, earliesIn, latesIn, finishOn, replicaOn, ClocksHeld, Drawn, Ranked, Tried, boxesFor, Wrote, Begun}
+use Rattle.rounds.specs.Planning.{isFree, freeIn, bestOf, FreeList, waitingIn, replicaOn, Drawn, Ranked, Tried, boxesFor, Wrote, Begun}
+use Rattle.rounds.specs.Clocks.{earliesIn, latesIn, finishOn, ClocksHeld}
 use Rattle.lists.proofs.Counting.{zero-or-more}
-use Rattle.jobs.proofs.Held.{tasks-in, processors-in, Sizes, sizes, job-same, linked-out-same}
+use Rattle.jobs.proofs.Held.{tasks-in, processors-in, Sizes, sizes, job-same}
 use Rattle.lists.proofs.Kept.{Same, same-part, same-before, same-behind, kept-all, kept-set, kept-then, kept-wider}
 use Rattle.plans.proofs.Lines.{placed-same, replicas-same, lines-same, standing-same}
 use Rattle.rounds.proofs.Tables.{levels-same, far-same}
 use Rattle.lists.proofs.Upward.{below-more, keep-yes, keep-no}
-use Rattle.rounds.proofs.TimeLaws.{time-tick}
-use Rattle.rounds.proofs.Placed.{has-placed, feeding-line, fed-all, start-placed, level-placed, FedBy}
-use Rattle.lists.proofs.ListLaws.{keep-same, keep-keep}
-use Rattle.rounds.proofs.DrawLaws.{isChosen, chosen-room, chosen-same, trial-nth, none-kept, some-free, best-in, waiting-from, Comes, comes-wider, comes-after, comes-later, comes-largest, comes-choice}
-use Rattle.lists.proofs.ListLaws.{all-same}
+use Rattle.rounds.proofs.Placed.{has-placed, feeding-line, fed-all, level-placed}
+use Rattle.lists.proofs.ListLaws.{keep-same, keep-keep, all-same}
+use Rattle.rounds.proofs.DrawLaws.{isChosen, chosen-room, chosen-same, trial-nth, none-kept, some-free, best-in, waiting-from}
+use Rattle.rounds.proofs.Outcomes.{row-come, row-length, Comes, comes-wider, comes-after, comes-later, comes-largest, comes-choice, ready-comes, row-on, short-most, cells-most, all-come}
 
 -- The cells of a line -----------------------------------------------------------------------------------------------
-
--- Replica c of a line, as its cells say.
-abbrev pub replicaAt : ℕ → ℕ → List ℕ → Replica
-replicaAt a c mem = record { processor = nth mem (processorAt a c); early = nth mem (earlyAt a c); late = nth mem (lateAt a c) }
-
-pub in-replicas : (a n c : ℕ) (mem : List ℕ) → c < n → In (replicaAt a c mem) (rowReplicas a n mem)
-unfolding rowReplicas
-in-replicas a zero c mem h = absurd (omega arith)
-in-replicas a (suc n) c mem h = by (eqb c n) refl (in-replicas a n c mem)
-  where
-    by : (b : Bool) → eqb c n ≡ b → (c < n → In (replicaAt a c mem) (rowReplicas a n mem)) → In (replicaAt a c mem) (rowReplicas a n mem ++ replicaAt a n mem ∷ [])
-    by true e r = append-right (replicaAt a c mem) (rowReplicas a n mem) (replicaAt a n mem ∷ []) (rw (eqb-true c n e) (inl refl))
-    by false e r = let q = eqb-false c n e in append-left (replicaAt a c mem) (rowReplicas a n mem) (replicaAt a n mem ∷ []) (r (omega arith))
-
--- The outcome of a line's replica, early or late.
-abbrev pub outcomeOf : Bool → ℕ → Replica → Outcome
-outcomeOf late t r = record { task = t; processor = r .processor; time = timeIn (if late then r .late else r .early) }
-
-pub outcomes-row : (late : Bool) (a c : ℕ) (mem : List ℕ) → rowOutcomes late a c mem ≡ reverse (map (outcomeOf late (nth mem a)) (rowReplicas a c mem))
-unfolding rowOutcomes rowReplicas
-outcomes-row late a zero mem = refl
-outcomes-row late a (suc c) mem =
-    let f = outcomeOf late (nth mem a) in
-    let xs = rowReplicas a c mem in
-    let r = replicaAt a c mem in
-    let back : reverse (map f (xs ++ r ∷ [])) ≡ f r ∷ reverse (map f xs) = rw (map-append f xs (r ∷ [])) (reverseAux-append (map f xs) (f r ∷ []) []) in
-    rw (back, outcomes-row late a c mem) (by late)
-  where
-    by : (late : Bool)
-        → _≡_ {A = List Outcome} (record { task = nth mem a; processor = nth mem (processorAt a c); time = timeIn (nth mem (timeAt late a c)) }
-        ∷ reverse (map (outcomeOf late (nth mem a)) (rowReplicas a c mem)))
-        (outcomeOf late (nth mem a) (replicaAt a c mem) ∷ reverse (map (outcomeOf late (nth mem a)) (rowReplicas a c mem)))
-    by true = refl
-    by false = refl
-
--- The ticks of lines ------------------------------------------------------------------------------------------------
-
--- Every outcome comes by a tick that does not pass b.
-abbrev pub AllCome : ℕ → List Outcome → Type 0
-AllCome b ds = (d : Outcome) → In d ds → Comes b (d .time)
-
-time-back : (x b : ℕ) → x ≤ b → b < neverCell → Comes b (timeIn x)
-time-back x b h g = (x, time-tick x (λ e. omega arith), h)
-
-row-come : (late : Bool) (a c b : ℕ) (mem : List ℕ) → b < neverCell → ((i : ℕ) → i < c → nth mem (timeAt late a i) ≤ b) → AllCome b (rowOutcomes late a c mem)
-unfolding rowOutcomes
-row-come late a (suc c) b mem g h d (inl e) = rw (← e) (time-back (nth mem (timeAt late a c)) b (h c (omega arith)) g)
-row-come late a (suc c) b mem g h d (inr i) = row-come late a c b mem g (λ i l. h i (omega arith)) d i
-
-pub placed-come : (rooms : ℕ) (late : Bool) (w k b : ℕ) (mem : List ℕ) → b < neverCell → ((i c : ℕ) → i < k → c < w → nth mem (timeAt late (rowAt rooms i) c) ≤ b)
-    → AllCome b (placedIn rooms late w k mem)
-unfolding placedIn
-placed-come rooms late w (suc k) b mem g h d i =
-    ⊎-elim (row-come late (rowAt rooms k) w b mem g (λ c l. h k c (omega arith) l) d) (placed-come rooms late w k b mem g (λ i c l m. h i c (omega arith) m) d)
-    (in-append d (rowOutcomes late (rowAt rooms k) w mem) (placedIn rooms late w k mem) i)
-
-pub ready-comes : (j : Job) (p b : ℕ) (ds : List Outcome) → AllCome b ds → Comes b (ready j p ds)
-unfolding ready
-ready-comes j p b [] h = (0, first-ready j p, omega arith)
-ready-comes j p b (d ∷ ds) h = by (eqb (d .processor) p) (ready-comes j p b ds (λ x i. h x (inr i)))
-  where
-    by : (a : Bool) → Comes b (ready j p ds) → Comes b (if a then d .time else ready j p ds)
-    by true r = h d (inl refl)
-    by false r = r
-
-row-length : (late : Bool) (a c : ℕ) (mem : List ℕ) → length (rowOutcomes late a c mem) ≡ c
-unfolding rowOutcomes
-row-length late a zero mem = refl
-row-length late a (suc c) mem = ap suc (row-length late a c mem)
-
-pub row-on : (late : Bool) (a c m : ℕ) (mem : List ℕ) → ((i : ℕ) → i < c → nth mem (processorAt a i) < m) → (d : Outcome) → In d (rowOutcomes late a c mem) → d .processor < m
-unfolding rowOutcomes
-row-on late a (suc c) m mem h d (inl e) = rw (← e) (h c (omega arith))
-row-on late a (suc c) m mem h d (inr i) = row-on late a c m mem (λ i l. h i (omega arith)) d i
-
--- From the tick at which p is ready: the finish of t on p is that of the definition.
-pub finish-at : {rooms n k : ℕ} {mem : List ℕ} → Standing rooms n mem → k ≤ n → (late : Bool) (t p x : ℕ) → FedBy rooms k t mem
-    → tick x ≡ ready (jobIn mem) p (placedIn rooms late (nth mem 3 + 1) k mem)
-    → after (runTime (jobIn mem) t p) (later (tick x) (dataIn rooms late t p mem)) ≡ finishOn rooms late k mem t p
-unfolding finishOn finish stopTime
-finish-at {k = k} s l late t p x f e = rw (e, start-placed s k t l f late p)
-
--- The first k lines have ticks that do not pass k times those of a line.
-module _ {rooms n k : ℕ} {mem : List ℕ} (s : Standing rooms n mem) (l : k ≤ n) (h : ShortTo rooms k mem) where
-  -- So they are short.
-  pub short-most : k * lineTicks ≤ lastShort
-  short-most = let w = sizes (s .job) in let c = s .count in omega arith
-
-  pub cells-most : (late : Bool) (i c : ℕ) → i < k → c < nth mem 3 + 1 → nth mem (timeAt late (rowAt rooms i) c) ≤ k * lineTicks
-  cells-most true i c g m = h i c g m .1
-  cells-most false i c g m = h i c g m .0
-
-  pub all-come : (late : Bool) → AllCome (k * lineTicks) (placedIn rooms late (nth mem 3 + 1) k mem)
-  all-come late = let f = short-most in placed-come rooms late (nth mem 3 + 1) k (k * lineTicks) mem (omega arith) (cells-most late)
-
-  -- A processor's ready tick.
-  clock-most : (late : Bool) (p x : ℕ) → tick x ≡ ready (jobIn mem) p (placedIn rooms late (nth mem 3 + 1) k mem) → x ≤ lastShort
-  clock-most late p x e =
-      let (y, f, m) = ready-comes (jobIn mem) p (k * lineTicks) (placedIn rooms late (nth mem 3 + 1) k mem) (all-come late) in
-      let q : x ≡ y = ap tickOf (e ∙ f) in
-      omega (arith, short-most)
-
-  -- The clocks have short ticks.
-  pub clocks-short : {clocks : Clocks} → ClocksHeld clocks (jobIn mem) (earliesIn rooms k mem) (latesIn rooms k mem) → ShortClocks clocks mem
-  clocks-short {clocks} c =
-      record {
-        early-size = c .early-size;
-        late-size = c .late-size;
-        early-short = λ p l. clock-most false p (nth (clocks .early) p) (c .early-ready p (rw (processors-in mem) l));
-        late-short = λ p l. clock-most true p (nth (clocks .late) p) (c .late-ready p (rw (processors-in mem) l));
-      }
-
-  -- The lines of a task's predecessors have short ticks.
-  pub fed-short : (t : ℕ) → FedBy rooms k t mem → BothFed rooms t mem
-  fed-short t f e i =
-      let (g, m) = f e i in
-      let b = short-most in
-      (g, λ c o. let (x, y) = h (nth mem (lineAt rooms + e .from) - 1) c (omega arith) o in (omega arith, omega arith))
 
 module _ {rooms k : ℕ} {mem : List ℕ} (s : Drawn rooms k mem) where
   abbrev wide : ℕ
@@ -234,7 +112,6 @@ drawn-same {rooms} {k} {d} {e} z j r f s =
     let few : nth d 3 + 1 ≤ 8 = omega (arith, w .losses-most) in
     record {
       standing = standing-same z b (same-part (lineAt rooms) (blockedAt rooms) j (omega arith) (omega arith)) r (s .standing);
-      linked = linked-out-same h b (s .linked);
       far = far-same h a f (s .far);
       levels = levels-same h a (same-part (levelAt rooms) (lineAt rooms) j (omega arith) (omega arith)) (s .levels);
       ticks = λ i c g m.
@@ -287,7 +164,7 @@ module _ {k t : ℕ} {d : List ℕ} where
       let a = rowAt rooms k in
       let c = length ps in
       let n : length (ps ++ p ∷ []) ≡ suc c = length-append ps (p ∷ []) ∙ add-one c in
-      let r : replicaAt a c e ≡ replicaOn rooms k d t p = rw (f .processor, f .early-finish, f .late-finish, ← early, ← late) in
+      let r : replicaIn a c e ≡ replicaOn rooms k d t p = rw (f .processor, f .early-finish, f .late-finish, ← early, ← late) in
       record {
         kept = kept-then (b .kept) (kept-wider (rowAt rooms k) (farAt rooms) (f .kept) (omega arith) (omega arith));
         replicas = rw (n, replicas-same mem e a c (same-before a (processorAt a c) (f .kept) (omega arith)), r, b .replicas) (sym (map-append (replicaOn rooms k d t) ps (p ∷ [])));

@@ -1,45 +1,44 @@
 -- The end of a plan, from the lines in memory.
 use mathlib.Core.Path.{_≡_, refl, ap, _∙_, sym}
-use mathlib.Core.List.{List, [], _∷_, map, reverse, reverseAux}
+use mathlib.Core.List.{List, [], _∷_, map}
 use mathlib.Core.Bool.{Bool, true, false}
-use Prim.Native.Nat.{ℕ, suc, _+_, _*_, _-_, _<_, _≤_}
+use Prim.Native.Nat.{ℕ, suc, _+_, _-_, _<_, _≤_}
 use native.Mathlib.Omega.{arith}
 use native.Mathlib.Nat.{sub-zero}
 use native.Mathlib.Numerals.{add-one}
 use lib.ListN.{length, length-map}
 use Rattle.definitions.specs.Lists.{if_then_else_, nth, countFrom, below, keep, empty, In}
-use Rattle.definitions.specs.Job.{outgoing}
+use Rattle.definitions.specs.Job.{Edge, outgoing}
+use Rattle.orders.specs.Links.{Run}
+use Rattle.orders.proofs.Walk.{pass-length}
 use Rattle.definitions.specs.Times.{Time, tick, later, sooner, least, largest, ofTask, times, exits, end}
 use Rattle.definitions.proofs.Lists.{distinct-map, full, in-map, in-below, distinct-count, length-count}
 use Rattle.jobs.proofs.Held.{sizes}
-use Rattle.heads.specs.Layout.{outHeadAt, outNextAt, lineAt, rowAt}
-use Rattle.jobs.specs.Held.{jobIn, LinkedOut}
+use Rattle.heads.specs.Layout.{lineAt, rowAt, timeAt}
+use Rattle.jobs.specs.Held.{jobIn}
 use Rattle.ticks.specs.Cells.{timeIn}
-use Rattle.plans.specs.Lines.{rowOutcomes, placedIn, rowOf, RowHeld, Standing}
+use Rattle.plans.specs.Lines.{rowEnd, rowOutcomes, placedIn, rowOf, RowHeld, Standing}
 use Rattle.rounds.specs.Schedule.{choiceOf}
-use Rattle.jobs.proofs.Held.{chain-step, chain-end}
 use Rattle.rounds.proofs.Placed.{placed-rowOf, line-in}
 use Rattle.rounds.proofs.TimeLaws.{later-comm, later-assoc, later-zero}
 
 -- Exit tasks --------------------------------------------------------------------------------------------------------
 
-empty-more : {A : Type 0} (xs : List A) (y : A) (ys : List A) → empty (reverseAux xs (y ∷ ys)) ≡ false
-empty-more [] y ys = refl
-empty-more (x ∷ xs) y ys = empty-more xs x (y ∷ ys)
+-- The run of the edges that leave an exit task is empty.
+module _ {a b : ℕ} {cells : List ℕ} {es : List Edge} (r : Run a b cells es) where
+  pub exit-yes : b ≤ a → empty es ≡ true
+  exit-yes h = by es (pass-length r)
+    where
+      by : (es : List Edge) → length es ≡ b - a → empty es ≡ true
+      by [] e = refl
+      by (x ∷ es) e = absurd (omega arith)
 
-empty-reverse : {A : Type 0} (xs : List A) → empty (reverse xs) ≡ empty xs
-empty-reverse [] = refl
-empty-reverse (x ∷ xs) = empty-more xs x []
-
-module _ (rooms : ℕ) {mem : List ℕ} (c : LinkedOut rooms mem) (t : ℕ) (h : t < nth mem 0) where
-  -- No link leaves an exit task.
-  pub exit-yes : nth mem (outHeadAt rooms + t) ≡ 0 → empty (outgoing (jobIn mem) t) ≡ true
-  exit-yes e =
-      sym (empty-reverse (outgoing (jobIn mem) t)) ∙ ap empty (sym (c .chains t h)) ∙ rw (e, chain-end (outNextAt rooms) mem (nth mem 2))
-
-  pub exit-no : 0 < nth mem (outHeadAt rooms + t) → empty (outgoing (jobIn mem) t) ≡ false
-  exit-no l =
-      sym (empty-reverse (outgoing (jobIn mem) t)) ∙ ap empty (sym (c .chains t h)) ∙ rw (chain-step c (nth mem (outHeadAt rooms + t)) l (c .head-most t h))
+  pub exit-no : a < b → empty es ≡ false
+  exit-no h = by es (pass-length r)
+    where
+      by : (es : List Edge) → length es ≡ b - a → empty es ≡ false
+      by [] e = absurd (omega arith)
+      by (x ∷ es) e = refl
 
 -- The choice in a line ----------------------------------------------------------------------------------------------
 
@@ -52,16 +51,12 @@ unfolding rowOutcomes
 chosen-first late a mem x h = h
 
 -- One replica more.
-pub chosen-next : (late : Bool) (a : ℕ) (mem : List ℕ) (c place acc r : ℕ) → place ≡ (if late then 3 else 2) → timeIn acc ≡ chosenIn late a c mem
-    → timeIn r ≡ (if late then later (timeIn (nth mem (a + (place + 3 * c)))) (timeIn acc) else sooner (timeIn (nth mem (a + (place + 3 * c)))) (timeIn acc))
+pub chosen-next : (late : Bool) (a : ℕ) (mem : List ℕ) (c x acc r : ℕ) → x ≡ nth mem (timeAt late a c) → timeIn acc ≡ chosenIn late a c mem
+    → timeIn r ≡ (if late then later (timeIn x) (timeIn acc) else sooner (timeIn x) (timeIn acc))
     → timeIn r ≡ chosenIn late a (c + 1) mem
 unfolding rowOutcomes least largest
-chosen-next true a mem c place acc r e f g = g ∙ rw (f, e, add-one c)
-chosen-next false a mem c place acc r e f g = g ∙ rw (f, e, add-one c)
-
-pub place-most : (late : Bool) (place : ℕ) → place ≡ (if late then 3 else 2) → place ≤ 3
-place-most true place e = omega arith
-place-most false place e = omega arith
+chosen-next true a mem c x acc r e f g = g ∙ rw (f, e, add-one c)
+chosen-next false a mem c x acc r e f g = g ∙ rw (f, e, add-one c)
 
 -- Where all tasks are placed ----------------------------------------------------------------------------------------
 
@@ -91,7 +86,7 @@ module _ {rooms : ℕ} {mem : List ℕ} (s : Standing rooms (nth mem 0) mem) whe
       (s .row (nth mem (lineAt rooms + t) - 1) b, omega arith)
 
   -- Where the cells of its line are.
-  pub cells-of-task : (t : ℕ) → t < nth mem 0 → (0 < nth mem (lineAt rooms + t)) × (rowOf rooms t mem + 25 ≤ length mem) × (nth mem 3 ≤ 7)
+  pub cells-of-task : (t : ℕ) → t < nth mem 0 → (0 < nth mem (lineAt rooms + t)) × (rowEnd (rowOf rooms t mem) ≤ length mem) × (nth mem 3 ≤ 7)
   cells-of-task t h =
       let l = all-placed t h in
       let m = row-of-task t h .1 in
@@ -102,12 +97,12 @@ module _ {rooms : ℕ} {mem : List ℕ} (s : Standing rooms (nth mem 0) mem) whe
 abbrev pub exitTime : ℕ → Bool → List ℕ → ℕ → Time
 exitTime rooms late mem t = if empty (outgoing (jobIn mem) t) then choiceOf late (times (ofTask t (placedIn rooms late (nth mem 3 + 1) (nth mem 0) mem))) else tick 0
 
-module _ {rooms : ℕ} (late : Bool) {mem : List ℕ} (s : Standing rooms (nth mem 0) mem) (c : LinkedOut rooms mem) (t : ℕ) (h : t < nth mem 0) where
-  pub exit-end : (x : ℕ) → nth mem (outHeadAt rooms + t) ≡ 0 → timeIn x ≡ chosenIn late (rowOf rooms t mem) (nth mem 3 + 1) mem → timeIn x ≡ exitTime rooms late mem t
-  exit-end x e f = rw (exit-yes rooms c t h e, placed-rowOf s late (nth mem 3 + 1) (nth mem 0) (omega arith) t h (all-placed s t h) (row-of-task s t h .1)) f
+module _ {rooms : ℕ} (late : Bool) {mem : List ℕ} (s : Standing rooms (nth mem 0) mem) (t : ℕ) (h : t < nth mem 0) {a b : ℕ} (r : Run a b mem (outgoing (jobIn mem) t)) where
+  pub exit-end : (x : ℕ) → b ≤ a → timeIn x ≡ chosenIn late (rowOf rooms t mem) (nth mem 3 + 1) mem → timeIn x ≡ exitTime rooms late mem t
+  exit-end x e f = rw (exit-yes r e, placed-rowOf s late (nth mem 3 + 1) (nth mem 0) (omega arith) t h (all-placed s t h) (row-of-task s t h .1)) f
 
-  pub exit-other : 0 < nth mem (outHeadAt rooms + t) → timeIn 0 ≡ exitTime rooms late mem t
-  exit-other l = rw (exit-no rooms c t h l)
+  pub exit-other : a < b → timeIn 0 ≡ exitTime rooms late mem t
+  exit-other l = rw (exit-no r l)
 
 -- The largest end ---------------------------------------------------------------------------------------------------
 

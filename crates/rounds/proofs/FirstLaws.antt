@@ -153,7 +153,7 @@ module _ (rooms : ℕ) (mem : List ℕ) (r : RisingIn rooms mem) (i : ℕ) (h : 
   rising-row : (c : ℕ) → c < nth mem 3 + 1 → (d : Outcome) → In d (rowOutcomes false (rowAt rooms i) c mem) → d .processor ≤ nth mem (processorAt (rowAt rooms i) c)
   unfolding rowOutcomes
   rising-row (suc c) g d m =
-      let up : nth mem (processorAt (rowAt rooms i) c) ≤ nth mem (rowAt rooms i + (1 + 3 * suc c)) = rw (add-one c) at (r i c h (omega arith)) in
+      let up : nth mem (processorAt (rowAt rooms i) c) ≤ nth mem (processorAt (rowAt rooms i) (suc c)) = rw (add-one c) at (r i c h (omega arith)) in
       ⊎-elim
       (λ e. let q : nth mem (processorAt (rowAt rooms i) c) ≡ d .processor = ap (λ (d : Outcome). d .processor) e in omega arith)
       (λ k. omega (arith, rising-row c (omega arith) d k))

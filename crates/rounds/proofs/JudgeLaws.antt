@@ -1,9 +1,8 @@
 -- M* and M of a plan whose ticks are the equations', and the checker's answer.
 use mathlib.Core.Path.{_≡_, refl, ap, _∙_, sym}
-use mathlib.Core.Logic.{_⊎_, ⊎-elim}
 use mathlib.Core.List.{List, [], _∷_, reverse, reverseAux}
 use mathlib.Core.Bool.{Bool, true, false}
-use Prim.Native.Nat.{ℕ, _+_, _<_, _≤_, min}
+use Prim.Native.Nat.{ℕ, _+_, _<_, min}
 use native.Mathlib.Omega.{arith}
 use borrow.Author.Tests.{eqb-true, eq-eqb, ne-eqb}
 use lib.Dec.{eqb}
@@ -16,13 +15,12 @@ use Rattle.definitions.specs.Times.{Time, tick, never, later, sooner, same, lea
 use Rattle.definitions.specs.Refusals.{doubledTasks, ticksAgree, endsAgree, planRefusal}
 use Rattle.definitions.specs.Tools.{verdictFor}
 use Rattle.definitions.proofs.Lists.{map-same, in-some}
-use Rattle.heads.specs.Layout.{rowAt, bestAt, worstAt}
+use Rattle.heads.specs.Layout.{bestAt, worstAt}
 use Rattle.jobs.specs.Held.{jobIn}
 use Rattle.ticks.specs.Cells.{neverCell, timeIn}
 use Rattle.plans.specs.Lines.{placedIn}
 use Rattle.rounds.specs.Schedule.{choiceOf}
-use Rattle.plans.specs.Loading.{planIn}
-use Rattle.plans.specs.Loading.{PlanHeld}
+use Rattle.plans.specs.Loading.{planIn, PlanHeld}
 use Rattle.rounds.specs.Verdicts.{Judged}
 use Rattle.rounds.specs.declared.Checked.the-variants.{Accepted, Doubled, Refused}
 use Rattle.rounds.proofs.TimeLaws.{later-comm, later-assoc, later-zero}

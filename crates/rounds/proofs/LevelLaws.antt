@@ -1,37 +1,36 @@
 -- Bottom levels filled in a memory, from the last task of an order to the first.
 use mathlib.Core.Path.{_≡_, refl, ap, sym, _∙_}
-use mathlib.Core.Logic.{inl, inr, ⊎-elim}
-use mathlib.Core.List.{List, [], _∷_, map, map-map, reverseAux}
+use mathlib.Core.Logic.{⊎-elim}
+use mathlib.Core.List.{List, [], _∷_, map, reverseAux}
 use mathlib.Core.Bool.{Bool, true, false}
-use Prim.Native.Nat.{ℕ, zero, suc, _+_, _*_, _-_, _<_, _≤_, max}
+use Prim.Native.Nat.{ℕ, _+_, _*_, _-_, _<_, _≤_, max}
 use native.Mathlib.Omega.{arith}
 use native.Mathlib.Nat.{mul-le-mul}
 use lib.Dec.{ltb}
-use lib.ListN.{length, take, drop, set}
+use lib.ListN.{set}
 use lib.Seq.{getD-set-same, getD-set-other}
 use borrow.Author.Tests.{ltb-true, ltb-false}
-use Rattle.lists.proofs.ListLaws.{part-length, part-nth}
-use Rattle.definitions.specs.Lists.{In, nth, below, greatest}
+use Rattle.definitions.specs.Lists.{In, nth, greatest}
 use Rattle.definitions.specs.Limits.{document01}
 use Rattle.definitions.specs.Job.{Edge, outgoing}
 use Rattle.definitions.specs.Planner.{scaledRun, totalDelay, scaledMessage, bottomLevels}
-use Rattle.definitions.proofs.Lists.{in-reverse, map-same, full, nth-most}
+use Rattle.definitions.proofs.Lists.{map-same, full, nth-most}
 use Rattle.definitions.proofs.Tasks.{in-outgoing}
 use Rattle.definitions.proofs.Bounds.{bottom-most}
 use Rattle.definitions.proofs.BottomLevels.{bottom-level}
 use Rattle.orders.specs.Edges.{edgeIn}
-use Rattle.heads.specs.Layout.{outHeadAt, outNextAt, levelAt, lineAt}
-use Rattle.jobs.specs.Held.{edgeAt, jobIn, chain, JobHeld, LinkedOut}
+use Rattle.orders.proofs.Walk.{passed, pass-none, pass-more, Passed, pass-done}
+use Rattle.heads.specs.Layout.{levelAt, lineAt}
+use Rattle.jobs.specs.Held.{jobIn, JobHeld, LinksHeld}
 use Rattle.lists.specs.Kept.{KeptOutside}
 use Rattle.rounds.specs.Schedule.{LevelsFilled}
-use Rattle.orders.specs.Order.{Within, listed, Arranged, sortable, ArrangedIf}
+use Rattle.orders.specs.Order.{listed, Arranged}
 use Rattle.rounds.specs.Levels.{levelMost, sent}
-use Rattle.lists.proofs.Counting.{equal-or-not, last-or-before}
-use Rattle.lists.proofs.Kept.{same-before, kept-all, kept-set}
-use Rattle.jobs.proofs.Held.{tasks-in, edges-in, sizes, job-kept, held-kept, linked-out-same, chain-end, chain-step}
-use Rattle.jobs.proofs.JobIn.{members}
+use Rattle.lists.proofs.Counting.{equal-or-not}
+use Rattle.lists.proofs.Kept.{kept-all, kept-set}
+use Rattle.jobs.proofs.Held.{tasks-in, sizes, job-kept, held-kept, links-kept}
 use Rattle.rounds.proofs.RowSums.{total-in, total-most, scaled-most}
-use Rattle.orders.proofs.OrderLaws.{listed-length, listed-place, place-listed, places-apart, arranged-all, sortable-made}
+use Rattle.orders.proofs.OrderLaws.{listed-length, listed-place, place-listed, places-apart}
 
 -- The tasks of an order ---------------------------------------------------------------------------------------
 
@@ -61,11 +60,30 @@ unfolding greatest
 greatest-reverse f [] ys = omega arith
 greatest-reverse f (x ∷ xs) ys = omega (arith, greatest-reverse f xs (x ∷ ys))
 
--- x with what is sent over the edges from link k on makes the largest over the edges that leave t.
-pub record Longest (rooms t : ℕ) (mem : List ℕ) (x k : ℕ) : Type 0 where
-  pub most : k ≤ nth mem 2
-  pub rest : max (greatest (map (sent rooms mem) (chain (outNextAt rooms) (nth mem 2) mem k))) x ≡ greatest (map (sent rooms mem) (outgoing (jobIn mem) t))
-  pub among : (e : Edge) → In e (chain (outNextAt rooms) (nth mem 2) mem k) → In e (outgoing (jobIn mem) t)
+-- x is the largest of what is sent over the edges that are passed at cell k of a run from a on.
+pub record Longest (f : Edge → ℕ) (a : ℕ) (cells : List ℕ) (x k : ℕ) : Type 0 where
+  pub rises : a ≤ k
+  pub largest-of : x ≡ greatest (map f (passed a k cells))
+
+module _ {f : Edge → ℕ} {a : ℕ} {cells : List ℕ} where
+  pub longest-none : Longest f a cells 0 a
+  unfolding greatest
+  longest-none = record { rises = omega arith; largest-of = rw (pass-none a cells a (omega arith)) }
+
+  pub longest-next : {x k : ℕ} → Longest f a cells x k → (r n : ℕ) → n ≡ k + 1 → r ≡ max (f (edgeIn (nth cells k))) x → Longest f a cells r n
+  unfolding greatest
+  longest-next {k} g r n i e = record { rises = omega (arith, g .rises); largest-of = rw (pass-more a cells k n (g .rises) i, ← g .largest-of) e }
+
+  pub longest-done : {b : ℕ} {es : List Edge} {x k : ℕ} → Passed a b cells es k → b ≤ k → Longest f a cells x k → x ≡ greatest (map f es)
+  unfolding greatest
+  longest-done {es} w h g = g .largest-of ∙ rw (pass-done w h) (omega (arith, greatest-reverse f es []))
+
+-- An edge that leaves a task: its task, its message and its successor's level are within their limits.
+pub record Message (rooms total : ℕ) (mem : List ℕ) (e : Edge) : Type 0 where
+  pub to-below : e .to < nth mem 0
+  pub little : e .volume * total ≤ 267_321_600
+  pub level : nth mem (levelAt rooms + e .to) ≤ levelMost
+  pub sent-same : e .volume * total + nth mem (levelAt rooms + e .to) ≡ sent rooms mem e
 
 module _ {rooms : ℕ} {mem : List ℕ} (held : JobHeld rooms mem) where
   -- What a message takes at most, scaled.
@@ -78,53 +96,18 @@ module _ {rooms : ℕ} {mem : List ℕ} (held : JobHeld rooms mem) where
   to-in : (e : Edge) → In e (jobIn mem .edges) → e .to < nth mem 0
   to-in e i = rw (← tasks-in mem) (held .facts .to-task e i)
 
-  module _ (linked : LinkedOut rooms mem) {t : ℕ} (b : t < nth mem 0) where
-    pub longest-none : Longest rooms t mem 0 (nth mem (outHeadAt rooms + t))
-    unfolding greatest
-    longest-none =
-        let c = linked .chains t b in
-        let es = outgoing (jobIn mem) t in
-        record {
-          most = linked .head-most t b;
-          rest = rw c (omega (arith, greatest-reverse (sent rooms mem) es []));
-          among = λ e i. ⊎-elim (λ i. i) (λ i. absurd i) (in-reverse e es [] (rw c at i));
-        }
+  pub leaves-to : (t : ℕ) (e : Edge) → In e (outgoing (jobIn mem) t) → e .to < nth mem 0
+  leaves-to t e i = to-in e (in-outgoing (jobIn mem) t e i .0)
 
-    module _ {x k : ℕ} (g : Longest rooms t mem x k) where
-      module _ (h : 0 < k) where
-        abbrev here : Edge
-        here = edgeIn (nth mem (edgeAt mem (k - 1)))
-
-        step : chain (outNextAt rooms) (nth mem 2) mem k ≡ here ∷ chain (outNextAt rooms) (nth mem 2) mem (nth mem (outNextAt rooms + (k - 1)))
-        step = chain-step linked k h (g .most)
-
-        pub longest-leaves : In here (outgoing (jobIn mem) t)
-        longest-leaves = g .among here (rw step (inl refl))
-
-        -- The edge at hand: its task, its message, its link.
-        pub longest-to : here .to < nth mem 0
-        longest-to = to-in here (in-outgoing (jobIn mem) t here longest-leaves .0)
-
-        pub longest-message : {total : ℕ} → total ≡ totalDelay (jobIn mem) → here .volume * total ≤ 267_321_600
-        longest-message e = rw e (message-most here (in-outgoing (jobIn mem) t here longest-leaves .0))
-
-        pub longest-falls : nth mem (outNextAt rooms + (k - 1)) < k
-        longest-falls = omega (arith, linked .falls (k - 1) (omega (arith, g .most)))
-
-        pub longest-next : (r : ℕ) → r ≡ max (sent rooms mem here) x → Longest rooms t mem r (nth mem (outNextAt rooms + (k - 1)))
-        unfolding greatest
-        longest-next r d =
-            let rest : List Edge = chain (outNextAt rooms) (nth mem 2) mem (nth mem (outNextAt rooms + (k - 1))) in
-            let old : max (max (sent rooms mem here) (greatest (map (sent rooms mem) rest))) x ≡ greatest (map (sent rooms mem) (outgoing (jobIn mem) t)) = rw step at (g .rest) in
-            record {
-              most = omega (arith, longest-falls, g .most);
-              rest = rw d (omega (arith, old));
-              among = λ e i. g .among e (rw step (inr i));
-            }
-
-      pub longest-done : k ≡ 0 → x ≡ greatest (map (sent rooms mem) (outgoing (jobIn mem) t))
-      unfolding greatest
-      longest-done e = let r = rw (e, chain-end (outNextAt rooms) mem (nth mem 2)) at (g .rest) in omega arith
+  pub message : {total : ℕ} (t : ℕ) → total ≡ totalDelay (jobIn mem) → ((e : Edge) → In e (outgoing (jobIn mem) t) → nth mem (levelAt rooms + e .to) ≤ levelMost)
+      → (e : Edge) → In e (outgoing (jobIn mem) t) → Message rooms total mem e
+  message t q f e i =
+      record {
+        to-below = leaves-to t e i;
+        little = rw q (message-most e (in-outgoing (jobIn mem) t e i .0));
+        level = f e i;
+        sent-same = rw q;
+      }
 
 -- Levels filled ------------------------------------------------------------------------------------------------
 
@@ -147,13 +130,10 @@ module _ {rooms : ℕ} {d : List ℕ} (held : JobHeld rooms d) where
       omega (arith, nth-most (bottomLevels (jobIn d)) t (bottom-most document01 (jobIn d) (held .facts)))
 
   module _ {order mem : List ℕ} (a : Arranged (nth d 0) (jobIn d .edges) order (nth d 0)) {i : ℕ} (f : Filling rooms order d mem i) where
-    pub filling-held : JobHeld rooms mem
+    filling-held : JobHeld rooms mem
     filling-held = held-kept held (f .kept) (omega arith)
 
-    pub filling-linked : LinkedOut rooms d → LinkedOut rooms mem
-    filling-linked = linked-out-same held (same-before 0 (levelAt rooms) (f .kept) (omega arith))
-
-    pub filling-job : jobIn mem ≡ jobIn d
+    filling-job : jobIn mem ≡ jobIn d
     filling-job = job-kept held (f .kept) (omega arith)
 
     -- The task before place i is next.
@@ -161,13 +141,13 @@ module _ {rooms : ℕ} {d : List ℕ} (held : JobHeld rooms d) where
       abbrev t : ℕ
       t = nth order (i - 1)
 
-      pub filling-task : nth order (i - 1) < nth d 0
+      filling-task : nth order (i - 1) < nth d 0
       filling-task = order-below a (i - 1) (omega arith)
 
-      pub filling-below : nth order (i - 1) < nth mem 0
+      filling-below : nth order (i - 1) < nth mem 0
       filling-below = omega (arith, filling-task, f .kept .before 0 (omega arith))
 
-      pub filling-run : scaledRun (jobIn mem) (nth order (i - 1)) ≤ 240_000_000
+      filling-run : scaledRun (jobIn mem) (nth order (i - 1)) ≤ 240_000_000
       filling-run = scaled-most mem filling-held t filling-below
 
       -- The levels of its successors are there.
@@ -177,7 +157,7 @@ module _ {rooms : ℕ} {d : List ℕ} (held : JobHeld rooms d) where
           let (k, b, g, p) = order-later a (i - 1) (omega arith) e n q (to-in held e n) in
           rw (← p) (f .filled k (omega arith) g)
 
-      pub filling-most : (e : Edge) → In e (outgoing (jobIn mem) t) → nth mem (levelAt rooms + e .to) ≤ levelMost
+      filling-most : (e : Edge) → In e (outgoing (jobIn mem) t) → nth mem (levelAt rooms + e .to) ≤ levelMost
       filling-most e m = rw (successor e (rw filling-job at m)) (level-most (e .to))
 
       -- What is stored is its bottom level.
@@ -190,7 +170,7 @@ module _ {rooms : ℕ} {d : List ℕ} (held : JobHeld rooms d) where
           ∙ sym (bottom-level document01 j (held .facts) t (rw (tasks-in d) filling-task)))
 
       -- One level more.
-      pub filling-more : (x : ℕ) → x ≡ scaledRun (jobIn mem) t + greatest (map (sent rooms mem) (outgoing (jobIn mem) t)) → Filling rooms order d (set mem (levelAt rooms + t) x) (i - 1)
+      filling-more : (x : ℕ) → x ≡ scaledRun (jobIn mem) t + greatest (map (sent rooms mem) (outgoing (jobIn mem) t)) → Filling rooms order d (set mem (levelAt rooms + t) x) (i - 1)
       filling-more x e =
           let w = sizes held in
           record {
@@ -212,50 +192,28 @@ module _ {rooms : ℕ} {d : List ℕ} (held : JobHeld rooms d) where
           rw (filling-job, ← p) (f .filled k (omega arith) l),
     )
 
--- The job's edges ----------------------------------------------------------------------------------------------
+-- What the code asks for the next task t of the order, and what it leaves.
+pub record FillStep (rooms : ℕ) (order d mem links : List ℕ) (i t : ℕ) : Type 0 where
+  pub held : JobHeld rooms mem
+  pub linked : LinksHeld mem links
+  pub task : t < nth d 0
+  pub below : t < nth mem 0
+  pub run : scaledRun (jobIn mem) t ≤ 240_000_000
+  pub levels : (e : Edge) → In e (outgoing (jobIn mem) t) → nth mem (levelAt rooms + e .to) ≤ levelMost
+  pub job : jobIn mem ≡ jobIn d
+  pub more : (x y : ℕ) → x ≡ scaledRun (jobIn mem) t → y ≡ greatest (map (sent rooms mem) (outgoing (jobIn mem) t)) → Filling rooms order d (set mem (levelAt rooms + t) (x + y)) (i - 1)
 
--- The first cell of the edges.
-abbrev edgesFrom : List ℕ → ℕ
-edgesFrom mem = 4 + (nth mem 0 + nth mem 1) * (nth mem 1 + 1)
-
-module _ {rooms : ℕ} {mem : List ℕ} (held : JobHeld rooms mem) where
-  -- The cells of the edges.
-  abbrev part : List ℕ
-  part = take (edgesFrom mem + nth mem 2 - edgesFrom mem) (drop (edgesFrom mem) mem)
-
-  length-part : length part ≡ nth mem 2
-  length-part =
-      let w = sizes held in
-      let a = edgesFrom mem in
-      let e : edgesFrom mem + nth mem 2 - a ≡ nth mem 2 = omega arith in
-      rw e (part-length mem a (nth mem 2) (omega arith))
-
-  -- They hold the job's edges.
-  edges-part : map edgeIn part ≡ jobIn mem .edges
-  edges-part =
-      let n = nth mem 2 in
-      let a = edgesFrom mem in
-      let e : edgesFrom mem + n - a ≡ n = omega arith in
-      let cells : map (λ i. nth mem (a + i)) (below n) ≡ part =
-      members (λ i. nth mem (a + i)) 0 n part length-part (λ i h. rw e (sym (part-nth mem a n i h))) in
-      ap (map edgeIn) (sym cells) ∙ map-map edgeIn (λ i. nth mem (a + i)) (below n) ∙ sym (edges-in mem)
-
-  edges-within : Within (nth mem 0) (map edgeIn part)
-  edges-within = rw edges-part (λ e i. (rw (← tasks-in mem) (held .facts .from-task e i), to-in held e i))
-
-  -- An order made of them has all tasks.
-  order-all : {order : List ℕ} {n : ℕ} → Arranged (nth mem 0) (map edgeIn part) order n → Arranged (nth mem 0) (jobIn mem .edges) order (nth mem 0)
-  order-all {order} {n} a =
-      let b : Arranged (nth mem 0) (jobIn mem .edges) order n = rw edges-part at a in
-      let e : n ≡ nth mem 0 = arranged-all (jobIn mem) (held .facts .no-circle) {order = order} {n = n} (rw (tasks-in mem) b) (held .facts .from-task) ∙ tasks-in mem in
-      rw e at b
-
-  -- The order of the edges that stand from g on.
-  pub order-made : (g n : ℕ) (order : List ℕ) → g ≡ edgeAt mem 0
-      → ArrangedIf (sortable (nth mem 0) (take (g + nth mem 2 - g) (drop g mem))) (nth mem 0) (take (g + nth mem 2 - g) (drop g mem)) order n
-      → Arranged (nth mem 0) (jobIn mem .edges) order (nth mem 0)
-  order-made g n order e a =
-      let s = sizes held in
-      let q : g ≡ edgesFrom mem = omega (arith, e) in
-      let b : sortable (nth mem 0) part ≡ true = sortable-made (nth mem 0) part (s .tasks-most .0) (omega (arith, length-part, s .edges-most)) edges-within in
-      order-all {order = order} {n = n} (rw b at (rw q at a))
+pub filling-step : {rooms : ℕ} {order d mem links : List ℕ} → JobHeld rooms d → LinksHeld d links → Arranged (nth d 0) (jobIn d .edges) order (nth d 0)
+    → (i t : ℕ) → 0 < i → i ≤ nth d 0 → Filling rooms order d mem i → t ≡ nth order (i - 1) → FillStep rooms order d mem links i t
+filling-step h s a i t l g f e =
+    rw e
+    (record {
+      held = filling-held h a f;
+      linked = links-kept h (f .kept) (omega arith) s;
+      task = filling-task h a f l g;
+      below = filling-below h a f l g;
+      run = filling-run h a f l g;
+      levels = filling-most h a f l g;
+      job = filling-job h a f;
+      more = λ x y p q. filling-more h a f l g (x + y) (omega (arith, p, q));
+    })

@@ -5,14 +5,13 @@ pub mod ClockLaws
 pub mod DrawLaws
 pub mod Drawing
 pub mod EndLaws
-pub mod FarLaws
 pub mod FirstLaws
 pub mod FreeLaws
 pub mod JudgeLaws
 pub mod LevelLaws
-pub mod LineByLine
 pub mod Longest
 pub mod NextLine
+pub mod Outcomes
 pub mod OutsetLaws
 pub mod Placed
 pub mod PlanAnswer

@@ -20,25 +20,27 @@ use Rattle.definitions.specs.Planner.{tickOf, largestDelay, scale, topLevel, tr
 use Rattle.definitions.proofs.Lists.{both, both-true, in-map, in-keep, map-same, map-keep, in-below}
 use Rattle.definitions.proofs.Tasks.{in-incoming}
 use Rattle.definitions.proofs.Chosen.{chosen-count, chosen-below, chosen-distinct}
-use Rattle.heads.specs.Layout.{memorySize, jobSize, inHeadAt, inNextAt, levelAt, lineAt, blockedAt, priorityAt, rowAt, farAt, processorAt, earlyAt, lateAt}
+use Rattle.heads.specs.Layout.{memorySize, jobSize, levelAt, lineAt, blockedAt, priorityAt, rowAt, farAt, processorAt, earlyAt, lateAt}
 use Rattle.jobs.specs.Held.{jobIn}
 use Rattle.ticks.specs.Cells.{timeIn}
-use Rattle.plans.specs.Lines.{rowOutcomes, placedIn, rowReplicas, linesIn, RowHeld, Standing}
+use Rattle.plans.specs.Lines.{rowEnd, replicaIn, rowOutcomes, placedIn, rowReplicas, linesIn, RowHeld, Standing}
 use Rattle.rounds.specs.Schedule.{choiceOf, FedIn, topIn, lineTicks}
 use Rattle.lists.specs.Kept.{KeptOutside}
 use Rattle.rounds.specs.Arrivals.{BothFinish}
 use Rattle.ticks.specs.declared.clocks.Clocks.{Clocks}
-use Rattle.rounds.specs.Planning.{isFree, freeIn, bestOf, waitingIn, earliesIn, latesIn, finishOn, replicaOn, ClocksHeld, Taken, boxesFor, Drawn, Ranked, Tried, Begun}
+use Rattle.rounds.specs.Planning.{isFree, freeIn, bestOf, waitingIn, replicaOn, Taken, boxesFor, Drawn, Ranked, Tried, Begun}
+use Rattle.rounds.specs.Clocks.{earliesIn, latesIn, finishOn, ClocksHeld}
 use Rattle.lists.proofs.Counting.{last-or-before}
-use Rattle.jobs.proofs.Held.{tasks-in, processors-in, Sizes, sizes, job-same, held-same, chained-same, linked-out-same}
+use Rattle.jobs.proofs.Held.{tasks-in, processors-in, Sizes, sizes, job-same, held-same}
 use Rattle.lists.proofs.Kept.{Same, same-part, kept-set, kept-wider}
 use Rattle.plans.proofs.Lines.{placed-same, lines-same, row-held-same}
 use Rattle.rounds.proofs.Tables.{levels-same, far-same}
 use Rattle.rounds.proofs.TimeLaws.{time-tick}
 use Rattle.rounds.proofs.Placed.{ofTask-append, row-none, fed-all, level-placed}
 use Rattle.lists.proofs.ListLaws.{keep-same, keep-keep}
-use Rattle.rounds.proofs.DrawLaws.{keep-swap, count-split, count-reverse, place-turn, outcomeOn, walk-apart, replicas-map, Comes, tick-back, tick-most}
-use Rattle.rounds.proofs.Drawing.{free-ranked, replicaAt, in-replicas, outcomeOf, outcomes-row, finish-at, finish-comes, waitingAt, waiting-map, free-fed, top-here, lines-left, rest-here, task-below, task-waits, task-fed}
+use Rattle.rounds.proofs.DrawLaws.{keep-swap, count-split, count-reverse, place-turn, replicas-map}
+use Rattle.rounds.proofs.Drawing.{free-ranked, finish-comes, waitingAt, waiting-map, free-fed, top-here, lines-left, rest-here, task-below, task-waits, task-fed}
+use Rattle.rounds.proofs.Outcomes.{Comes, finish-at, in-replicas, outcomeOf, outcomeOn, outcomes-row, tick-back, tick-most, walk-apart}
 
 -- The replicas of a line do not speak of its first cell.
 row-replicas : (d e : List ℕ) (a c : ℕ) → ((i : ℕ) → a < i → nth e i ≡ nth d i) → rowReplicas a c e ≡ rowReplicas a c d
@@ -164,9 +166,9 @@ module _ {rooms k : ℕ} {d : List ℕ} (s : Drawn rooms k d) (h : k < nth d 0) 
     old-task i l = old-rows .cell (rowAt rooms i) (omega arith) (omega arith)
 
     -- What the new line's cells hold.
-    new-cells : (c : ℕ) → c < nth d 3 + 1 → (p : ℕ) × (p < nth d 1) × (replicaOn rooms k d t p ≡ replicaAt (rowAt rooms k) c e)
+    new-cells : (c : ℕ) → c < nth d 3 + 1 → (p : ℕ) × (p < nth d 1) × (replicaOn rooms k d t p ≡ replicaIn (rowAt rooms k) c e)
     new-cells c l =
-        let (p, i, q) = in-map (replicaOn rooms k d t) (replicaAt (rowAt rooms k) c e) (boxesFor rooms k t d) (rw (← x .replicas) (in-replicas (rowAt rooms k) (nth d 3 + 1) c e l)) in
+        let (p, i, q) = in-map (replicaOn rooms k d t) (replicaIn (rowAt rooms k) c e) (boxesFor rooms k t d) (rw (← x .replicas) (in-replicas (rowAt rooms k) (nth d 3 + 1) c e l)) in
         (p, box-below p i, q)
 
     new-box : (c : ℕ) → c < nth d 3 + 1 → nth e (processorAt (rowAt rooms k) c) < nth d 1
@@ -207,19 +209,16 @@ module _ {rooms k : ℕ} {d : List ℕ} (s : Drawn rooms k d) (h : k < nth d 0) 
     standing-next : Standing rooms (suc k) e
     standing-next =
         let st = s .standing in
-        let heads : Same 0 (levelAt rooms) d e = same-part 0 (levelAt rooms) before-lines (omega arith) (omega arith) in
         let old : (i : ℕ) → i < k → nth d (rowAt rooms i) ≡ t → ⊥ = λ i l f. let g = st .line-of i l in let z : nth d (lineAt rooms + t) ≡ suc i = rw f at g in omega (arith, waits) in
         let m : nth d 0 ≤ 8 * rooms = w .tasks-most .1 in
         record {
           job = held-same (st .job) (x .size) job-cells;
-          linked = rw job-laid (chained-same w job-cells (same-part (inHeadAt rooms) (inHeadAt rooms + nth d 0) heads (omega arith) (omega arith))
-              (same-part (inNextAt rooms) (inNextAt rooms + nth d 2) heads (omega arith) (omega (arith, w .edges-most))) (st .linked));
           count = rw tasks-same (omega arith);
           task-of = λ i l. rw tasks-same (⊎-elim (λ (q : i ≡ k). rw (q, x .task) low) (λ q. rw (old-task i q) (st .task-of i q)) (last-or-before k i l));
           line-of = λ i l. ⊎-elim (λ (q : i ≡ k). rw (q, x .task) (x .line)) (λ q. rw (old-task i q, line-other (nth d (rowAt rooms i)) (st .task-of i q) (old i q)) (st .line-of i q)) (last-or-before k i l);
           placed = λ u l. let g : u < nth d 0 = rw tasks-same at l in has-line u g (eqb u t) refl (st .placed u g);
           row = λ i l. ⊎-elim (λ (q : i ≡ k). rw q new-row) (λ q. row-held-same (rowAt rooms i) w (same-part 0 4 before-lines (omega arith) (omega arith))
-              (same-part (rowAt rooms i) (rowAt rooms i + 25) old-rows (omega arith) (omega arith)) (st .row i q)) (last-or-before k i l);
+              (same-part (rowAt rooms i) (rowEnd (rowAt rooms i)) old-rows (omega arith) (omega arith)) (st .row i q)) (last-or-before k i l);
         }
 
     -- The outcomes of the line, and of all lines with it --------------------------------------------------------------
@@ -308,7 +307,6 @@ module _ {rooms k : ℕ} {d : List ℕ} (s : Drawn rooms k d) (h : k < nth d 0) 
         rw (add-one k)
         (record {
           standing = standing-next;
-          linked = linked-out-same job (same-part 0 (levelAt rooms) before-lines (omega arith) (omega arith)) (s .linked);
           far = far-same job job-cells far-table (s .far);
           levels = levels-same job job-cells (same-part (levelAt rooms) (lineAt rooms) before-lines (omega arith) (omega arith)) (s .levels);
           ticks = λ i c l m.

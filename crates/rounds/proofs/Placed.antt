@@ -8,8 +8,8 @@ use native.Mathlib.Omega.{arith}
 use borrow.Author.Tests.{eq-eqb, ne-eqb, lt-ltb, le-ltb}
 use lib.Dec.{eqb, ltb}
 use Rattle.definitions.specs.Lists.{if_then_else_, nth, keep, has, In}
-use Rattle.definitions.specs.Job.{Edge, incoming}
-use Rattle.definitions.specs.Times.{later, after, least, largest, Outcome, ofTask, ready, arrival, dataReady, start}
+use Rattle.definitions.specs.Job.{Edge, Job, incoming}
+use Rattle.definitions.specs.Times.{later, after, least, largest, Outcome, ofTask, ready, feeding, arrival, dataReady, start}
 use Rattle.definitions.specs.Planner.{tickOf, largestDelay, scale, topLevel}
 use Rattle.definitions.proofs.Lists.{map-same, in-append, append-left, append-right, in-has, has-not}
 use Rattle.definitions.proofs.Tasks.{in-incoming}
@@ -34,10 +34,14 @@ ofTask-append u (x ∷ xs) ys = by (eqb (x .task) u) (ofTask-append u xs ys)
 
 module _ (late : Bool) (mem : List ℕ) (u : ℕ) where
   -- A line is of one task.
-  pub row-all : (a c : ℕ) → nth mem a ≡ u → ofTask u (rowOutcomes late a c mem) ≡ rowOutcomes late a c mem
+  row-all : (a c : ℕ) → nth mem a ≡ u → ofTask u (rowOutcomes late a c mem) ≡ rowOutcomes late a c mem
   unfolding ofTask keep rowOutcomes
   row-all a zero e = refl
   row-all a (suc c) e = rw (eq-eqb (nth mem a) u e, row-all a c e)
+
+  -- All replicas of its line feed a successor.
+  pub feeding-row : (j : Job) (p a c : ℕ) → nth mem a ≡ u → feeding j u p (rowOutcomes late a c mem) ≡ rowOutcomes late a c mem
+  feeding-row j p = row-all
 
   pub row-none : (a c : ℕ) → (nth mem a ≡ u → ⊥) → ofTask u (rowOutcomes late a c mem) ≡ []
   unfolding ofTask keep rowOutcomes
@@ -172,7 +176,7 @@ module _ {rooms n : ℕ} {mem : List ℕ} (s : Standing rooms n mem) where
     below-tasks : (e : Edge) → In e (incoming (jobIn mem) t) → e .from < nth mem 0
     below-tasks e i = rw (tasks-in mem) at (s .job .facts .from-task e (in-incoming (jobIn mem) t e i .0))
 
-    -- The outcomes of a predecessor are those of its line.
+    -- The outcomes of a predecessor are those of its line, and all of them feed t.
     pub feeding-line : (late : Bool) (e : Edge) → In e (incoming (jobIn mem) t)
         → ofTask (e .from) (placedIn rooms late (nth mem 3 + 1) k mem) ≡ rowOutcomes late (rowOf rooms (e .from) mem) (nth mem 3 + 1) mem
     feeding-line late e i = let (l, g) = f e i in placed-rowOf late (nth mem 3 + 1) k a (e .from) (below-tasks e i) l g
@@ -182,7 +186,7 @@ module _ {rooms n : ℕ} {mem : List ℕ} (s : Standing rooms n mem) where
     data-placed late p =
         ap largest
         (map-same (λ e. arrivalIn late (e .volume) p (rowOf rooms (e .from) mem) mem) (arrival (jobIn mem) (choiceOf late) (placedIn rooms late (nth mem 3 + 1) k mem) p)
-        (incoming (jobIn mem) t) (λ e i. rw (feeding-line late e i)))
+        (incoming (jobIn mem) t) (λ e i. rw (feeding-line late e i, feeding-row late mem _ (jobIn mem) p (rowOf rooms (e .from) mem) (nth mem 3 + 1) refl)))
 
     pub start-placed : (late : Bool) (p : ℕ) → start (jobIn mem) (choiceOf late) (placedIn rooms late (nth mem 3 + 1) k mem) t p ≡ later
         (ready (jobIn mem) p (placedIn rooms late (nth mem 3 + 1) k mem)) (dataIn rooms late t p mem)

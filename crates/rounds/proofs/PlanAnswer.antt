@@ -21,22 +21,21 @@ use Rattle.definitions.proofs.Placing.{placed-apart, placed-agrees, placed-ends
 use Rattle.definitions.proofs.Claims.{own-facts, own-fits, roomy01}
 use Rattle.lists.specs.Over.{over}
 use Rattle.text.specs.declared.Step.the-variants.{Next, Refused}
-use Rattle.heads.specs.Layout.{memorySize, inHeadAt, bestAt, worstAt, rowAt}
+use Rattle.heads.specs.Layout.{memorySize, levelAt, bestAt, worstAt, rowAt}
 use Rattle.jobs.specs.Answers.{Answered}
 use Rattle.jobs.specs.Loading.{JobLoaded}
-use Rattle.jobs.specs.Held.{jobIn, LinkedOut, JobHeld}
+use Rattle.jobs.specs.Held.{jobIn, JobHeld, LinksHeld}
 use Rattle.ticks.specs.Cells.{timeIn}
 use Rattle.plans.specs.Lines.{placedIn, linesIn, Standing}
 use Rattle.rounds.specs.Schedule.{choiceOf}
 use Rattle.lists.specs.Kept.{KeptOutside}
 use Rattle.rounds.specs.Planning.{Drawn}
-use Rattle.plans.specs.Loading.{planIn}
-use Rattle.plans.specs.Loading.{PlanHeld}
+use Rattle.plans.specs.Loading.{planIn, PlanHeld}
 use Rattle.rounds.specs.Tools.{planOf}
 use Rattle.jobs.specs.declared.Answer.{Answer}
 use Rattle.jobs.specs.declared.Answer.the-variants.{Done, Refusal}
 use Rattle.lists.proofs.Counting.{equal-or-not}
-use Rattle.jobs.proofs.Held.{sizes, job-kept}
+use Rattle.jobs.proofs.Held.{links-kept, sizes, job-kept}
 use Rattle.plans.proofs.Lines.{placed-same, lines-same, standing-choice}
 use Rattle.lists.proofs.Kept.{same-behind, kept-all, kept-set}
 use Rattle.jobs.proofs.Loads.{loaded-job, refused-job}
@@ -133,7 +132,7 @@ module _ {rooms : ℕ} {mem : List ℕ} (s : Standing rooms (nth mem 0) mem) (e 
     ended-text = rw (ended-whole, whole-job, whole-plan)
 
 -- The plan of the job in d was drawn up, and then M* and M were stored.
-module _ {rooms : ℕ} {d mem : List ℕ} (h : JobHeld rooms d) (k : KeptOutside (inHeadAt rooms) (memorySize rooms) d mem) (w : Drawn rooms (nth d 0) mem) where
+module _ {rooms : ℕ} {d mem : List ℕ} (h : JobHeld rooms d) (k : KeptOutside (levelAt rooms) (memorySize rooms) d mem) (w : Drawn rooms (nth d 0) mem) where
   drawn-all : Drawn rooms (nth mem 0) mem
   drawn-all = rw (k .before 0 (omega arith)) w
 
@@ -141,8 +140,8 @@ module _ {rooms : ℕ} {d mem : List ℕ} (h : JobHeld rooms d) (k : KeptOutside
   unfolding jobIn
   own-lines = drawn-lines drawn-all
 
-  pub ends-asked : Standing rooms (nth mem 0) mem × LinkedOut rooms mem
-  ends-asked = (drawn-all .standing, drawn-all .linked)
+  pub ends-asked : {links : List ℕ} → LinksHeld d links → Standing rooms (nth mem 0) mem × LinksHeld mem links
+  ends-asked l = (drawn-all .standing, links-kept h k (omega arith) l)
 
   module _ (x y : ℕ) (f : timeIn x ≡ end (jobIn mem) (choiceOf false) (placedIn rooms false (nth mem 3 + 1) (nth mem 0) mem))
       (g : timeIn y ≡ end (jobIn mem) (choiceOf true) (placedIn rooms true (nth mem 3 + 1) (nth mem 0) mem)) where
@@ -171,9 +170,9 @@ module _ {rooms : ℕ} {d mem : List ℕ} (h : JobHeld rooms d) (k : KeptOutside
           (ap good (q ∙ ap length text-is), o ∙ ap (over out 0) text-is)
 
 -- The job's text was refused, or loaded.
-pub plan-no : (rooms : ℕ) (x : Result Job) (mem d : List ℕ) (n : ℕ) → JobLoaded rooms x mem (Refused n) → Answered (planOf x (length d)) d d (Refusal n)
-plan-no rooms x mem d n h = rw (refused-job rooms x mem n h) (refl, refl)
+pub plan-no : (rooms : ℕ) (x : Result Job) (mem links d : List ℕ) (n : ℕ) → JobLoaded rooms x mem links (Refused n) → Answered (planOf x (length d)) d d (Refusal n)
+plan-no rooms x mem links d n h = rw (refused-job rooms x mem links n h) (refl, refl)
 
-pub plan-put : (rooms : ℕ) (x : Result Job) (mem d : List ℕ) (n : ℕ) → JobLoaded rooms x mem (Next n) → (e : List ℕ) (r : Answer)
+pub plan-put : (rooms : ℕ) (x : Result Job) (mem links d : List ℕ) (n : ℕ) → JobLoaded rooms x mem links (Next n) → (e : List ℕ) (r : Answer)
     → Answered (fitting (length d) (planned document01 (jobIn mem))) d e r → Answered (planOf x (length d)) d e r
-plan-put rooms x mem d n h e r a = rw (loaded-job rooms x mem n h .0) a
+plan-put rooms x mem links d n h e r a = rw (loaded-job rooms x mem links n h .0) a

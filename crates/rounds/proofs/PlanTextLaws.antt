@@ -4,17 +4,16 @@ use mathlib.Core.List.{List, [], _∷_, _++_, append-assoc, append-nil}
 use Prim.Native.Nat.{ℕ, zero, suc, _+_, _*_, _-_, _%_, _^_, _<_, _≤_}
 use native.Mathlib.Omega.{arith}
 use native.Mathlib.Numerals.{add-one}
-use lib.ListN.{length, take, drop, length-append, length-take, length-drop}
+use lib.ListN.{length, take, drop, length-take, length-drop}
 use lib.Seq.{drop-cons, getD-drop, take-suc}
 use Rattle.definitions.specs.Lists.{bytes, nth}
 use Rattle.definitions.specs.Limits.{document01}
 use Rattle.definitions.specs.Text.{lineText}
 use Rattle.definitions.specs.Plan.{Replica, Line, replicaNumbers, planLinesText, planText}
-use Rattle.lists.specs.Over.{over}
-use Rattle.lists.proofs.Over.{length-over, over-then}
-use Rattle.text.specs.Told.{written, placeAfter}
-use Rattle.text.proofs.Writing.{front-whole}
+use Rattle.text.specs.Told.{written}
+use Rattle.printing.specs.Rendered.{Rendered}
 use Rattle.printing.proofs.WriteLaws.{few-counted}
+use Rattle.printing.proofs.Rendering.{rendered-none, rendered-more}
 use Rattle.heads.specs.Layout.{rowAt, processorAt, earlyAt, lateAt}
 use Rattle.jobs.specs.Held.{jobIn}
 use Rattle.jobs.proofs.Held.{Sizes}
@@ -64,11 +63,11 @@ module _ {rooms : ℕ} {mem : List ℕ} (s : Sizes rooms mem) where
   pub row-few : 4 + 3 * nth mem 3 ≤ 25
   row-few = omega (arith, s .losses-most)
 
-  pub rows-none : rowLines rooms 0 mem ≡ []
+  rows-none : rowLines rooms 0 mem ≡ []
   unfolding rowLines linesIn planLinesText
   rows-none = refl
 
-  pub rows-next : (k : ℕ) → k < nth mem 0 → rowLines rooms (k + 1) mem ≡ rowLines rooms k mem ++ rowLine rooms k mem
+  rows-next : (k : ℕ) → k < nth mem 0 → rowLines rooms (k + 1) mem ≡ rowLines rooms k mem ++ rowLine rooms k mem
   unfolding rowLines rowLine linesIn
   rows-next k h =
       let n : 1 + 3 * (nth mem 3 + 1) ≡ 4 + 3 * nth mem 3 = omega arith in
@@ -87,41 +86,26 @@ pub row-counted : {rooms : ℕ} {mem : List ℕ} → Sizes rooms mem → (k r : 
     → (r ≡ length (rowLine rooms k mem)) × (r ≤ 277)
 row-counted {rooms} {mem} s k r e =
     let m : length (rowPart rooms k mem) ≤ 25 = omega (arith, length-take (rowAt rooms k + (4 + 3 * nth mem 3) - rowAt rooms k) (drop (rowAt rooms k) mem), row-few s) in
-    let (f, g) = few-counted (bytes "T,") (rowPart rooms k mem) 25 r m (omega arith) e in
+    let (f, g) = few-counted document01 (omega arith) (bytes "T,") (rowPart rooms k mem) 277 r (omega (arith, m)) (omega arith) e in
     (f ∙ ap length (row-part rooms k mem), g)
 
-pub head-counted : (rooms : ℕ) (mem vals : List ℕ) (r : ℕ) → vals ≡ headIn rooms mem → r ≡ length (lineText document01 (bytes "PLAN,") vals) % 2 ^ 64
-    → (r ≡ length (headLine rooms mem)) × (r ≤ 60)
-unfolding headLine
-head-counted rooms mem vals r q e = few-counted (bytes "PLAN,") (headIn rooms mem) 5 r (omega arith) (omega arith) (rw q at e)
+-- The plan's head and its first k rows.
+abbrev pub rowsAfterHead : ℕ → ℕ → List ℕ → List ℕ
+rowsAfterHead rooms k mem = headLine rooms mem ++ rowLines rooms k mem
 
--- The head, as it is passed.
-pub head-part : (rooms : ℕ) (mem vals : List ℕ) → vals ≡ headIn rooms mem → lineText document01 (bytes "PLAN,") vals ≡ headLine rooms mem
-unfolding headLine
-head-part rooms mem vals q = rw q
+module _ {rooms : ℕ} {mem : List ℕ} (s : Sizes rooms mem) where
+  -- The head was rendered.
+  pub head-rendered : (vals d e : List ℕ) (n : ℕ) → vals ≡ headIn rooms mem → n ≡ length (lineText document01 (bytes "PLAN,") vals) % 2 ^ 64
+      → e ≡ written d 0 (lineText document01 (bytes "PLAN,") vals) → (n ≤ 60) × Rendered (rowsAfterHead rooms 0 mem) d e n
+  unfolding headLine
+  head-rendered vals d e n q f g =
+      let (l, m) = few-counted document01 (omega arith) (bytes "PLAN,") (headIn rooms mem) 60 n (omega arith) (omega arith) (rw q at f) in
+      (m, rw (rows-none s, append-nil (headLine rooms mem)) (rendered-more (rendered-none d) (headLine rooms mem) e n (omega (arith, l)) (rw q at g)))
 
-module _ (rooms : ℕ) (mem : List ℕ) where
-  pub plan-text : planText document01 (jobIn mem) (planIn rooms mem) ≡ headLine rooms mem ++ rowLines rooms (nth mem 0) mem
-  unfolding headLine rowLines planText jobIn planIn
-  plan-text = refl
+  -- One row more.
+  pub rows-more : (k : ℕ) → k < nth mem 0 → rowsAfterHead rooms (k + 1) mem ≡ rowsAfterHead rooms k mem ++ rowLine rooms k mem
+  rows-more k h = rw (rows-next s k h) (sym (append-assoc (headLine rooms mem) (rowLines rooms k mem) (rowLine rooms k mem)))
 
-  pub plan-size : length (planText document01 (jobIn mem) (planIn rooms mem)) ≡ length (headLine rooms mem) + length (rowLines rooms (nth mem 0) mem)
-  plan-size = ap length plan-text ∙ length-append (headLine rooms mem) (rowLines rooms (nth mem 0) mem)
-
-  -- The head was written over d, then the rows behind it.
-  module _ (d x : List ℕ) (p : ℕ) (h : length (planText document01 (jobIn mem) (planIn rooms mem)) ≤ length d) (e : p ≡ placeAfter d 0 (headLine rooms mem)) (f : x ≡ written d 0 (headLine rooms mem)) where
-    head-fits : length (headLine rooms mem) ≤ length d
-    head-fits = omega (arith, plan-size, h)
-
-    head-is : (p ≡ length (headLine rooms mem)) × (x ≡ over d 0 (headLine rooms mem))
-    head-is = front-whole d (headLine rooms mem) head-fits p x e f
-
-    pub rows-room : p + length (rowLines rooms (nth mem 0) mem) ≤ length x
-    rows-room = omega (arith, head-is .0, plan-size, h, ap length (head-is .1), length-over d 0 (headLine rooms mem) (omega (arith, head-fits)))
-
-    pub plan-place : (q : ℕ) → q ≡ p + length (rowLines rooms (nth mem 0) mem) → q ≡ length (planText document01 (jobIn mem) (planIn rooms mem))
-    plan-place q g = omega (arith, g, head-is .0, plan-size)
-
-    pub plan-whole : (y : List ℕ) → y ≡ over x p (rowLines rooms (nth mem 0) mem) → y ≡ over d 0 (planText document01 (jobIn mem) (planIn rooms mem))
-    plan-whole y g =
-        over-then d x y 0 (headLine rooms mem) (rowLines rooms (nth mem 0) mem) p (head-is .1) g (omega (arith, head-is .0)) (omega (arith, head-fits)) ∙ ap (over d 0) (sym plan-text)
+pub plan-text : (rooms : ℕ) (mem : List ℕ) → planText document01 (jobIn mem) (planIn rooms mem) ≡ rowsAfterHead rooms (nth mem 0) mem
+unfolding headLine rowLines planText jobIn planIn
+plan-text rooms mem = refl

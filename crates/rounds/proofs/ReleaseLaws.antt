@@ -1,8 +1,8 @@
 -- The edges that leave a placed task no longer block, one by one.
 use mathlib.Core.Path.{_≡_, refl, ap, _∙_, sym}
-use mathlib.Core.List.{List, [], _∷_, reverse}
+use mathlib.Core.List.{List, [], _∷_}
 use mathlib.Core.Bool.{Bool, true, false}
-use Prim.Native.Nat.{ℕ, suc, _+_, _*_, _-_, _/_, _%_, _<_, _≤_}
+use Prim.Native.Nat.{ℕ, suc, _+_, _*_, _-_, _<_, _≤_}
 use native.Mathlib.Omega.{arith}
 use borrow.Author.Tests.{eqb-true, eqb-false, eq-eqb}
 use lib.Dec.{eqb}
@@ -14,33 +14,34 @@ use Rattle.definitions.specs.Job.{Edge, incoming, outgoing}
 use Rattle.definitions.specs.Planner.{tickOf, scale, topLevel}
 use Rattle.definitions.proofs.Lists.{both, both-true}
 use Rattle.definitions.proofs.Tasks.{in-incoming}
-use Rattle.heads.specs.Layout.{memorySize, outHeadAt, outNextAt, levelAt, lineAt, blockedAt, priorityAt, rowAt, earlyAt}
+use Rattle.heads.specs.Layout.{memorySize, levelAt, lineAt, blockedAt, priorityAt, rowAt, earlyAt}
 use Rattle.orders.specs.Edges.{edgeIn}
-use Rattle.jobs.specs.Held.{edgeAt, jobIn, chain, JobHeld}
+use Rattle.orders.proofs.Walk.{passed, pass-more, Passed, pass-at, pass-back}
+use Rattle.jobs.specs.Held.{edgeAt, jobIn, JobHeld, LinksHeld}
 use Rattle.rounds.specs.Schedule.{topIn, FedIn, FarFilled}
 use Rattle.lists.specs.Kept.{KeptOutside}
 use Rattle.plans.specs.Lines.{Standing}
-use Rattle.rounds.specs.Walks.{edgeOf, LeavesAt, Left}
-use Rattle.rounds.specs.Planning.{earliesIn, FreeList, PutIn, Drawn, Ranked, blocking, entries, Releasing}
+use Rattle.rounds.specs.Planning.{FreeList, PutIn, Drawn, Ranked, blocking, entries, Releasing, Unblocks}
+use Rattle.rounds.specs.Clocks.{earliesIn}
 use Rattle.rounds.specs.Levels.{levelMost}
-use Rattle.jobs.proofs.Held.{tasks-in, to-below, edge-below, Sizes, sizes, job-kept, held-kept, chain-step, chain-end}
+use Rattle.jobs.proofs.Held.{tasks-in, Sizes, sizes, job-kept, held-kept, links-kept}
 use Rattle.lists.proofs.Kept.{same-behind, kept-all, kept-set}
 use Rattle.plans.proofs.Lines.{placed-same}
-use Rattle.rounds.proofs.LevelLaws.{level-most}
+use Rattle.rounds.proofs.LevelLaws.{level-most, leaves-to}
 use Rattle.lists.proofs.ListLaws.{keep-same}
 use Rattle.rounds.proofs.FreeLaws.{Recounted, free-few, free-in, free-same}
-use Rattle.rounds.proofs.Drawing.{drawn-choice, top-here, fed-none, short-most}
+use Rattle.rounds.proofs.Drawing.{drawn-choice, top-here, fed-none}
+use Rattle.rounds.proofs.Outcomes.{short-most}
 
 module _ {rooms n : ℕ} {d : List ℕ} (s : Drawn rooms n d) where
   w : Sizes rooms d
   w = sizes (s .standing .job)
 
-  pub release-first : (t : ℕ) → t < nth d 0 → Ranked rooms (reverse (outgoing (jobIn d) t)) d → Releasing rooms n (nth d (outHeadAt rooms + t)) d d
-  release-first t h r =
+  pub release-first : {es : List Edge} → Ranked rooms es d → Releasing rooms n es d d
+  release-first r =
       record {
         kept = kept-all;
-        most = s .linked .head-most t h;
-        blocked = λ u l. rw (s .linked .chains t h) (r .blocked u l);
+        blocked = r .blocked;
         priorities = λ u l z b.
             let f : FedIn rooms u d = fed-none rooms u d (omega (arith, r .blocked u l)) in
             r .priorities u l (both-true (eq-eqb (nth d (lineAt rooms + u)) 0 z) (eq-eqb (nth d (blockedAt rooms + u)) 0 b)) ∙ ap (λ (x : ℕ). x + nth d (levelAt rooms + u)) (top-here s u f);
@@ -69,11 +70,10 @@ module _ {rooms n : ℕ} {d : List ℕ} (s : Drawn rooms n d) where
         top-here (drawn-choice c s (omega arith) (omega arith)) u f
         ∙ rw (job-released, c .before 3 (omega arith), placed-same d e rooms false (nth d 3 + 1) n (omega (arith, w .losses-most)) (same-behind (rowAt rooms 0) (rowAt rooms n) c (omega arith)))
 
-  module _ {k : ℕ} {mem : List ℕ} (r : Releasing rooms n k d mem) where
-    pub release-done : k ≡ 0 → Ranked rooms [] mem
+  module _ {es : List Edge} {mem : List ℕ} (r : Releasing rooms n es d mem) where
+    pub release-done : es ≡ [] → Ranked rooms [] mem
     unfolding keep
-    release-done e =
-        let z : chain (outNextAt rooms) (nth d 2) d k ≡ [] = rw e (chain-end (outNextAt rooms) d (nth d 2)) in
+    release-done z =
         let v : nth mem 0 ≡ nth d 0 = r .kept .before 0 (omega arith) in
         record {
           blocked = λ u l. rw (blocking-same (r .kept) u) (rw z at (r .blocked u (omega arith)));
@@ -92,185 +92,168 @@ module _ {rooms n : ℕ} {d : List ℕ} (s : Drawn rooms n d) where
     pub list-few : {cells : List ℕ} {i : ℕ} → FreeList rooms cells i mem → i ≤ 255
     list-few l = omega (arith, free-few (l .tasks), few-released)
 
-    -- The edge of link k, as it is read.
-    module _ (h : 0 < k) where
-      read-same : nth mem (edgeAt mem (k - 1)) ≡ nth d (edgeAt d (k - 1))
-      read-same =
-          rw (r .kept .before 0 (omega arith), r .kept .before 1 (omega arith))
-          (r .kept .before (edgeAt d (k - 1)) (omega (arith, edge-below w (k - 1) (omega (arith, r .most)))))
+-- The edge at hand, and the task that it enters.
+module _ {rooms n goes : ℕ} {here : Edge} {es : List Edge} {d mem : List ℕ} (v : Unblocks rooms n here es goes d mem) where
+  r : Releasing rooms n (here ∷ es) d mem
+  r = v .releasing
 
-      pub release-leaves : {g : ℕ} → g ≡ edgeAt d 0 → LeavesAt rooms g k mem
-      release-leaves e =
-          record {
-            job = held-kept (s .standing .job) (r .kept) (omega arith);
-            place = rw (r .kept .before 0 (omega arith), r .kept .before 1 (omega arith)) e;
-            some = h;
-            most = rw (r .kept .before 2 (omega arith)) (r .most);
-          }
+  size : Sizes rooms d
+  size = sizes (v .drawn .standing .job)
 
-      pub release-left : {to volume next : ℕ} → Left rooms k mem to volume next → (to ≡ edgeOf k d .to) × (next ≡ nth d (outNextAt rooms + (k - 1)))
-      release-left l =
-          (l .to-of ∙ ap (λ (x : ℕ). x / 256 % 256) read-same, l .next-of ∙ r .kept .before (outNextAt rooms + (k - 1)) (omega (arith, r .most, w .edges-most)))
+  abbrev count : ℕ
+  count = nth mem (blockedAt rooms + goes) - 1
 
-      pub release-falls : nth d (outNextAt rooms + (k - 1)) < k
-      release-falls = omega (arith, s .linked .falls (k - 1) (omega (arith, r .most)))
+  -- The memory with the edge not counted.
+  abbrev lowered : List ℕ
+  lowered = set mem (blockedAt rooms + goes) count
 
-    -- The edge at hand, and the task that it enters.
-    module _ (h : 0 < k) (goes : ℕ) (goes-here : goes ≡ edgeOf k d .to) where
-      abbrev here : Edge
-      here = edgeOf k d
+  few : (nth mem 0 ≤ 255) × (nth mem 0 ≤ 8 * rooms)
+  few = few-released (v .drawn) r
 
-      -- The next link.
-      abbrev next : ℕ
-      next = nth d (outNextAt rooms + (k - 1))
+  goes-below : goes < nth mem 0
+  goes-below = rw (r .kept .before 0 (omega arith)) (v .task)
 
-      abbrev count : ℕ
-      count = nth mem (blockedAt rooms + goes) - 1
+  pub release-within : (goes < 8 * rooms) × (length mem ≡ memorySize rooms)
+  release-within = (omega (arith, goes-below, few), r .kept .size ∙ size .size)
 
-      -- The memory with the edge not counted.
-      abbrev lowered : List ℕ
-      lowered = set mem (blockedAt rooms + goes) count
+  entered : (u : ℕ) → u < nth d 0 → nth mem (blockedAt rooms + u) ≡ blocking rooms d u + (if eqb goes u then suc (entries u es) else entries u es)
+  unfolding keep
+  entered u l = r .blocked u l ∙ rw (v .enters) (ap (λ (x : ℕ). blocking rooms d u + x) (by (eqb (here .to) u)))
+    where
+      by : (b : Bool) → length (if b then here ∷ keep (λ e. eqb (e .to) u) es else keep (λ e. eqb (e .to) u) es) ≡ (if b then suc (entries u es) else entries u es)
+      by true = refl
+      by false = refl
 
-      step : chain (outNextAt rooms) (nth d 2) d k ≡ here ∷ chain (outNextAt rooms) (nth d 2) d next
-      step = chain-step (s .linked) k h (r .most)
+  entered-here : nth mem (blockedAt rooms + goes) ≡ blocking rooms d goes + suc (entries goes es)
+  entered-here = rw (eq-eqb goes goes refl) at (entered goes (v .task))
 
-      within : k - 1 < nth d 2
-      within = omega (arith, r .most)
+  pub release-some : 0 < nth mem (blockedAt rooms + goes)
+  release-some = omega (arith, entered-here)
 
-      release-below : goes < nth d 0
-      release-below = rw goes-here (to-below (s .standing .job) (k - 1) within)
+  lowered-kept : KeptOutside (blockedAt rooms) (rowAt rooms 0) d lowered
+  lowered-kept = let g = v .task in kept-set (blockedAt rooms + goes) count (r .kept) (omega arith) (omega (arith, size .tasks-most))
 
-      goes-below : goes < nth mem 0
-      goes-below = rw (r .kept .before 0 (omega arith)) release-below
+  lowered-here : nth lowered (blockedAt rooms + goes) ≡ count
+  lowered-here = getD-set-same mem (blockedAt rooms + goes) count 0 (omega (arith, v .task, size .tasks-most, release-within .1))
 
-      pub release-within : goes < 8 * rooms
-      release-within = omega (arith, goes-below, few-released)
+  lowered-other : (u : ℕ) → (u ≡ goes → ⊥) → nth lowered (blockedAt rooms + u) ≡ nth mem (blockedAt rooms + u)
+  lowered-other u o = getD-set-other mem (blockedAt rooms + goes) (blockedAt rooms + u) count 0 (λ q. o (omega arith))
 
-      entered : (u : ℕ) → nth mem (blockedAt rooms + u) ≡ blocking rooms d u + entries u (chain (outNextAt rooms) (nth d 2) d k)
-          → nth mem (blockedAt rooms + u) ≡ blocking rooms d u + (if eqb goes u then suc (entries u (chain (outNextAt rooms) (nth d 2) d next)) else entries u (chain (outNextAt rooms) (nth d 2) d next))
-      unfolding keep
-      entered u e = e ∙ rw (step, goes-here) (ap (λ (x : ℕ). blocking rooms d u + x) (by (eqb (here .to) u)))
-        where
-          by : (b : Bool) → length (if b then here ∷ keep (λ e. eqb (e .to) u) (chain (outNextAt rooms) (nth d 2) d next) else keep (λ e. eqb (e .to) u) (chain (outNextAt rooms) (nth d 2) d next))
-              ≡ (if b then suc (entries u (chain (outNextAt rooms) (nth d 2) d next)) else entries u (chain (outNextAt rooms) (nth d 2) d next))
-          by true = refl
-          by false = refl
+  lowered-blocked : (u : ℕ) → u < nth d 0 → nth lowered (blockedAt rooms + u) ≡ blocking rooms d u + entries u es
+  lowered-blocked u l = by (eqb goes u) refl
+    where
+      by : (b : Bool) → eqb goes u ≡ b → nth lowered (blockedAt rooms + u) ≡ blocking rooms d u + entries u es
+      by true f = let q = eqb-true goes u f in rw (← q) (lowered-here ∙ (let e = entered-here in omega arith))
+      by false f = let q = eqb-false goes u f in lowered-other u (λ o. q (sym o)) ∙ rw f at (entered u l)
 
-      entered-here : nth mem (blockedAt rooms + goes) ≡ blocking rooms d goes + suc (entries goes (chain (outNextAt rooms) (nth d 2) d next))
-      entered-here = rw (eq-eqb goes goes refl) at (entered goes (r .blocked goes release-below))
+  -- Only its count changed, whatever its priority is now.
+  lowered-count : Recounted rooms goes mem lowered
+  lowered-count = record {
+    tasks = getD-set-other mem (blockedAt rooms + goes) 0 count 0 (λ q. omega arith);
+    lines = λ x i. getD-set-other mem (blockedAt rooms + goes) (lineAt rooms + x) count 0 (λ q. omega (arith, few));
+    others = λ x i o. lowered-other x o;
+    priorities = λ x i o. getD-set-other mem (blockedAt rooms + goes) (priorityAt rooms + x) count 0 (λ q. omega (arith, goes-below, few));
+  }
 
-      pub release-some : 0 < nth mem (blockedAt rooms + goes)
-      release-some = omega (arith, entered-here)
-
-      lowered-size : length mem ≡ memorySize rooms
-      lowered-size = r .kept .size ∙ w .size
-
-      lowered-kept : KeptOutside (blockedAt rooms) (rowAt rooms 0) d lowered
-      lowered-kept = let g = release-below in kept-set (blockedAt rooms + goes) count (r .kept) (omega arith) (omega (arith, w .tasks-most))
-
-      lowered-here : nth lowered (blockedAt rooms + goes) ≡ count
-      lowered-here = getD-set-same mem (blockedAt rooms + goes) count 0 (omega (arith, release-below, w .tasks-most, lowered-size))
-
-      lowered-other : (u : ℕ) → (u ≡ goes → ⊥) → nth lowered (blockedAt rooms + u) ≡ nth mem (blockedAt rooms + u)
-      lowered-other u o = getD-set-other mem (blockedAt rooms + goes) (blockedAt rooms + u) count 0 (λ q. o (omega arith))
-
-      lowered-blocked : (u : ℕ) → u < nth d 0 → nth lowered (blockedAt rooms + u) ≡ blocking rooms d u + entries u (chain (outNextAt rooms) (nth d 2) d next)
-      lowered-blocked u l = by (eqb goes u) refl
-        where
-          by : (b : Bool) → eqb goes u ≡ b → nth lowered (blockedAt rooms + u) ≡ blocking rooms d u + entries u (chain (outNextAt rooms) (nth d 2) d next)
-          by true f = let q = eqb-true goes u f in rw (← q) (lowered-here ∙ (let e = entered-here in omega arith))
-          by false f = let q = eqb-false goes u f in lowered-other u (λ o. q (sym o)) ∙ rw f at (entered u (r .blocked u l))
-
-      -- Only its count changed, whatever its priority is now.
-      lowered-count : Recounted rooms goes mem lowered
-      lowered-count = record {
-        tasks = getD-set-other mem (blockedAt rooms + goes) 0 count 0 (λ q. omega arith);
-        lines = λ x i. getD-set-other mem (blockedAt rooms + goes) (lineAt rooms + x) count 0 (λ q. omega (arith, few-released));
-        others = λ x i o. lowered-other x o;
-        priorities = λ x i o. getD-set-other mem (blockedAt rooms + goes) (priorityAt rooms + x) count 0 (λ q. omega (arith, goes-below, few-released));
+  ranked-count : (y : ℕ) → Recounted rooms goes mem (set lowered (priorityAt rooms + goes) y)
+  ranked-count y =
+      let most = few in
+      record {
+        tasks = getD-set-other lowered (priorityAt rooms + goes) 0 y 0 (λ q. omega arith) ∙ lowered-count .tasks;
+        lines = λ x i. getD-set-other lowered (priorityAt rooms + goes) (lineAt rooms + x) y 0 (λ q. omega arith) ∙ lowered-count .lines x i;
+        others = λ x i o. getD-set-other lowered (priorityAt rooms + goes) (blockedAt rooms + x) y 0 (λ q. omega arith) ∙ lowered-count .others x i o;
+        priorities = λ x i o. getD-set-other lowered (priorityAt rooms + goes) (priorityAt rooms + x) y 0 (λ q. o (omega arith)) ∙ lowered-count .priorities x i o;
       }
 
-      ranked-count : (y : ℕ) → Recounted rooms goes mem (set lowered (priorityAt rooms + goes) y)
-      ranked-count y =
-          let few = few-released in
-          record {
-            tasks = getD-set-other lowered (priorityAt rooms + goes) 0 y 0 (λ q. omega arith) ∙ lowered-count .tasks;
-            lines = λ x i. getD-set-other lowered (priorityAt rooms + goes) (lineAt rooms + x) y 0 (λ q. omega arith) ∙ lowered-count .lines x i;
-            others = λ x i o. getD-set-other lowered (priorityAt rooms + goes) (blockedAt rooms + x) y 0 (λ q. omega arith) ∙ lowered-count .others x i o;
-            priorities = λ x i o. getD-set-other lowered (priorityAt rooms + goes) (priorityAt rooms + x) y 0 (λ q. o (omega arith)) ∙ lowered-count .priorities x i o;
-          }
+  -- The list of free tasks, when other tasks block it still, and when it is free.
+  pub list-held : {cells : List ℕ} {i : ℕ} → FreeList rooms cells i mem → (count ≡ 0 → ⊥) → FreeList rooms cells i lowered
+  list-held l o = free-same l lowered-count goes-below release-some (rw lowered-here (omega (arith, o)))
 
-      -- The list of free tasks, when other tasks block it still, and when it is free.
-      pub list-held : {cells : List ℕ} {i : ℕ} → FreeList rooms cells i mem → (count ≡ 0 → ⊥) → FreeList rooms cells i lowered
-      list-held l o = free-same l lowered-count goes-below release-some (rw lowered-here (omega (arith, o)))
+  pub list-free : {cells after : List ℕ} {i a : ℕ} → FreeList rooms cells i mem → count ≡ 0 → (y : ℕ) → length after ≡ 256 → PutIn rooms (set lowered (priorityAt rooms + goes) y) goes i a cells after
+      → FreeList rooms after (i + 1) (set lowered (priorityAt rooms + goes) y)
+  list-free l o y z p =
+      free-in l (ranked-count y) goes-below release-some (getD-set-other lowered (priorityAt rooms + goes) (blockedAt rooms + goes) y 0 (λ q. omega (arith, few)) ∙ lowered-here ∙ o) z p
 
-      pub list-free : {cells after : List ℕ} {i a : ℕ} → FreeList rooms cells i mem → count ≡ 0 → (y : ℕ) → length after ≡ 256 → PutIn rooms (set lowered (priorityAt rooms + goes) y) goes i a cells after
-          → FreeList rooms after (i + 1) (set lowered (priorityAt rooms + goes) y)
-      list-free l o y z p =
-          let few = few-released .0 in
-          let b = goes-below in
-          free-in l (ranked-count y) b release-some (getD-set-other lowered (priorityAt rooms + goes) (blockedAt rooms + goes) y 0 (λ q. omega (arith, few-released)) ∙ lowered-here ∙ o) z p
+  -- Other tasks block it still.
+  pub release-held : (count ≡ 0 → ⊥) → Releasing rooms n es d lowered
+  release-held o =
+      record {
+        kept = lowered-kept;
+        blocked = lowered-blocked;
+        priorities = λ u l z b.
+            let other : u ≡ goes → ⊥ = λ q. o (sym lowered-here ∙ ap (λ (x : ℕ). nth lowered (blockedAt rooms + x)) (sym q) ∙ b) in
+            getD-set-other mem (blockedAt rooms + goes) (priorityAt rooms + u) count 0 (λ q. omega (arith, v .task, size .tasks-most)) ∙ r .priorities u l z (sym (lowered-other u other) ∙ b);
+      }
 
-      -- Other tasks block it still.
-      pub release-held : (count ≡ 0 → ⊥) → Releasing rooms n next d lowered
-      release-held o =
-          record {
-            kept = lowered-kept;
-            most = omega (arith, release-falls h, r .most);
-            blocked = lowered-blocked;
-            priorities = λ u l z b.
-                let other : u ≡ goes → ⊥ = λ q. o (sym lowered-here ∙ ap (λ (x : ℕ). nth lowered (blockedAt rooms + x)) (sym q) ∙ b) in
-                getD-set-other mem (blockedAt rooms + goes) (priorityAt rooms + u) count 0 (λ q. omega (arith, release-below, w .tasks-most)) ∙ r .priorities u l z (sym (lowered-other u other) ∙ b);
-          }
+  pub release-links : {links : List ℕ} → LinksHeld mem links → LinksHeld lowered links
+  release-links l =
+      let k : KeptOutside (blockedAt rooms) (rowAt rooms 0) mem lowered = kept-set (blockedAt rooms + goes) count kept-all (omega arith) (omega (arith, release-within)) in
+      links-kept (held-kept (v .drawn .standing .job) (r .kept) (omega arith)) k (omega arith) l
 
-      -- It is free.
-      module _ (o : count ≡ 0) where
-        released : FedIn rooms goes lowered
-        released = fed-released lowered-kept goes (omega (arith, lowered-here, lowered-blocked goes release-below))
+  -- It is free.
+  module _ (o : count ≡ 0) where
+    released : FedIn rooms goes lowered
+    released = fed-released (v .drawn) lowered-kept goes (omega (arith, lowered-here, lowered-blocked goes (v .task)))
 
-        pub release-asks : ((i : ℕ) × Standing rooms i lowered × ((j c : ℕ) → j < i → c < nth lowered 3 + 1 → nth lowered (earlyAt (rowAt rooms j) c) ≤ document01 .tick))
-            × (goes < nth lowered 0) × FedIn rooms goes lowered × FarFilled rooms lowered
-        release-asks =
-            let x = drawn-choice lowered-kept s (omega arith) (omega arith) in
-            ((n, x .standing, λ j c l m. omega (arith, x .ticks j c l m .0, short-most (s .standing) (omega arith) (s .ticks))), rw (lowered-kept .before 0 (omega arith)) release-below, released, x .far)
+    pub release-asks : ((i : ℕ) × Standing rooms i lowered × ((j c : ℕ) → j < i → c < nth lowered 3 + 1 → nth lowered (earlyAt (rowAt rooms j) c) ≤ document01 .tick))
+        × (goes < nth lowered 0) × FedIn rooms goes lowered × FarFilled rooms lowered
+    release-asks =
+        let x = drawn-choice lowered-kept (v .drawn) (omega arith) (omega arith) in
+        ((n, x .standing, λ j c l m. omega (arith, x .ticks j c l m .0, short-most (v .drawn .standing) (omega arith) (v .drawn .ticks))), rw (lowered-kept .before 0 (omega arith)) (v .task), released, x .far)
 
-        pub release-level : nth lowered (levelAt rooms + goes) ≤ levelMost
-        release-level =
-            rw (lowered-kept .before (levelAt rooms + goes) (omega (arith, release-below, w .tasks-most)), s .levels goes release-below) (level-most (s .standing .job) goes)
+    pub release-level : nth lowered (levelAt rooms + goes) ≤ levelMost
+    release-level =
+        rw (lowered-kept .before (levelAt rooms + goes) (omega (arith, v .task, size .tasks-most)), v .drawn .levels goes (v .task)) (level-most (v .drawn .standing .job) goes)
 
-        pub release-free : (x : ℕ) → x ≡ tickOf (topIn rooms goes lowered) * scale (jobIn lowered) → Releasing rooms n next d (set lowered (priorityAt rooms + goes) (x + nth lowered (levelAt rooms + goes)))
-        release-free x e =
-            let g = release-below in
-            let y = x + nth lowered (levelAt rooms + goes) in
-            let z : length lowered ≡ memorySize rooms = length-set mem (blockedAt rooms + goes) count ∙ lowered-size in
-            let blocked-same : (u : ℕ) → u < nth d 0 → nth (set lowered (priorityAt rooms + goes) y) (blockedAt rooms + u) ≡ nth lowered (blockedAt rooms + u) =
-            λ u l. getD-set-other lowered (priorityAt rooms + goes) (blockedAt rooms + u) y 0 (λ q. omega (arith, w .tasks-most)) in
-            record {
-              kept = kept-set (priorityAt rooms + goes) y lowered-kept (omega arith) (omega (arith, w .tasks-most));
-              most = omega (arith, release-falls h, r .most);
-              blocked = λ u l. blocked-same u l ∙ lowered-blocked u l;
-              priorities = λ u l i b. rank u l i (sym (blocked-same u l) ∙ b) (eqb u goes) refl;
-            }
-          where
-            rank : (u : ℕ) → u < nth d 0 → nth d (lineAt rooms + u) ≡ 0 → nth lowered (blockedAt rooms + u) ≡ 0 → (b : Bool) → eqb u goes ≡ b
-                → nth (set lowered (priorityAt rooms + goes) (x + nth lowered (levelAt rooms + goes))) (priorityAt rooms + u) ≡ topLevel (jobIn d) (earliesIn rooms n d) u + nth d (levelAt rooms + u)
-            rank u l i b true f =
-                let q = eqb-true u goes f in
-                rw q
-                (getD-set-same lowered (priorityAt rooms + goes) (x + nth lowered (levelAt rooms + goes)) 0 (omega (arith, release-below, w .tasks-most, length-set mem (blockedAt rooms + goes) count, lowered-size))
-                ∙ rw (lowered-kept .before (levelAt rooms + goes) (omega (arith, release-below, w .tasks-most))) (ap (λ (i : ℕ). i + nth d (levelAt rooms + goes)) (e ∙ top-released lowered-kept goes released)))
-            rank u l i b false f =
-                let q = eqb-false u goes f in
-                getD-set-other lowered (priorityAt rooms + goes) (priorityAt rooms + u) (x + nth lowered (levelAt rooms + goes)) 0 (λ o. q (omega arith))
-                ∙ getD-set-other mem (blockedAt rooms + goes) (priorityAt rooms + u) count 0 (λ o. omega (arith, release-below, w .tasks-most))
-                ∙ r .priorities u l i (sym (lowered-other u q) ∙ b)
+    pub release-free : (x : ℕ) → x ≡ tickOf (topIn rooms goes lowered) * scale (jobIn lowered) → Releasing rooms n es d (set lowered (priorityAt rooms + goes) (x + nth lowered (levelAt rooms + goes)))
+    release-free x e =
+        let g = v .task in
+        let y = x + nth lowered (levelAt rooms + goes) in
+        let z : length lowered ≡ memorySize rooms = length-set mem (blockedAt rooms + goes) count ∙ release-within .1 in
+        let blocked-same : (u : ℕ) → u < nth d 0 → nth (set lowered (priorityAt rooms + goes) y) (blockedAt rooms + u) ≡ nth lowered (blockedAt rooms + u) =
+        λ u l. getD-set-other lowered (priorityAt rooms + goes) (blockedAt rooms + u) y 0 (λ q. omega (arith, size .tasks-most)) in
+        record {
+          kept = kept-set (priorityAt rooms + goes) y lowered-kept (omega arith) (omega (arith, size .tasks-most));
+          blocked = λ u l. blocked-same u l ∙ lowered-blocked u l;
+          priorities = λ u l i b. rank u l i (sym (blocked-same u l) ∙ b) (eqb u goes) refl;
+        }
+      where
+        rank : (u : ℕ) → u < nth d 0 → nth d (lineAt rooms + u) ≡ 0 → nth lowered (blockedAt rooms + u) ≡ 0 → (b : Bool) → eqb u goes ≡ b
+            → nth (set lowered (priorityAt rooms + goes) (x + nth lowered (levelAt rooms + goes))) (priorityAt rooms + u) ≡ topLevel (jobIn d) (earliesIn rooms n d) u + nth d (levelAt rooms + u)
+        rank u l i b true f =
+            let q = eqb-true u goes f in
+            rw q
+            (getD-set-same lowered (priorityAt rooms + goes) (x + nth lowered (levelAt rooms + goes)) 0 (omega (arith, v .task, size .tasks-most, length-set mem (blockedAt rooms + goes) count, release-within .1))
+            ∙ rw (lowered-kept .before (levelAt rooms + goes) (omega (arith, v .task, size .tasks-most))) (ap (λ (i : ℕ). i + nth d (levelAt rooms + goes)) (e ∙ top-released (v .drawn) lowered-kept goes released)))
+        rank u l i b false f =
+            let q = eqb-false u goes f in
+            getD-set-other lowered (priorityAt rooms + goes) (priorityAt rooms + u) (x + nth lowered (levelAt rooms + goes)) 0 (λ o. q (omega arith))
+            ∙ getD-set-other mem (blockedAt rooms + goes) (priorityAt rooms + u) count 0 (λ o. omega (arith, v .task, size .tasks-most))
+            ∙ r .priorities u l i (sym (lowered-other u q) ∙ b)
 
-        -- The list can take it.
-        pub release-puts : {cells : List ℕ} {i : ℕ} → FreeList rooms cells i mem → (x : ℕ) → x ≡ tickOf (topIn rooms goes lowered) * scale (jobIn lowered)
-            → let e = set lowered (priorityAt rooms + goes) (x + nth lowered (levelAt rooms + goes)) in
-            JobHeld rooms e × (length cells ≡ 256) × (i ≤ 255) × (goes < nth e 0) × ((k : ℕ) → k < i → nth cells k < nth e 0)
-        release-puts l x e =
-            let a = release-free x e .kept in
-            let v = a .before 0 (omega arith) in
-            let z = r .kept .before 0 (omega arith) in
-            (drawn-choice a s (omega arith) (omega arith) .standing .job, l .tasks .size, list-few l, rw v release-below, λ k h. rw (v, ← z) (l .tasks .task-of k h))
+    -- The list can take it.
+    pub release-puts : {cells : List ℕ} {i : ℕ} → FreeList rooms cells i mem → (x : ℕ) → x ≡ tickOf (topIn rooms goes lowered) * scale (jobIn lowered)
+        → let e = set lowered (priorityAt rooms + goes) (x + nth lowered (levelAt rooms + goes)) in
+        JobHeld rooms e × (length cells ≡ 256) × (i ≤ 255) × (goes < nth e 0) × ((k : ℕ) → k < i → nth cells k < nth e 0)
+    release-puts l x e =
+        let a = release-free x e .kept in
+        let same = a .before 0 (omega arith) in
+        let z = r .kept .before 0 (omega arith) in
+        (drawn-choice a (v .drawn) (omega arith) (omega arith) .standing .job, l .tasks .size, list-few (v .drawn) r l, rw same (v .task), λ k h. rw (same, ← z) (l .tasks .task-of k h))
+
+-- The way over the edges that leave t, from the last to the first: the edge in cell j is next.
+module _ {rooms n a b k : ℕ} {d mem : List ℕ} (t : ℕ) (s : Drawn rooms n d) (w : Passed a b d (outgoing (jobIn d) t) k) (r : Releasing rooms n (passed a k d) d mem)
+    (m : b ≤ edgeAt d (nth d 2)) (j : ℕ) (h : a ≤ j) (e : k ≡ j + 1) where
+  before : Passed a b d (outgoing (jobIn d) t) j
+  before = pass-back w j h e
+
+  pub release-next : (u : ℕ) → u ≡ edgeIn (nth mem j) .to → Unblocks rooms n (edgeIn (nth d j)) (passed a j d) u d mem
+  release-next u f =
+      let q : nth mem j ≡ nth d j = r .kept .before j (omega (arith, w .most, sizes (s .standing .job) .cells-room)) in
+      let g : u ≡ edgeIn (nth d j) .to = f ∙ ap (λ (x : ℕ). edgeIn x .to) q in
+      record {
+        drawn = s;
+        releasing = rw (pass-more a d j k h e) at r;
+        enters = g;
+        task = rw g (leaves-to (s .standing .job) t (edgeIn (nth d j)) (pass-at before (omega (arith, w .most))));
+      }

@@ -10,7 +10,7 @@ use lib.Dec.{eqb}
 use lib.ListN.{length}
 use Rattle.definitions.specs.Lists.{nth, below, keep, In}
 use Rattle.definitions.specs.Limits.{Limits, document01}
-use Rattle.definitions.specs.Text.{Result, good, bad, andThen}
+use Rattle.definitions.specs.Text.{Result, good, bad}
 use Rattle.definitions.specs.Job.{Job}
 use Rattle.definitions.specs.Plan.{Plan}
 use Rattle.definitions.specs.Stops.{Stop, readStops}
@@ -19,9 +19,8 @@ use Rattle.definitions.specs.Replay.{replay, firstFinish, firstBox, roundEnd, r
 use Rattle.definitions.proofs.Lists.{map-same, in-map, map-in, in-keep, keep-in, in-reverse, reverse-left}
 use Rattle.lists.specs.Over.{over}
 use Rattle.text.specs.declared.Step.the-variants.{Next, Refused}
-use Rattle.heads.specs.Layout.{levelAt}
 use Rattle.jobs.specs.Answers.{Answered}
-use Rattle.jobs.specs.Held.{jobIn, LinkedOut, JobHeld}
+use Rattle.jobs.specs.Held.{jobIn, JobHeld, LinksHeld}
 use Rattle.plans.specs.Lines.{Standing}
 use Rattle.stops.specs.Loading.{stopsFrom, StopsLoaded}
 use Rattle.plans.specs.Loading.{planIn, BothLoaded, PlanHeld}
@@ -29,8 +28,7 @@ use Rattle.rounds.specs.Tools.{replayBoth}
 use Rattle.rounds.specs.Replaying.{StopsIn, outcomesIn, RisingIn, RoundRun, replayIn}
 use Rattle.jobs.specs.declared.Answer.{Answer}
 use Rattle.jobs.specs.declared.Answer.the-variants.{Done, Refusal}
-use Rattle.lists.proofs.Kept.{same-before}
-use Rattle.jobs.proofs.Held.{processors-in, sizes, job-kept, linked-out-same}
+use Rattle.jobs.proofs.Held.{processors-in, sizes, job-kept, links-kept}
 use Rattle.plans.proofs.JobAndPlan.{both-no, both-next}
 use Rattle.rounds.proofs.FirstLaws.{least-same, lowest-same}
 
@@ -87,7 +85,7 @@ module _ {ds es : List Outcome} (a : Alike ds es) where
 -- A round that has run ----------------------------------------------------------------------------------------------------
 
 -- There is a cell for every processor.
-stops-all : (size : ℕ) (j : Job) (s : List ℕ) → j .processors ≤ size → stopsFrom size j s ≡ readStops document01 j s
+stops-all : (size : ℕ) (j : Job) (s : List ℕ) → j .processors ≤ size → stopsFrom document01 size j s ≡ readStops document01 j s
 unfolding stopsFrom
 stops-all size j s h = rw (le-ltb size (j .processors) h)
 
@@ -95,18 +93,18 @@ few-processors : {rooms : ℕ} {mem : List ℕ} → JobHeld rooms mem → jobIn 
 few-processors {mem = mem} h = rw (processors-in mem) (sizes h .processors-most)
 
 -- The stops' text was refused, or gave stops.
-stops-refused : (x : Result (List Stop)) (cells : List ℕ) (n : ℕ) → StopsLoaded x cells (Refused n) → x ≡ bad n
+stops-refused : (x : Result (List Stop)) (cells : List ℕ) (n : ℕ) → StopsLoaded document01 x cells (Refused n) → x ≡ bad n
 stops-refused (good ss) cells n ((k, e), _) = absurd (let z : _≡_ {A = ℕ} 0 1 = cc in omega arith)
 stops-refused (bad k) cells n e = cc
 
-stops-read : (x : Result (List Stop)) (cells : List ℕ) (n : ℕ) → length cells ≡ 16 → StopsLoaded x cells (Next n) → (ss : List Stop) × (x ≡ good ss) × StopsIn ss cells
+stops-read : (x : Result (List Stop)) (cells : List ℕ) (n : ℕ) → length cells ≡ 16 → StopsLoaded document01 x cells (Next n) → (ss : List Stop) × (x ≡ good ss) × StopsIn ss cells
 stops-read (good ss) cells n z (_, f) = (ss, refl, λ p h. f p (omega (arith, h, z)) .0)
 stops-read (bad k) cells n z e = absurd (let z : _≡_ {A = ℕ} 0 1 = cc in omega arith)
 
 -- The plan in d has run under the stops in the cells, and e is the memory after it.
 module _ {rooms : ℕ} {d e cells : List ℕ} (h : PlanHeld rooms d) (r : RoundRun rooms cells d e) where
-  pub run-asked : LinkedOut rooms d → Standing rooms (nth e 0) e × RisingIn rooms e × LinkedOut rooms e
-  run-asked l = (r .standing, r .rising, linked-out-same (h .standing .job) (same-before 0 (levelAt rooms) (r .outside) (omega arith)) l)
+  pub run-asked : {links : List ℕ} → LinksHeld d links → Standing rooms (nth e 0) e × RisingIn rooms e × LinksHeld e links
+  run-asked l = (r .standing, r .rising, links-kept (h .standing .job) (r .outside) (omega arith) l)
 
   run-text : (ss : List Stop) → StopsIn ss cells
       → replayText document01 (jobIn e) (outcomesIn rooms e) ≡ replayText document01 (jobIn d) (replay (jobIn d) ss (planIn rooms d .lines))
@@ -115,7 +113,7 @@ module _ {rooms : ℕ} {d e cells : List ℕ} (h : PlanHeld rooms d) (r : RoundR
       (text-alike (alike-reverse (replay (jobIn d) ss (planIn rooms d .lines))) document01 (jobIn d))
 
   -- Its lines do not fit, or they were written.
-  module _ (stops out : List ℕ) (k n : ℕ) (l : length cells ≡ 16) (g : StopsLoaded (stopsFrom 16 (jobIn d) stops) cells (Next k))
+  module _ (stops out : List ℕ) (k n : ℕ) (l : length cells ≡ 16) (g : StopsLoaded document01 (stopsFrom document01 16 (jobIn d) stops) cells (Next k))
       (q : n ≡ length (replayText document01 (jobIn e) (outcomesIn rooms e))) where
     told : (ss : List Stop) × (readStops document01 (jobIn d) stops ≡ good ss) × StopsIn ss cells
     told = stops-read (readStops document01 (jobIn d) stops) cells k l (rw (stops-all 16 (jobIn d) stops (few-processors (h .standing .job))) at g)
@@ -133,7 +131,7 @@ module _ {rooms : ℕ} {d e cells : List ℕ} (h : PlanHeld rooms d) (r : RoundR
         let (ss, f, i) = told in
         rw (f, ← run-text ss i, le-ltb (length out) (length (replayText document01 (jobIn e) (outcomesIn rooms e))) (omega arith)) (ap good a, o)
 
-pub run-refused : (rooms : ℕ) (d cells stops out : List ℕ) (n : ℕ) → JobHeld rooms d → StopsLoaded (stopsFrom 16 (jobIn d) stops) cells (Refused n)
+pub run-refused : (rooms : ℕ) (d cells stops out : List ℕ) (n : ℕ) → JobHeld rooms d → StopsLoaded document01 (stopsFrom document01 16 (jobIn d) stops) cells (Refused n)
     → Answered (replayIn rooms d stops (length out)) out out (Refusal n)
 unfolding replayIn
 run-refused rooms d cells stops out n j h =
@@ -141,11 +139,11 @@ run-refused rooms d cells stops out n j h =
 
 -- The three texts -----------------------------------------------------------------------------------------------------------
 
-module _ (rooms : ℕ) (x : Result (Job × Plan)) (mem stops out : List ℕ) (n : ℕ) where
-  pub replay-refused : BothLoaded rooms x mem (Refused n) → Answered (replayBoth x stops (length out)) out out (Refusal n)
-  replay-refused h = rw (both-no rooms mem n x h) (refl, refl)
+module _ (rooms : ℕ) (x : Result (Job × Plan)) (mem links stops out : List ℕ) (n : ℕ) where
+  pub replay-refused : BothLoaded rooms x mem links (Refused n) → Answered (replayBoth x stops (length out)) out out (Refusal n)
+  replay-refused h = rw (both-no rooms mem links n x h) (refl, refl)
 
-  pub replay-put : BothLoaded rooms x mem (Next n) → (z : List ℕ) (r : Answer)
+  pub replay-put : BothLoaded rooms x mem links (Next n) → (z : List ℕ) (r : Answer)
       → Answered (replayIn rooms mem stops (length out)) out z r → Answered (replayBoth x stops (length out)) out z r
   unfolding replayIn
-  replay-put h z r a = rw (both-next rooms mem n x h .0) a
+  replay-put h z r a = rw (both-next rooms mem links n x h .0) a

@@ -1,27 +1,23 @@
--- The R lines and the L line, counted and written.
-use mathlib.Core.Path.{_≡_, refl, ap, _∙_, sym}
+-- The R lines and the L line, one after another.
+use mathlib.Core.Path.{_≡_, refl, ap, sym}
 use mathlib.Core.Logic.{⊎-elim}
 use mathlib.Core.List.{List, [], _∷_, _++_, append-assoc, append-nil}
-use Prim.Native.Nat.{ℕ, _+_, _-_, _<_, _≤_}
-use native.Mathlib.Omega.{arith}
-use lib.ListN.{length, length-append}
-use Rattle.definitions.specs.Lists.{bytes, nth, countFrom, below}
+use Prim.Native.Nat.{ℕ, _+_, _-_, _<_, min}
+use borrow.Rule.Slice.PartMut.{putMid, midOf}
+use lib.ListN.{length}
+use Rattle.definitions.specs.Lists.{nth, countFrom, below}
 use Rattle.definitions.specs.Limits.{document01}
-use Rattle.definitions.specs.Text.{width, decimal, lineText}
 use Rattle.definitions.specs.Times.{Time, least, end, Outcome}
 use Rattle.definitions.specs.Replay.{firstFinish, firstBox, roundEnd, resultLine, resultLines, endLine, replayText}
-use Rattle.definitions.proofs.Decimal.{length-decimal}
-use Rattle.lists.specs.Over.{over}
-use Rattle.lists.proofs.Over.{length-over, over-then}
 use Rattle.lists.proofs.Upward.{below-more}
-use Rattle.text.specs.Told.{written, placeAfter}
-use Rattle.text.proofs.Writing.{written-fits, place-fits, written-more, place-more}
+use Rattle.text.specs.Told.{written}
+use Rattle.printing.specs.Rendered.{Rendered}
+use Rattle.printing.proofs.Rendering.{rendered-more, lent-written}
 use Rattle.jobs.specs.Held.{jobIn}
 use Rattle.ticks.specs.Cells.{neverCell, timeIn}
 use Rattle.rounds.specs.Replaying.{outcomesIn, FirstIn}
 use Rattle.rounds.specs.Texts.{taskLine, taskLines}
 use Rattle.lists.proofs.Counting.{equal-or-not}
-use Rattle.rounds.proofs.TimeLaws.{time-tick}
 
 -- All lines ------------------------------------------------------------------------------------------------------------
 
@@ -39,7 +35,8 @@ unfolding resultLines
 results-last [] t ds = append-nil (resultLine document01 t (firstFinish t ds) (firstBox t (firstFinish t ds) ds))
 results-last (u ∷ ts) t ds =
     rw (results-last ts t ds)
-    (sym (append-assoc (resultLine document01 u (firstFinish u ds) (firstBox u (firstFinish u ds) ds)) (resultLines document01 ts ds) (resultLine document01 t (firstFinish t ds) (firstBox t (firstFinish t ds) ds))))
+    (sym (append-assoc (resultLine document01 u (firstFinish u ds) (firstBox u (firstFinish u ds) ds)) (resultLines document01 ts ds)
+    (resultLine document01 t (firstFinish t ds) (firstBox t (firstFinish t ds) ds))))
 
 module _ (rooms : ℕ) (mem : List ℕ) where
   pub tasks-none : taskLines rooms 0 mem ≡ []
@@ -51,26 +48,14 @@ module _ (rooms : ℕ) (mem : List ℕ) where
   tasks-next k h = rw (below-more k) (results-last (below k) k (outcomesIn rooms mem))
 
   -- The L line comes last.
-  replay-parts : replayText document01 (jobIn mem) (outcomesIn rooms mem) ≡ taskLines rooms (nth mem 0) mem ++ endLine document01 (end (jobIn mem) least (outcomesIn rooms mem))
+  replay-text : (x : ℕ) → timeIn x ≡ end (jobIn mem) least (outcomesIn rooms mem)
+      → replayText document01 (jobIn mem) (outcomesIn rooms mem) ≡ taskLines rooms (nth mem 0) mem ++ endLine document01 (timeIn x)
   unfolding replayText taskLines roundEnd jobIn
-  replay-parts = refl
+  replay-text x e = ap (λ (y : Time). taskLines rooms (nth mem 0) mem ++ endLine document01 y) (sym e)
 
-  pub tasks-within : length (taskLines rooms (nth mem 0) mem) ≤ length (replayText document01 (jobIn mem) (outcomesIn rooms mem))
-  tasks-within = omega (arith, ap length replay-parts, length-append (taskLines rooms (nth mem 0) mem) (endLine document01 (end (jobIn mem) least (outcomesIn rooms mem))))
-
-  module _ (x : ℕ) (e : timeIn x ≡ end (jobIn mem) least (outcomesIn rooms mem)) where
-    replay-text : replayText document01 (jobIn mem) (outcomesIn rooms mem) ≡ taskLines rooms (nth mem 0) mem ++ endLine document01 (timeIn x)
-    replay-text = replay-parts ∙ ap (λ (y : Time). taskLines rooms (nth mem 0) mem ++ endLine document01 y) (sym e)
-
-    pub replay-size : length (replayText document01 (jobIn mem) (outcomesIn rooms mem)) ≡ length (taskLines rooms (nth mem 0) mem) + length (endLine document01 (timeIn x))
-    replay-size = ap length replay-text ∙ length-append (taskLines rooms (nth mem 0) mem) (endLine document01 (timeIn x))
-
-    -- The R lines stand at the front of d.
-    module _ (d out : List ℕ) (at : ℕ) (h : length (replayText document01 (jobIn mem) (outcomesIn rooms mem)) ≤ length d) (f : at ≡ length (taskLines rooms (nth mem 0) mem))
-        (g : out ≡ over d 0 (taskLines rooms (nth mem 0) mem)) where
-      pub end-room : at + length (endLine document01 (timeIn x)) ≤ length out
-      end-room = omega (arith, f, replay-size, h, ap length g, length-over d 0 (taskLines rooms (nth mem 0) mem) (omega (arith, replay-size, h)))
-
-      pub replay-whole : (y : List ℕ) → y ≡ over out at (endLine document01 (timeIn x)) → y ≡ over d 0 (replayText document01 (jobIn mem) (outcomesIn rooms mem))
-      replay-whole y q =
-          over-then d out y 0 (taskLines rooms (nth mem 0) mem) (endLine document01 (timeIn x)) at g q (omega (arith, f)) (omega (arith, replay-size, h)) ∙ ap (over d 0) (sym replay-text)
+  -- It was rendered behind the R lines.
+  pub replay-rendered : (x : ℕ) → timeIn x ≡ end (jobIn mem) least (outcomesIn rooms mem) → {d y : List ℕ} {at : ℕ} → Rendered (taskLines rooms (nth mem 0) mem) d y at
+      → (p n : ℕ) (ys : List ℕ) → p ≡ min at (length y) → n ≡ length (endLine document01 (timeIn x)) → ys ≡ written (midOf p (length y - p) y) 0 (endLine document01 (timeIn x))
+      → Rendered (replayText document01 (jobIn mem) (outcomesIn rooms mem)) d (putMid p (length y - p) y ys) (at + n)
+  replay-rendered x e {d} {y} {at} r p n ys f g h =
+      rw (replay-text x e) (rendered-more r (endLine document01 (timeIn x)) _ (at + n) (ap (at +_) g) (lent-written y at p (endLine document01 (timeIn x)) ys f h))

@@ -3,7 +3,7 @@ use mathlib.Core.Path.{_≡_, refl, ap, _∙_, sym}
 use mathlib.Core.Logic.{_⊎_, inl, inr, ⊎-elim}
 use mathlib.Core.List.{List, [], _∷_, _++_, map, map-append}
 use mathlib.Core.Bool.{false}
-use Prim.Native.Nat.{ℕ, zero, suc, _+_, _*_, _<_, _≤_}
+use Prim.Native.Nat.{ℕ, zero, suc, _+_, _<_, _≤_}
 use native.Mathlib.Omega.{arith}
 use native.Mathlib.Numerals.{add-one}
 use lib.ListN.{length, length-append, replicate, length-replicate, getD-replicate, List·getD-append}
@@ -28,8 +28,8 @@ use Rattle.lists.proofs.Counting.{last-or-before}
 use Rattle.lists.proofs.Kept.{same-before, kept-wider}
 use Rattle.jobs.proofs.Held.{sizes}
 use Rattle.rounds.proofs.ShortLaws.{delays-kept}
-use Rattle.rounds.proofs.AgreeLaws.{copies-more}
-use Rattle.rounds.proofs.RunLaws.{retimed-none, retimed-then, cell-retimed, task-retimed, processor-retimed, job-retimed, fed-retimed, walked-append}
+use Rattle.rounds.proofs.RunLaws.{retimed-none, retimed-then, cell-retimed, job-retimed, fed-retimed, walked-append}
+use Rattle.rounds.proofs.Outcomes.{copies-more}
 
 -- Lines in order ------------------------------------------------------------------------------------------------------
 
@@ -121,8 +121,8 @@ copies-retimed {rooms} {d = d} {e} z h k c g =
     let same : ps e ≡ ps d =
     ext-getD 0 (ps e) (ps d) (boxes-length c e (rowAt rooms k) c ∙ sym (boxes-length c d (rowAt rooms k) c)) (λ i l.
     let b : i < c = rw (boxes-length c e (rowAt rooms k) c) at l in
-    boxes-at c e (rowAt rooms k) c i b ∙ processor-retimed z k i (omega arith) ∙ sym (boxes-at c d (rowAt rooms k) c i b)) in
-    rw (job-retimed z h, task-retimed z k, same)
+    boxes-at c e (rowAt rooms k) c i b ∙ z .processor k i (omega arith) ∙ sym (boxes-at c d (rowAt rooms k) c i b)) in
+    rw (job-retimed z h, z .task k, same)
 
 -- k lines have run, from a memory d.
 pub record RoundRuns (rooms k : ℕ) (stops cells d e : List ℕ) : Type 0 where
@@ -179,6 +179,6 @@ module _ {rooms : ℕ} (k : ℕ) {stops cells d e : List ℕ} (l : RoundRuns roo
         rising = λ i c h g.
             let u : i < nth d 0 = rw zero-cell at h in
             let v : c < nth d 3 = rw three at g in
-            rw (processor-retimed (l .retimed) i c (omega arith), processor-retimed (l .retimed) i (c + 1) (omega arith)) (rising-lines s o i c u v);
+            rw (l .retimed .processor i c (omega arith), l .retimed .processor i (c + 1) (omega arith)) (rising-lines s o i c u v);
         outcomes = λ ss g. rw (zero-cell, ← q) (l .outcomes ss g);
       }

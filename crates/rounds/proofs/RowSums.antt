@@ -5,8 +5,8 @@ use mathlib.Core.Bool.{Bool, true, false, not}
 use Prim.Native.Nat.{ℕ, _+_, _*_, _-_, _%_, _^_, _<_, _≤_}
 use native.Mathlib.Omega.{arith}
 use native.Mathlib.Nat.{mul-le-mul}
-use borrow.Author.Tests.{eqb-true, eqb-false, ne-eqb}
-use lib.Dec.{eqb}
+use borrow.Author.Tests.{eqb-true, eqb-false, ne-eqb, ltb-true, ltb-false}
+use lib.Dec.{eqb, ltb}
 use lib.ListN.{length, take, drop, length-map}
 use lib.Seq.{ext-getD}
 use borrow.Rule.Slice.PartMut.{midOf}
@@ -17,6 +17,7 @@ use Rattle.definitions.specs.Planner.{scaledRun, totalDelay}
 use Rattle.definitions.proofs.Lists.{length-count, in-below, sum-most}
 use Rattle.heads.specs.Layout.{jobSize}
 use Rattle.jobs.specs.Held.{numberAt, runAt, delayAt, jobIn, JobHeld}
+use Rattle.rounds.specs.Levels.{rowSum}
 use Rattle.lists.proofs.Counting.{below-same, getD-below}
 use Rattle.jobs.proofs.Held.{tasks-in, processors-in, run-in, delay-in, Sizes, sizes, row-below}
 
@@ -76,10 +77,6 @@ part-cells mem a m h =
     ext-getD 0 (take m (drop a mem)) (map (λ q. nth mem (a + q)) (below m)) (l ∙ sym (length-map (below m) (λ q. nth mem (a + q)) ∙ length-count 0 m))
     (λ i g. part-nth mem a m i (omega arith) ∙ sym (getD-below (λ q. nth mem (a + q)) m i 0 (omega arith)))
 
--- The sum of the m cells behind the head of row r.
-abbrev pub rowSum : List ℕ → ℕ → ℕ
-rowSum mem r = sum (map (λ q. nth mem (numberAt mem r 0 + q)) (below (nth mem 1)))
-
 module _ {rooms : ℕ} (mem : List ℕ) (held : JobHeld rooms mem) where
   pub run-sum-most : (t : ℕ) → t < nth mem 0 → rowSum mem t ≤ 16_000_000
   run-sum-most t h =
@@ -91,16 +88,24 @@ module _ {rooms : ℕ} (mem : List ℕ) (held : JobHeld rooms mem) where
       let s = sizes held in
       omega (arith, sum-below (λ q. nth mem (delayAt mem p 0 + q)) 255 (nth mem 1) (λ q g. delay-most mem held p q h g))
 
-  -- The sum of a part of the memory that is row r, in 64 bits, which hold it.
-  pub row-in : (r x : ℕ) → r < nth mem 0 + nth mem 1 → rowSum mem r ≤ 16_000_000
-      → x ≡ sum (midOf (numberAt mem r 0) (numberAt mem r 0 + nth mem 1 - (numberAt mem r 0)) mem) % 2 ^ 64
-      → x ≡ rowSum mem r
-  row-in r x h b t =
+  row-sum-most : (r : ℕ) → r < nth mem 0 + nth mem 1 → rowSum mem r ≤ 16_000_000
+  row-sum-most r h = by (ltb r (nth mem 0)) refl
+    where
+      by : (b : Bool) → ltb r (nth mem 0) ≡ b → rowSum mem r ≤ 16_000_000
+      by true e = run-sum-most r (ltb-true r (nth mem 0) e)
+      by false e =
+          let l = ltb-false r (nth mem 0) e in
+          let n : r ≡ nth mem 0 + (r - nth mem 0) = omega arith in
+          rw n (omega (arith, delay-sum-most (r - nth mem 0) (omega arith)))
+
+  -- The sum of the part of the memory that is row r, from a on, in 64 bits, which hold it.
+  pub row-in : (r a x : ℕ) → r < nth mem 0 + nth mem 1 → a ≡ numberAt mem r 0 → x ≡ sum (midOf a (a + nth mem 1 - a) mem) % 2 ^ 64
+      → (x ≡ rowSum mem r) × (x ≤ 16_000_000)
+  row-in r a x h z t =
       let s = sizes held in
-      let a = numberAt mem r 0 in
       let n : a + nth mem 1 - a ≡ nth mem 1 = omega arith in
-      let c : sum (midOf a (a + nth mem 1 - a) mem) ≡ rowSum mem r = rw n (ap sum (part-cells mem a (nth mem 1) (omega (arith, row-room s r h, s .size)))) in
-      omega (arith, t, c, b)
+      let c : sum (midOf a (a + nth mem 1 - a) mem) ≡ rowSum mem r = rw (n, z) (ap sum (part-cells mem (numberAt mem r 0) (nth mem 1) (omega (arith, row-room s r h, s .size)))) in
+      (omega (arith, t, c, row-sum-most r h), omega (arith, t, c, row-sum-most r h))
 
   -- With one processor the sum is the run time itself.
   pub scaled-one : (t : ℕ) → t < nth mem 0 → nth mem 1 ≡ 1 → rowSum mem t ≡ scaledRun (jobIn mem) t

@@ -3,9 +3,8 @@ use mathlib.Core.Path.{_≡_, refl, ap, _∙_, sym}
 use mathlib.Core.Logic.{inl, inr, ⊎-elim}
 use mathlib.Core.List.{List, [], _∷_, _++_, map, map-append}
 use mathlib.Core.Bool.{Bool, true, false}
-use Prim.Native.Nat.{ℕ, zero, suc, _+_, _*_, _%_, _<_, _≤_}
+use Prim.Native.Nat.{ℕ, zero, suc, _+_, _*_, _<_, _≤_}
 use native.Mathlib.Omega.{arith}
-use native.Mathlib.Nat.{add-zero}
 use native.Mathlib.Numerals.{add-one}
 use borrow.Author.Tests.{eq-eqb, ne-eqb, lt-leb, le-leb}
 use lib.Dec.{eqb}
@@ -21,8 +20,8 @@ use Rattle.definitions.specs.Claims.{Within, PlacedWithin}
 use Rattle.definitions.proofs.Lists.{map-same, map-in, in-keep, below-in}
 use Rattle.definitions.proofs.Tasks.{in-incoming}
 use Rattle.definitions.proofs.Bounds.{weaker, trial-most}
-use Rattle.heads.specs.Layout.{jobSize, inHeadAt, inNextAt, lineAt, rowAt, processorAt, earlyAt, lateAt}
-use Rattle.jobs.specs.Held.{runAt, jobIn, JobHeld}
+use Rattle.heads.specs.Layout.{lineAt, rowAt, processorAt, earlyAt, lateAt}
+use Rattle.jobs.specs.Held.{jobIn, JobHeld}
 use Rattle.ticks.specs.Cells.{neverCell, timeIn, Small}
 use Rattle.plans.specs.Lines.{rowOutcomes, placedIn, rowReplicas, rowOf, Standing}
 use Rattle.rounds.specs.Schedule.{dataIn, lineTicks}
@@ -30,53 +29,39 @@ use Rattle.lists.specs.Kept.{KeptOutside}
 use Rattle.rounds.specs.Arrivals.{lastShort, FirstFed}
 use Rattle.rounds.specs.Replaying.{StopsIn, ranIn, Running, FedBefore, Retimed, copiesIn, walked, LineRun}
 use Rattle.lists.proofs.Counting.{equal-or-not, last-or-before}
-use Rattle.lists.proofs.Kept.{Same, same-part, same-before, kept-all, kept-then, kept-wider, kept-set}
-use Rattle.jobs.proofs.Held.{sizes, row-below, tasks-in, processors-in, run-in, job-kept, held-kept, chained-same}
-use Rattle.plans.proofs.Lines.{outcomes-same, placed-same}
-use Rattle.rounds.proofs.TimeLaws.{time-tick, small-wider, run-cell}
+use Rattle.lists.proofs.Kept.{Same, same-before, kept-all, kept-then, kept-wider, kept-set}
+use Rattle.jobs.proofs.Held.{sizes, tasks-in, processors-in, job-kept, held-kept}
+use Rattle.plans.proofs.Lines.{outcomes-same, placed-same, early-apart}
+use Rattle.rounds.proofs.TimeLaws.{time-tick, small-wider}
 use Rattle.rounds.proofs.Placed.{ofTask-append, row-none, feeding-line, data-placed}
 
 -- What changes and what does not ------------------------------------------------------------------------------------
 
--- Where early times stand in a line, and where processors and late times do.
-early-place : (c o : ℕ) → o ≡ 2 + 3 * c → o % 3 ≡ 2
-early-place c o e = omega arith
-
-processor-place : (c : ℕ) → (1 + 3 * c) % 3 ≡ 2 → ⊥
-processor-place c e = omega arith
-
-late-place : (c : ℕ) → (3 + 3 * c) % 3 ≡ 2 → ⊥
-late-place c e = omega arith
-
 pub retimed-none : {rooms k n : ℕ} {d : List ℕ} → Retimed rooms k n d d
-retimed-none = record { outside = kept-all; row = λ i o h g. refl }
+retimed-none = record { outside = kept-all; task = λ i. refl; processor = λ i c h. refl; late = λ i c h. refl }
 
 pub retimed-set : {rooms k n : ℕ} {d e : List ℕ} (i c y : ℕ) → Retimed rooms k n d e → k ≤ i → i < n → c < 8 → Retimed rooms k n d (set e (earlyAt (rowAt rooms i) c) y)
 retimed-set {rooms} {k} {n} {d} {e} i c y r a b h =
+    let other : (j : ℕ) → (j ≡ earlyAt (rowAt rooms i) c → ⊥) → nth (set e (earlyAt (rowAt rooms i) c) y) j ≡ nth e j = λ j. getD-set-other e (earlyAt (rowAt rooms i) c) j y 0 in
     record {
       outside = kept-set (earlyAt (rowAt rooms i) c) y (r .outside) (omega arith) (omega arith);
-      row = λ m o g f. getD-set-other e (earlyAt (rowAt rooms i) c) (rowAt rooms m + o) y 0 (λ q. let z : i ≡ m = omega arith in f (early-place c o (omega arith))) ∙ r .row m o g f;
+      task = λ m. other (rowAt rooms m) (λ q. let z : i ≡ m = omega arith in omega arith) ∙ r .task m;
+      processor = λ m n g. other (processorAt (rowAt rooms m) n) (λ q. let z : i ≡ m = omega arith in early-apart (rowAt rooms i) c n .0 (omega arith)) ∙ r .processor m n g;
+      late = λ m n g. other (lateAt (rowAt rooms m) n) (λ q. let z : i ≡ m = omega arith in early-apart (rowAt rooms i) c n .1 (omega arith)) ∙ r .late m n g;
     }
 
 pub retimed-then : {rooms k n m : ℕ} {d e f : List ℕ} → Retimed rooms 0 n d e → Retimed rooms k m e f → m ≤ n → Retimed rooms 0 n d f
 retimed-then {rooms} {k} {n} {m} p q h =
     record {
       outside = kept-then (p .outside) (kept-wider (rowAt rooms 0) (rowAt rooms n) (q .outside) (omega arith) (omega arith));
-      row = λ i o g f. q .row i o g f ∙ p .row i o g f;
+      task = λ i. q .task i ∙ p .task i;
+      processor = λ i c g. q .processor i c g ∙ p .processor i c g;
+      late = λ i c g. q .late i c g ∙ p .late i c g;
     }
 
 module _ {rooms k n : ℕ} {d e : List ℕ} (z : Retimed rooms k n d e) where
   pub cell-retimed : (i : ℕ) → i < rowAt rooms 0 → nth e i ≡ nth d i
   cell-retimed i h = z .outside .before i (omega arith)
-
-  pub task-retimed : (i : ℕ) → nth e (rowAt rooms i) ≡ nth d (rowAt rooms i)
-  task-retimed i = rw (add-zero (rowAt rooms i)) at (z .row i 0 (omega arith) (λ q. omega arith))
-
-  pub processor-retimed : (i c : ℕ) → c < 8 → nth e (processorAt (rowAt rooms i) c) ≡ nth d (processorAt (rowAt rooms i) c)
-  processor-retimed i c h = z .row i (1 + 3 * c) (omega arith) (processor-place c)
-
-  late-retimed : (i c : ℕ) → c < 8 → nth e (lateAt (rowAt rooms i) c) ≡ nth d (lateAt (rowAt rooms i) c)
-  late-retimed i c h = z .row i (3 + 3 * c) (omega arith) (late-place c)
 
   module _ (s : JobHeld rooms d) where
     pub job-retimed : jobIn e ≡ jobIn d
@@ -85,7 +70,7 @@ module _ {rooms k n : ℕ} {d e : List ℕ} (z : Retimed rooms k n d e) where
     pub fed-retimed : (i : ℕ) → FedBefore rooms i d → FedBefore rooms i e
     fed-retimed i f x h =
         let w = sizes s in
-        let g : In x (incoming (jobIn d) (nth d (rowAt rooms i))) = rw (job-retimed, task-retimed i) at h in
+        let g : In x (incoming (jobIn d) (nth d (rowAt rooms i))) = rw (job-retimed, z .task i) at h in
         let t : x .from < nth d 0 = rw (tasks-in d) at (s .facts .from-task x (in-incoming (jobIn d) (nth d (rowAt rooms i)) x g .0)) in
         rw (cell-retimed (lineAt rooms + x .from) (omega arith)) (f x g)
 
@@ -100,21 +85,18 @@ module _ {rooms k n : ℕ} {d e : List ℕ} (z : Retimed rooms k n d e) where
       let line : (t : ℕ) → t < nth d 0 → nth e (lineAt rooms + t) ≡ nth d (lineAt rooms + t) = λ t h. cell-retimed (lineAt rooms + t) (omega arith) in
       record {
         job = held-kept (s .job) (z .outside) (omega arith);
-        linked = rw (job-retimed (s .job))
-            (chained-same w (same-part 0 (jobSize rooms) j (omega arith) (omega arith)) (same-part (inHeadAt rooms) (inHeadAt rooms + nth d 0) j (omega arith) (omega arith))
-            (same-part (inNextAt rooms) (inNextAt rooms + nth d 2) j (omega arith) (omega arith)) (s .linked));
         count = omega arith;
-        task-of = λ i h. rw (task-retimed i, v) (s .task-of i (rw v at h));
-        line-of = λ i h. let g : i < nth d 0 = rw v at h in rw (task-retimed i, line (nth d (rowAt rooms i)) (s .task-of i g)) (s .line-of i g);
+        task-of = λ i h. rw (z .task i, v) (s .task-of i (rw v at h));
+        line-of = λ i h. let g : i < nth d 0 = rw v at h in rw (z .task i, line (nth d (rowAt rooms i)) (s .task-of i g)) (s .line-of i g);
         placed = λ t h.
             let g : t < nth d 0 = rw v at h in
-            rw (line t g, v) (⊎-elim (λ p. inl p) (λ p. inr (p .0, p .1, p .2, task-retimed (p .0) ∙ p .3)) (s .placed t g));
+            rw (line t g, v) (⊎-elim (λ p. inl p) (λ p. inr (p .0, p .1, p .2, z .task (p .0) ∙ p .3)) (s .placed t g));
         row = λ i h.
             let r = s .row i (rw v at h) in
             record {
-              processor-of = λ c g. let b : c < nth d 3 + 1 = rw l at g in rw (m, processor-retimed i c (omega arith)) (r .processor-of c b);
+              processor-of = λ c g. let b : c < nth d 3 + 1 = rw l at g in rw (m, z .processor i c (omega arith)) (r .processor-of c b);
               early-of = λ c g. early i c (rw v at h) (rw l at g);
-              late-of = λ c g. let b : c < nth d 3 + 1 = rw l at g in rw (late-retimed i c (omega arith)) (r .late-of c b);
+              late-of = λ c g. let b : c < nth d 3 + 1 = rw l at g in rw (z .late i c (omega arith)) (r .late-of c b);
             };
       }
 
@@ -219,8 +201,8 @@ module _ {rooms : ℕ} (k c : ℕ) {cells mem : List ℕ} (r : Running rooms k c
           let one : KeptOutside i (i + 1) mem mem′ = kept-set i y kept-all (omega arith) (omega arith) in
           rw (
             add-one c,
-            task-retimed retimed k,
-            processor-retimed retimed k c (omega arith),
+            retimed .task k,
+            retimed .processor k c (omega arith),
             getD-set-same mem (earlyAt (rowAt rooms k) c) y 0 (omega arith),
             cell-retimed retimed 3 (omega arith),
             outcomes-same mem mem′ false (rowAt rooms k) c (same-before (rowAt rooms k) (processorAt (rowAt rooms k) c) one (omega arith)),
@@ -299,12 +281,10 @@ pub line-first : {rooms : ℕ} (k : ℕ) (stops : List ℕ) {cells d : List ℕ}
 unfolding ranIn rowOutcomes copiesIn rowReplicas walked walk
 line-first k stops r = record { running = r; retimed = retimed-none; outcomes = λ ss h. refl }
 
--- The next replica, of task t on p: its processor, the cell of its run time and when its processor is ready.
-pub record LineStep (rooms t p : ℕ) (cells d e : List ℕ) : Type 0 where
+-- The next replica, on p: its processor, and when that is ready.
+pub record LineStep (p : ℕ) (cells d : List ℕ) : Type 0 where
   pub processor : p < nth d 1
   pub below : p < 16
-  pub run-below : runAt d t 0 + p < jobSize rooms
-  pub run-most : nth e (runAt d t 0 + p) ≤ 1000000
   pub ready-small : Small 4294967295 (nth cells p)
 
 module _ {rooms : ℕ} (k c : ℕ) {stops cells d e : List ℕ} (l : LineRuns rooms k c stops cells d e) (s : Standing rooms (nth d 0) d) (a : k < nth d 0) (f : FedBefore rooms k d) where
@@ -324,7 +304,7 @@ module _ {rooms : ℕ} (k c : ℕ) {stops cells d e : List ℕ} (l : LineRuns ro
       data-placed (ran .standing) k (nth e (rowAt rooms k)) (omega (arith, line-below)) line-fed false p
       ∙ rw (
         job-retimed (l .retimed) (s .job),
-        task-retimed (l .retimed) k,
+        l .retimed .task k,
         cell-retimed (l .retimed) 3 (omega arith),
         placed-same d e rooms false (nth d 3 + 1) k (omega arith) (same-before (rowAt rooms 0) (rowAt rooms k) (l .retimed .outside) (omega arith)),
       )
@@ -334,46 +314,36 @@ module _ {rooms : ℕ} (k c : ℕ) {stops cells d e : List ℕ} (l : LineRuns ro
     abbrev its : ℕ
     its = nth e (processorAt (rowAt rooms k) c)
 
-    abbrev run : ℕ
-    run = 4 + nth d (rowAt rooms k) * (nth d 1 + 1) + 1 + its
-
     replica-below : c < nth e 3 + 1
     replica-below = rw (cell-retimed (l .retimed) 3 (omega arith)) b
 
     its-below : its < nth e 1
     its-below = box-below k c ran line-below replica-below line-fed
 
-    run-same : run ≡ 4 + nth e (rowAt rooms k) * (nth e 1 + 1) + (its + 1)
-    run-same = rw (task-retimed (l .retimed) k, cell-retimed (l .retimed) 1 (omega arith)) (omega arith)
-
-    run-ran : nth e run ≡ runTime (jobIn e) (nth e (rowAt rooms k)) its
-    run-ran = rw run-same (sym (run-in e (nth e (rowAt rooms k)) its (ran .standing .task-of k line-below) its-below))
-
-    pub line-step : LineStep rooms (nth d (rowAt rooms k)) its cells d e
+    pub line-step : LineStep its cells d
     line-step =
         let w = sizes (s .job) in
-        let t = ran .standing .task-of k line-below in
         let h : its < nth d 1 = rw (cell-retimed (l .retimed) 1 (omega arith)) at its-below in
         record {
           processor = h;
           below = omega arith;
-          run-below = rw run-same (row-below (sizes (ran .standing .job)) (nth e (rowAt rooms k)) its (omega arith) its-below);
-          run-most = rw run-same (run-cell (ran .standing .job) (nth e (rowAt rooms k)) its t its-below);
           ready-small = small-wider ((k * 8 + c) * lineTicks) 4294967295 (nth cells its) (omega arith) (ran .ready-small its its-below);
         }
 
-    pub line-next : (supplied x y : ℕ)
+    pub line-next : (supplied run x y : ℕ)
         → timeIn supplied ≡ dataIn rooms false (nth d (rowAt rooms k)) its d
-        → timeIn x ≡ after (nth e run) (later (timeIn (nth cells its)) (timeIn supplied))
+        → run ≡ runTime (jobIn d) (nth d (rowAt rooms k)) its
+        → timeIn x ≡ after run (later (timeIn (nth cells its)) (timeIn supplied))
         → timeIn y ≡ unlessStopped (timeIn (nth stops its)) (timeIn x)
         → ((b : ℕ) → Small b x → Small b y)
         → LineRuns rooms k (c + 1) stops (set cells its y) d (set e (earlyAt (rowAt rooms k) c) y)
-    line-next supplied x y o p₀ q n =
+    line-next supplied run x y o z p₀ q n =
         let w = sizes (s .job) in
         let g = line-below in
         let u = replica-below in
         let v = line-fed in
-        let p : timeIn x ≡ after (runTime (jobIn e) (nth e (rowAt rooms k)) its) (later (timeIn (nth cells its)) (dataIn rooms false (nth e (rowAt rooms k)) its e)) = rw (line-data its, ← o, ← run-ran) p₀ in
+        let own : runTime (jobIn e) (nth e (rowAt rooms k)) its ≡ run = rw (job-retimed (l .retimed) (s .job), l .retimed .task k) (sym z) in
+        let p : timeIn x ≡ after (runTime (jobIn e) (nth e (rowAt rooms k)) its) (later (timeIn (nth cells its)) (dataIn rooms false (nth e (rowAt rooms k)) its e)) = rw (line-data its, ← o, own) p₀ in
         record {
           running = running-next k c ran g u v x p y n;
           retimed = retimed-set k c y (l .retimed) (omega arith) (omega arith) (omega arith);
@@ -387,8 +357,8 @@ module _ {rooms : ℕ} (k c : ℕ) {stops cells d e : List ℕ} (l : LineRuns ro
                 walked-more (jobIn d) ss (placedIn rooms false (nth d 3 + 1) k d) (copiesIn rooms k c d) (copyOf (jobIn d) (nth d (rowAt rooms k)) (nth d (processorAt (rowAt rooms k) c))),
                 ← l .outcomes ss h,
                 ← j,
-                ← task-retimed (l .retimed) k,
-                ← processor-retimed (l .retimed) k c (omega arith),
+                ← l .retimed .task k,
+                ← l .retimed .processor k c (omega arith),
                 o,
               );
         }

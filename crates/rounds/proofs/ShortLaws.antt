@@ -16,14 +16,14 @@ use Rattle.definitions.specs.Times.{tick, later, sooner, after, least, largest}
 use Rattle.heads.specs.Layout.{jobSize, processorAt, earlyAt, lateAt}
 use Rattle.ticks.specs.Lanes.{lanes, arrives, shortNever, widenedTick}
 use Rattle.rounds.specs.Arrivals.{shortIn, lastShort, DelayTable}
-use Rattle.jobs.specs.Held.{delayAt, jobIn, JobHeld}
+use Rattle.jobs.specs.Held.{jobIn, JobHeld}
 use Rattle.ticks.specs.Cells.{neverCell, timeIn, Small}
 use Rattle.plans.specs.Lines.{rowOutcomes}
 use Rattle.lists.proofs.Counting.{equal-or-not, last-or-before}
-use Rattle.jobs.proofs.Held.{Sizes, sizes, delay-in, job-same}
+use Rattle.jobs.proofs.Held.{Sizes, sizes, job-same}
 use Rattle.lists.proofs.Kept.{Same}
 use Rattle.ticks.proofs.LaneLaws.{lanes-each, arrives-short}
-use Rattle.rounds.proofs.TimeLaws.{time-tick, later-never, delay-cell, chosenBy}
+use Rattle.rounds.proofs.TimeLaws.{time-tick, later-never, chosenBy}
 
 pub short-tick : (x : ℕ) → (x ≡ shortNever → ⊥) → shortIn x ≡ tick x
 short-tick x h = rw (ne-eqb x shortNever h)
@@ -87,11 +87,8 @@ abbrev pub DelayCell : List ℕ → ℕ → ℕ → Type 0
 DelayCell mem i z = (z ≤ 255) × ((q p : ℕ) → q < nth mem 1 → p < nth mem 1 → i ≡ q * 16 + p → z ≡ delay (jobIn mem) q p)
 
 module _ {mem : List ℕ} where
-  pub delay-stored : {rooms : ℕ} → JobHeld rooms mem → (i : ℕ) → i / 16 < nth mem 1 → i % 16 < nth mem 1
-      → DelayCell mem i (nth mem (delayAt mem (i / 16) (i % 16)))
-  delay-stored j i h g =
-      let s = sizes j in
-      (delay-cell j (i / 16) (i % 16) h g, λ q p a b e. let u : q ≡ i / 16 = omega arith in let v : p ≡ i % 16 = omega arith in rw (u, v) (sym (delay-in mem (i / 16) (i % 16) h g)))
+  pub delay-stored : {rooms : ℕ} → Sizes rooms mem → (i z : ℕ) → z ≡ delay (jobIn mem) (i / 16) (i % 16) → z ≤ 255 → DelayCell mem i z
+  delay-stored s i z h g = (g, λ q p a b e. let u : q ≡ i / 16 = omega arith in let v : p ≡ i % 16 = omega arith in rw (u, v) h)
 
   pub delay-outside : {rooms : ℕ} → Sizes rooms mem → (i z : ℕ) → z ≤ 255 → nth mem 1 ≤ i % 16 → DelayCell mem i z
   delay-outside s i z h o = (h, λ q p a b e. let v : p ≡ i % 16 = omega arith in absurd (omega arith))

@@ -1,7 +1,7 @@
 -- Times in cells: the later and the sooner, what comes after, and when data arrives.
 use mathlib.Core.Path.{_≡_, refl, ap, _∙_, sym}
 use mathlib.Core.Logic.{_⊎_, inl, inr, ⊎-elim}
-use mathlib.Core.List.{List, [], _∷_, map, reverse, reverseAux}
+use mathlib.Core.List.{List, [], _∷_, map, reverseAux}
 use mathlib.Core.Bool.{Bool, true, false}
 use Prim.Native.Nat.{ℕ, suc, _+_, _*_, _-_, _<_, _≤_, max, min}
 use native.Mathlib.Omega.{arith}
@@ -9,18 +9,19 @@ use native.Mathlib.Nat.{mul-le-mul}
 use borrow.Author.Tests.{ne-eqb}
 use Rattle.definitions.specs.Lists.{nth, In}
 use Rattle.definitions.specs.Job.{Edge, delay, incoming}
-use Rattle.definitions.specs.Times.{Time, tick, never, later, sooner, after, least, largest}
-use Rattle.definitions.proofs.Lists.{in-reverse}
+use Rattle.definitions.specs.Times.{Time, tick, never, later, sooner, after, least, largest, arrival}
 use Rattle.definitions.proofs.Tasks.{in-incoming}
 use Rattle.orders.specs.Edges.{edgeIn}
-use Rattle.heads.specs.Layout.{inHeadAt, inNextAt, lineAt, rowAt}
-use Rattle.jobs.specs.Held.{runAt, delayAt, edgeAt, jobIn, chain, JobHeld}
+use Rattle.orders.proofs.Walk.{passed, pass-none, pass-more, Passed, pass-done}
+use Rattle.heads.specs.Layout.{lineAt, rowAt}
+use Rattle.jobs.specs.Held.{runAt, delayAt, jobIn, JobHeld}
 use Rattle.ticks.specs.Cells.{neverCell, timeIn, Small}
-use Rattle.plans.specs.Lines.{rowOutcomes, rowOf, RowHeld, Standing}
+use Rattle.plans.specs.Lines.{rowOutcomes, rowOf, Standing}
 use Rattle.rounds.specs.Schedule.{choiceOf, arrivalIn, FedIn}
 use Rattle.rounds.specs.Walks.{Feeds}
 use Rattle.lists.proofs.Counting.{equal-or-not}
-use Rattle.jobs.proofs.Held.{sizes, delay-in, run-in, tasks-in, processors-in, chain-step, chain-end}
+use Rattle.rounds.proofs.Placed.{feeding-row}
+use Rattle.jobs.proofs.Held.{sizes, delay-in, run-in, tasks-in, processors-in}
 
 -- Times in cells --------------------------------------------------------------------------------------------------
 
@@ -112,8 +113,8 @@ chosen-none late ticks a mem x h = h
 
 pub arrival-chosen : (late : Bool) (volume p a c : ℕ) (mem : List ℕ) → c ≡ nth mem 3 + 1
     → chosenBy late (λ q. volume * delay (jobIn mem) q p) a c mem ≡ arrivalIn late volume p a mem
-unfolding chosenBy arrivalIn
-arrival-chosen late volume p a c mem e = rw e
+unfolding chosenBy arrivalIn arrival
+arrival-chosen late volume p a c mem e = rw (e, feeding-row late mem (nth mem a) (jobIn mem) p a (nth mem 3 + 1) refl)
 
 -- The ticks of a message.
 pub message-most : (volume n : ℕ) → volume ≤ 4095 → n ≤ 255 → volume * n ≤ 1044225
@@ -177,55 +178,21 @@ feeds {rooms} k t e mem s f i =
 abbrev pub arrives : ℕ → Bool → ℕ → List ℕ → Edge → Time
 arrives rooms late p mem e = arrivalIn late (e .volume) p (rowOf rooms (e .from) mem) mem
 
--- The edges from link k on are still to be seen; acc is the largest time of the others that enter t.
-pub record Gathering (rooms : ℕ) (f : Edge → Time) (t : ℕ) (mem : List ℕ) (acc : Time) (k : ℕ) : Type 0 where
-  pub most : k ≤ nth mem 2
-  pub rest : later (largest (map f (chain (inNextAt rooms) (nth mem 2) mem k))) acc ≡ largest (map f (incoming (jobIn mem) t))
-  pub among : (e : Edge) → In e (chain (inNextAt rooms) (nth mem 2) mem k) → In e (incoming (jobIn mem) t)
+-- acc is the largest time of the edges that are passed at cell k of a run from a on.
+pub record Gathered (f : Edge → Time) (a : ℕ) (cells : List ℕ) (acc : Time) (k : ℕ) : Type 0 where
+  pub rises : a ≤ k
+  pub largest-of : acc ≡ largest (map f (passed a k cells))
 
-module _ {rooms : ℕ} (f : Edge → Time) (n t : ℕ) (mem : List ℕ) (s : Standing rooms n mem) where
-  pub gather-first : t < nth mem 0 → Gathering rooms f t mem (tick 0) (nth mem (inHeadAt rooms + t))
+module _ {f : Edge → Time} {a : ℕ} {cells : List ℕ} where
+  pub gather-first : Gathered f a cells (tick 0) a
   unfolding largest
-  gather-first h =
-      let c = s .linked .chains t h in
-      let es = incoming (jobIn mem) t in
-      record {
-        most = s .linked .head-most t h;
-        rest = rw c (later-comm (largest (map f (reverse es))) (tick 0) ∙ later-zero (largest (map f (reverse es)))
-            ∙ largest-reverse f es []
-            ∙ later-comm (largest (map f es)) (tick 0)
-            ∙ later-zero (largest (map f es)));
-        among = λ e i. ⊎-elim (λ i. i) (λ i. absurd i) (in-reverse e es [] (rw c at i));
-      }
+  gather-first = record { rises = omega arith; largest-of = rw (pass-none a cells a (omega arith)) }
 
-  module _ {acc : Time} {k : ℕ} (g : Gathering rooms f t mem acc k) where
-    module _ (h : 0 < k) where
-      abbrev here : Edge
-      here = edgeIn (nth mem (edgeAt mem (k - 1)))
+  pub gather-next : {acc : Time} {k : ℕ} → Gathered f a cells acc k → (r : Time) → r ≡ later (f (edgeIn (nth cells k))) acc → Gathered f a cells r (k + 1)
+  unfolding largest
+  gather-next {k} g r e = record { rises = omega (arith, g .rises); largest-of = rw (pass-more a cells k (k + 1) (g .rises) refl, ← g .largest-of) e }
 
-      step : chain (inNextAt rooms) (nth mem 2) mem k ≡ here ∷ chain (inNextAt rooms) (nth mem 2) mem (nth mem (inNextAt rooms + (k - 1)))
-      step = chain-step (s .linked) k h (g .most)
-
-      pub gather-enters : In here (incoming (jobIn mem) t)
-      gather-enters = g .among here (rw step (inl refl))
-
-      pub gather-edge : FedIn rooms t mem → Feeds rooms here mem
-      gather-edge d = feeds n t here mem s d gather-enters
-
-      pub gather-falls : nth mem (inNextAt rooms + (k - 1)) < k
-      gather-falls = omega (arith, s .linked .falls (k - 1) (omega (arith, g .most)))
-
-      pub gather-next : (r : Time) → r ≡ later (f here) acc → Gathering rooms f t mem r (nth mem (inNextAt rooms + (k - 1)))
-      unfolding largest
-      gather-next r d =
-          let rest : List Edge = chain (inNextAt rooms) (nth mem 2) mem (nth mem (inNextAt rooms + (k - 1))) in
-          let old : later (later (f here) (largest (map f rest))) acc ≡ largest (map f (incoming (jobIn mem) t)) = rw step at (g .rest) in
-          record {
-            most = omega (arith, gather-falls, g .most);
-            rest = rw d (sym (later-assoc (largest (map f rest)) (f here) acc) ∙ ap (λ (z : Time). later z acc) (later-comm (largest (map f rest)) (f here)) ∙ old);
-            among = λ e i. g .among e (rw step (inr i));
-          }
-
-    pub gather-done : k ≡ 0 → acc ≡ largest (map f (incoming (jobIn mem) t))
-    unfolding largest
-    gather-done e = sym (later-zero acc) ∙ (rw (e, chain-end (inNextAt rooms) mem (nth mem 2)) at (g .rest))
+  pub gather-done : {b : ℕ} {es : List Edge} {acc : Time} {k : ℕ} → Passed a b cells es k → b ≤ k → Gathered f a cells acc k → acc ≡ largest (map f es)
+  unfolding largest
+  gather-done {es} w h g =
+      g .largest-of ∙ rw (pass-done w h) (largest-reverse f es [] ∙ later-comm (largest (map f es)) (tick 0) ∙ later-zero (largest (map f es)))

@@ -1,14 +1,15 @@
 -- Top levels in memory: when the data of a line is everywhere, and the largest of that over the edges that enter a task.
 use mathlib.Core.Path.{_≡_, ap, _∙_, sym}
 use mathlib.Core.List.{List}
-use Prim.Native.Nat.{ℕ, suc, _+_, _*_, _-_, _<_, _≤_, min}
+use Prim.Native.Nat.{ℕ, suc, _+_, _*_, _-_, _<_, _≤_, min, max}
 use native.Mathlib.Omega.{arith}
 use native.Mathlib.Nat.{mul-le-mul}
 use native.Mathlib.Numerals.{add-one}
 use borrow.Author.Tests.{eq-eqb, ne-eqb}
 use Rattle.definitions.specs.Lists.{nth}
 use Rattle.definitions.specs.Limits.{document01}
-use Rattle.definitions.specs.Job.{Edge}
+use Rattle.definitions.specs.Job.{Edge, incoming}
+use Rattle.orders.proofs.Walk.{Passed}
 use Rattle.definitions.specs.Times.{Time, tick, later, sooner, least}
 use Rattle.definitions.specs.Planner.{tickOf, scale}
 use Rattle.definitions.proofs.Bounds.{largestDelay-most}
@@ -20,7 +21,7 @@ use Rattle.rounds.specs.Schedule.{topIn, FarFilled}
 use Rattle.rounds.specs.Planning.{Sends, spreadIn}
 use Rattle.jobs.proofs.Held.{processors-in, sizes}
 use Rattle.rounds.specs.Walks.{Feeds}
-use Rattle.rounds.proofs.TimeLaws.{time-tick, Gathering, gather-done, later-left, later-right}
+use Rattle.rounds.proofs.TimeLaws.{time-tick, Gathered, gather-done}
 use Rattle.rounds.proofs.Placed.{line-in}
 
 -- A line's data -----------------------------------------------------------------------------------------------------
@@ -76,27 +77,27 @@ feeds-sends {rooms} {k} {mem} {e} s t f d =
     }
 
 -- The later of the new time and the largest so far.
-pub top-later : (x y : ℕ) → x ≤ 4296011520 → y ≤ 4296011520 → (tick y ≡ timeIn y) × (y ≤ x → timeIn x ≡ later (timeIn y) (timeIn x)) × (x ≤ y → timeIn y ≡ later (timeIn y) (timeIn x))
-top-later x y h g = (sym (time-tick y (λ q. omega arith)), later-right y x (omega arith) (omega arith), later-left y x (omega arith) (omega arith))
+pub top-later : (x y z : ℕ) → x ≤ 4296011520 → y ≤ 4296011520 → z ≡ max y x → (timeIn z ≡ later (tick y) (timeIn x)) × (z ≤ 4296011520)
+top-later x y z h g e = (rw (time-tick x (λ q. omega arith), time-tick z (λ q. omega arith), e), omega arith)
 
-module _ {rooms t x k : ℕ} {mem : List ℕ} (n : ℕ) (s : Standing rooms n mem) (g : Gathering rooms (spreads rooms mem) t mem (timeIn x) k) (e : k ≡ 0) (l : x ≤ 4296011520) where
+module _ {rooms : ℕ} {mem : List ℕ} (h : JobHeld rooms mem) where
+  pub scale-most : nth mem 1 * (nth mem 1 - 1) ≤ 240
+  scale-most = let w = sizes h in mul-le-mul {n₁ = nth mem 1} {m₁ = nth mem 1 - 1} {n₂ = 16} {m₂ = 15} (omega arith) (omega arith)
+
+  pub top-most : (x : ℕ) → x ≤ 4296011520 → x * (nth mem 1 * (nth mem 1 - 1)) ≤ 1100000000000
+  top-most x l = omega (arith, mul-le-mul {n₁ = x} {m₁ = nth mem 1 * (nth mem 1 - 1)} {n₂ = 4296011520} {m₂ = 240} l scale-most)
+
+-- All edges that enter t are passed.
+module _ {rooms x k a b : ℕ} {mem links : List ℕ} (t : ℕ) (h : JobHeld rooms mem) (w : Passed a b links (incoming (jobIn mem) t) k) (e : b ≤ k)
+    (g : Gathered (spreads rooms mem) a links (timeIn x) k) (l : x ≤ 4296011520) where
   top-done : x ≡ tickOf (topIn rooms t mem)
   unfolding topIn spreadIn
-  top-done = ap tickOf (sym (time-tick x (λ q. omega arith)) ∙ gather-done (spreads rooms mem) n t mem s g e)
+  top-done = ap tickOf (sym (time-tick x (λ q. omega arith)) ∙ gather-done w e g)
 
-  abbrev m : ℕ
-  m = nth mem 1
-
-  pub scale-most : m * (m - 1) ≤ 240
-  scale-most = let w = sizes (s .job) in mul-le-mul {n₁ = m} {m₁ = m - 1} {n₂ = 16} {m₂ = 15} (omega arith) (omega arith)
-
-  pub top-most : x * (m * (m - 1)) ≤ 1100000000000
-  top-most = omega (arith, mul-le-mul {n₁ = x} {m₁ = m * (m - 1)} {n₂ = 4296011520} {m₂ = 240} l scale-most)
-
-  pub top-one : m ≡ 1 → x ≡ tickOf (topIn rooms t mem) * scale (jobIn mem)
+  pub top-one : nth mem 1 ≡ 1 → x ≡ tickOf (topIn rooms t mem) * scale (jobIn mem)
   unfolding jobIn
-  top-one q = rw (← top-done, eq-eqb m 1 q) (omega arith)
+  top-one q = rw (← top-done, eq-eqb (nth mem 1) 1 q) (omega arith)
 
-  pub top-scaled : (m ≡ 1 → ⊥) → x * (m * (m - 1)) ≡ tickOf (topIn rooms t mem) * scale (jobIn mem)
+  pub top-scaled : (nth mem 1 ≡ 1 → ⊥) → x * (nth mem 1 * (nth mem 1 - 1)) ≡ tickOf (topIn rooms t mem) * scale (jobIn mem)
   unfolding jobIn
-  top-scaled q = rw (← top-done, ne-eqb m 1 q)
+  top-scaled q = rw (← top-done, ne-eqb (nth mem 1) 1 q)

@@ -1,47 +1,49 @@
--- The edge that a link leads to, where the edges stand from g on.
-use mathlib.Core.Path.{_≡_, refl, ap}
+-- The runs of a task's edges, as they are read from the links.
+use mathlib.Core.Path.{_≡_, refl, _∙_}
 use mathlib.Core.List.{List}
-use Prim.Native.Nat.{ℕ, _+_, _*_, _-_, _/_, _%_, _<_, _≤_}
+use Prim.Native.Nat.{ℕ, _+_, _-_, _<_, _≤_}
 use native.Mathlib.Omega.{arith}
-use lib.ListN.{length}
+use lib.ListN.{length, drop}
+use lib.Seq.{getD-drop}
 use Rattle.definitions.specs.Lists.{nth}
-use Rattle.heads.specs.Layout.{inNextAt, outNextAt, lineAt, rowAt}
-use Rattle.jobs.specs.Held.{edgeAt}
-use Rattle.jobs.proofs.Held.{sizes, to-below}
-use Rattle.rounds.specs.Walks.{EntersAt, Entered, LeavesAt, Left}
+use Rattle.definitions.specs.Job.{Edge, incoming, outgoing}
+use Rattle.orders.specs.Links.{Run, outStartAt, inStartAt, orderAt, linkIn}
+use Rattle.orders.proofs.LinkIn.{link-in}
+use Rattle.heads.specs.Layout.{lineAt}
+use Rattle.jobs.specs.Held.{edgeAt, jobIn, JobHeld, LinksHeld}
+use Rattle.jobs.proofs.Held.{sizes}
+use Rattle.plans.specs.Lines.{rowOf}
+use Rattle.rounds.specs.Walks.{Feeds, Entered}
 
-link-cell : (mem : List ℕ) (g k : ℕ) → g ≡ edgeAt mem 0 → nth mem (g + (k - 1)) ≡ nth mem (edgeAt mem (k - 1))
-link-cell mem g k e = let p : g + (k - 1) ≡ edgeAt mem (k - 1) = omega arith in ap (nth mem) p
+module _ {mem links : List ℕ} (l : LinksHeld mem links) {t : ℕ} (h : t < nth mem 0) where
+  cell-of : (i : ℕ) → linkIn (nth mem 0) t i links ≡ nth links i
+  cell-of i = link-in (nth mem 0) t i links (nth mem 2) (l .size) h
 
--- An edge that enters a task: its cell, and the line of the task that it leaves.
-module _ {rooms g k : ℕ} {mem : List ℕ} (p : EntersAt rooms g k mem) where
-  abbrev cell : ℕ
-  cell = nth mem (g + (k - 1))
+  pub enters-run : {a b : ℕ}
+      → (a ≡ linkIn (nth mem 0) t (inStartAt (nth mem 0) t) links) × (b ≡ linkIn (nth mem 0) t (inStartAt (nth mem 0) (t + 1)) links)
+      → Run a b links (incoming (jobIn mem) t)
+  enters-run s = rw (s .0 ∙ cell-of _, s .1 ∙ cell-of _) (l .ins t h)
 
-  abbrev line : ℕ
-  line = nth mem (lineAt rooms + cell % 256)
+  pub leaves-run : {g a b : ℕ} → g ≡ edgeAt mem 0
+      → (a ≡ linkIn (nth mem 0) t (outStartAt (nth mem 0) t) links) × (b ≡ linkIn (nth mem 0) t (outStartAt (nth mem 0) (t + 1)) links)
+      → Run (g + a) (g + b) mem (outgoing (jobIn mem) t) × (g + b ≤ edgeAt mem (nth mem 2))
+  leaves-run {g} {a} {b} e s =
+      let x = s .0 ∙ cell-of _ in
+      let y = s .1 ∙ cell-of _ in
+      let p : edgeAt mem (nth links (outStartAt (nth mem 0) t)) ≡ g + a = omega (arith, e, x) in
+      let q : edgeAt mem (nth links (outStartAt (nth mem 0) (t + 1))) ≡ g + b = omega (arith, e, y) in
+      (rw (p, q) at (l .outs t h), omega (arith, q, l .within t h))
 
-  pub enters-from : cell % 256 < 8 * rooms
-  enters-from = rw (link-cell mem g k (p .place)) (omega (arith, p .feeds .from-below, sizes (p .job) .tasks-most))
+  -- Task t of the order.
+  pub task-of-order : linkIn (nth mem 0) t (orderAt (nth mem 0) t) links ≡ nth (drop (orderAt (nth mem 0) 0) links) t
+  task-of-order =
+      let p : orderAt (nth mem 0) t ≡ orderAt (nth mem 0) 0 + t = omega arith in
+      cell-of _ ∙ rw (p, getD-drop)
 
-  pub enters-volume : cell / 65536 ≤ 4095
-  enters-volume = rw (link-cell mem g k (p .place)) (p .feeds .volume-most)
+-- The line and the volume of an edge that enters a task.
+module _ {rooms : ℕ} {e : Edge} {mem : List ℕ} (h : JobHeld rooms mem) (f : Feeds rooms e mem) where
+  pub inward-row : (lineAt rooms + e .from < length mem) × (0 < nth mem (lineAt rooms + e .from)) × (rowOf rooms (e .from) mem ≤ length mem)
+  inward-row = let s = sizes h in (omega (arith, f .from-below), f .line-some, omega (arith, f .line-some, f .line-most))
 
-  pub enters-line : (0 < line) × (line ≤ 8 * rooms)
-  enters-line = rw (link-cell mem g k (p .place)) (p .feeds .line-some, p .feeds .line-most)
-
-  pub entered : Entered rooms k mem (289 * rooms + (line - 1) * 25) (cell / 65536) (nth mem (inNextAt rooms + (k - 1)))
-  entered =
-      record {
-        row-of = rw (link-cell mem g k (p .place)) refl;
-        within = omega (arith, enters-line);
-        volume-of = rw (link-cell mem g k (p .place)) refl;
-        next-of = refl;
-      }
-
--- An edge that leaves a task.
-pub left : {rooms g k : ℕ} {mem : List ℕ} (p : LeavesAt rooms g k mem)
-    → Left rooms k mem (nth mem (g + (k - 1)) / 256 % 256) (nth mem (g + (k - 1)) / 65536) (nth mem (outNextAt rooms + (k - 1)))
-left {rooms} {g} {k} {mem} p =
-    rw (link-cell mem g k (p .place))
-    (record { to-of = refl; to-below = to-below (p .job) (k - 1) (omega (arith, p .some, p .most)); volume-of = refl; next-of = refl })
+  pub inward-made : Entered rooms e mem (rowOf rooms (e .from) mem) (e .volume)
+  inward-made = record { row-of = refl; within = omega (arith, f .line-some, f .line-most); held = f .row; volume-of = refl; little = f .volume-most }

@@ -10,7 +10,7 @@ use Rattle.definitions.specs.Limits.{document01}
 use Rattle.definitions.specs.Job.{Edge, runTime, delay, incoming}
 use Rattle.definitions.specs.Times.{Time, tick, never, later, after}
 use Rattle.heads.specs.Layout.{lineAt, earlyAt, lateAt}
-use Rattle.jobs.specs.Held.{runAt, jobIn}
+use Rattle.jobs.specs.Held.{jobIn}
 use Rattle.rounds.specs.Schedule.{arrivalIn, dataIn}
 use Rattle.ticks.specs.Cells.{Small}
 use Rattle.plans.specs.Lines.{rowOf}
@@ -77,7 +77,7 @@ pub record ShortClocks (clocks : Clocks) (mem : List ℕ) : Type 0 where
 
 -- The run times of t, and they are as short as a run is.
 pub record RunsOf (t : ℕ) (mem runs : List ℕ) : Type 0 where
-  pub run : (p : ℕ) → p < nth mem 1 → nth runs p ≡ nth mem (runAt mem t p)
+  pub run : (p : ℕ) → p < nth mem 1 → nth runs p ≡ runTime (jobIn mem) t p
   pub most : (p : ℕ) → p < nth mem 1 → nth runs p ≤ document01 .runTime
 
 -- The finishes of t on each processor, early and late, if they are ready at the clocks' ticks.

@@ -2,14 +2,14 @@
 use mathlib.Core.Path.{_≡_}
 use mathlib.Core.List.{List, [], _∷_}
 use mathlib.Core.Bool.{Bool, true, false}
-use Prim.Native.Nat.{ℕ, _+_, _*_, _<_}
-use Rattle.definitions.specs.Lists.{if_then_else_, nth, In}
+use Prim.Native.Nat.{ℕ, _+_, _<_}
+use Rattle.definitions.specs.Lists.{nth, In}
 use Rattle.definitions.specs.Times.{Time}
 use Rattle.heads.specs.Layout.{rowAt, processorAt, timeAt}
 use Rattle.jobs.specs.Held.{jobIn}
 use Rattle.ticks.specs.Cells.{timeIn}
 use Rattle.plans.specs.Lines.{placedIn}
-use Rattle.rounds.specs.Planning.{finishOn, ClocksHeld}
+use Rattle.rounds.specs.Clocks.{finishOn, ClocksHeld}
 use Rattle.ticks.specs.declared.clocks.Clocks.{Clocks}
 
 -- The ready ticks of all processors after the first k lines.

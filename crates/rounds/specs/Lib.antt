@@ -1,5 +1,6 @@
 pub mod Arrivals
 pub mod Checking
+pub mod Clocks
 pub mod Levels
 pub mod Planning
 pub mod Replaying

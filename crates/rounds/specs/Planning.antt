@@ -10,15 +10,14 @@ use Rattle.definitions.specs.Lists.{nth, below, keep}
 use Rattle.definitions.specs.Limits.{document01}
 use Rattle.definitions.specs.Job.{Edge, Job, incoming}
 use Rattle.definitions.specs.Plan.{Replica}
-use Rattle.definitions.specs.Times.{Time, tick, after, least, Outcome, ready, finish, copyOf}
+use Rattle.definitions.specs.Times.{Time, tick, after, least, finish}
 use Rattle.definitions.specs.Planner.{tickOf, greatestOf, Waiting, waitingFrom, scale, topLevel, trial, chosen, place, planFor}
-use Rattle.rounds.specs.Walks.{edgeOf}
-use Rattle.heads.specs.Layout.{outNextAt, levelAt, lineAt, blockedAt, priorityAt, rowAt, farAt, processorAt, earlyAt, lateAt, replicaEnd}
-use Rattle.jobs.specs.Held.{chain, jobIn, JobStands, LinkedOut}
-use Rattle.rounds.specs.Schedule.{choiceOf, topIn, FarFilled, LevelsFilled, ShortTo}
-use Rattle.plans.specs.Lines.{rowOutcomes, placedIn, rowReplicas, linesIn, RowHeld, Standing}
+use Rattle.heads.specs.Layout.{levelAt, lineAt, blockedAt, priorityAt, rowAt, farAt, processorAt, earlyAt, lateAt, replicaEnd}
+use Rattle.jobs.specs.Held.{jobIn}
+use Rattle.rounds.specs.Clocks.{earliesIn, latesIn, finishOn}
+use Rattle.rounds.specs.Schedule.{topIn, FarFilled, LevelsFilled, ShortTo}
+use Rattle.plans.specs.Lines.{rowEnd, rowOutcomes, rowReplicas, linesIn, RowHeld, Standing}
 use Rattle.lists.specs.Kept.{KeptOutside}
-use Rattle.ticks.specs.declared.clocks.Clocks.{Clocks}
 
 -- The choice of a task ------------------------------------------------------------------------------------------
 
@@ -78,7 +77,7 @@ waitingIn rooms mem =
 -- The line at a is one that top levels ask, for an edge of this volume.
 pub record Sends (rooms a volume : ℕ) (mem : List ℕ) : Type 0 where
   pub row : RowHeld a mem
-  pub within : a + 25 ≤ length mem
+  pub within : rowEnd a ≤ length mem
   pub narrow : nth mem 3 ≤ document01 .losses
   pub ticks : (c : ℕ) → c < nth mem 3 + 1 → nth mem (earlyAt a c) ≤ document01 .tick
   pub little : volume ≤ document01 .volume
@@ -90,44 +89,13 @@ spreadIn rooms volume a c mem = least (map (λ d. after (volume * nth mem (farAt
 
 -- What is placed ------------------------------------------------------------------------------------------------
 
--- The replicas of the first k lines with their early times, and with their late ones.
-abbrev pub earliesIn : ℕ → ℕ → List ℕ → List Outcome
-earliesIn rooms k mem = placedIn rooms false (nth mem 3 + 1) k mem
-
-abbrev pub latesIn : ℕ → ℕ → List ℕ → List Outcome
-latesIn rooms k mem = placedIn rooms true (nth mem 3 + 1) k mem
-
--- The early or the late finish of task t on p, after the first k lines.
-unfoldable pub finishOn : ℕ → Bool → ℕ → List ℕ → ℕ → ℕ → Time
-finishOn rooms late k mem t p = finish (jobIn mem) (choiceOf late) [] (placedIn rooms late (nth mem 3 + 1) k mem) (copyOf (jobIn mem) t p)
-
 -- The replica of t on p, after the first k lines.
 abbrev pub replicaOn : ℕ → ℕ → List ℕ → ℕ → ℕ → Replica
 replicaOn rooms k mem t p = record { processor = p; early = tickOf (finishOn rooms false k mem t p); late = tickOf (finishOn rooms true k mem t p) }
 
--- The clocks have the ready ticks of all processors after what is placed, with its early and its late times.
-pub record ClocksHeld (clocks : Clocks) (j : Job) (es ls : List Outcome) : Type 0 where
-  pub early-size : length (clocks .early) ≡ 16
-  pub late-size : length (clocks .late) ≡ 16
-  pub early-ready : (p : ℕ) → p < j .processors → tick (nth (clocks .early) p) ≡ ready j p es
-  pub late-ready : (p : ℕ) → p < j .processors → tick (nth (clocks .late) p) ≡ ready j p ls
-
--- The line at a has ticks that clocks can show.
-pub record LineTimed (a : ℕ) (mem : List ℕ) : Type 0 where
-  pub job : JobStands mem
-  pub row : RowHeld a mem
-  pub within : a + 25 ≤ length mem
-  pub ticks : (c : ℕ) → c < nth mem 3 + 1 → (nth mem (earlyAt a c) ≤ 4294967295) × (nth mem (lateAt a c) ≤ 4294967295)
-
--- The clocks next are the clocks after the first c replicas of the line at a besides.
-abbrev pub Advanced : ℕ → ℕ → List ℕ → Clocks → Clocks → Type 0
-Advanced a c mem clocks next =
-    (es ls : List Outcome) → ClocksHeld clocks (jobIn mem) es ls → ClocksHeld next (jobIn mem) (rowOutcomes false a c mem ++ es) (rowOutcomes true a c mem ++ ls)
-
 -- k lines of the plan are drawn up, and what is left to place gives the rest of it.
 pub record Drawn (rooms k : ℕ) (mem : List ℕ) : Type 0 where
   pub standing : Standing rooms k mem
-  pub linked : LinkedOut rooms mem
   pub far : FarFilled rooms mem
   pub levels : LevelsFilled rooms mem
   pub ticks : ShortTo rooms k mem
@@ -168,10 +136,10 @@ pub record Begun (rooms k t : ℕ) (ps : List ℕ) (d mem : List ℕ) : Type 0 w
   pub kept : KeptOutside (rowAt rooms k) (farAt rooms) d mem
   pub replicas : rowReplicas (rowAt rooms k) (length ps) mem ≡ map (replicaOn rooms k d t) ps
 
--- The first n tasks have no line and no edge that is counted, and their bottom levels for priorities.
-pub record Cleared (rooms n : ℕ) (mem : List ℕ) : Type 0 where
+-- The first n tasks have no line, all their edges counted, and their bottom levels for priorities.
+pub record Cleared (rooms n : ℕ) (j : Job) (mem : List ℕ) : Type 0 where
   pub line : (t : ℕ) → t < n → nth mem (lineAt rooms + t) ≡ 0
-  pub blocked : (t : ℕ) → t < n → nth mem (blockedAt rooms + t) ≡ 0
+  pub blocked : (t : ℕ) → t < n → nth mem (blockedAt rooms + t) ≡ length (incoming j t)
   pub priority : (t : ℕ) → t < n → nth mem (priorityAt rooms + t) ≡ nth mem (levelAt rooms + t)
 
 -- The edges that leave a placed task no longer block ---------------------------------------------------------------
@@ -184,17 +152,16 @@ blocking rooms mem u = length (keep (λ e. eqb (nth mem (lineAt rooms + e .from)
 abbrev pub entries : ℕ → List Edge → ℕ
 entries u es = length (keep (λ e. eqb (e .to) u) es)
 
--- The edges from link k on are still counted; n lines are drawn up in d.
-pub record Releasing (rooms n k : ℕ) (d mem : List ℕ) : Type 0 where
+-- The edges es are still counted; n lines are drawn up in d.
+pub record Releasing (rooms n : ℕ) (es : List Edge) (d mem : List ℕ) : Type 0 where
   pub kept : KeptOutside (blockedAt rooms) (rowAt rooms 0) d mem
-  pub most : k ≤ nth d 2
-  pub blocked : (u : ℕ) → u < nth d 0 → nth mem (blockedAt rooms + u) ≡ blocking rooms d u + entries u (chain (outNextAt rooms) (nth d 2) d k)
+  pub blocked : (u : ℕ) → u < nth d 0 → nth mem (blockedAt rooms + u) ≡ blocking rooms d u + entries u es
   pub priorities : (u : ℕ) → u < nth d 0 → nth d (lineAt rooms + u) ≡ 0 → nth mem (blockedAt rooms + u) ≡ 0
       → nth mem (priorityAt rooms + u) ≡ topLevel (jobIn d) (earliesIn rooms n d) u + nth d (levelAt rooms + u)
 
--- The edge of link k is the next that no longer counts, and it enters u.
-pub record Unblocks (rooms n k u : ℕ) (d mem : List ℕ) : Type 0 where
+-- The edge e is the next that no longer counts, before the edges es, and it enters u.
+pub record Unblocks (rooms n : ℕ) (e : Edge) (es : List Edge) (u : ℕ) (d mem : List ℕ) : Type 0 where
   pub drawn : Drawn rooms n d
-  pub releasing : Releasing rooms n k d mem
-  pub some : 0 < k
-  pub enters : u ≡ edgeOf k d .to
+  pub releasing : Releasing rooms n (e ∷ es) d mem
+  pub enters : u ≡ e .to
+  pub task : u < nth d 0

@@ -2,7 +2,7 @@
 use mathlib.Core.Path.{_≡_}
 use mathlib.Core.List.{List, _++_, map, reverse, reverseAux}
 use mathlib.Core.Bool.{false}
-use Prim.Native.Nat.{ℕ, suc, _+_, _*_, _%_, _<_, _≤_}
+use Prim.Native.Nat.{ℕ, suc, _+_, _*_, _<_, _≤_}
 use lib.ListN.{length}
 use Rattle.definitions.specs.Lists.{nth, In}
 use Rattle.definitions.specs.Limits.{document01}
@@ -13,7 +13,7 @@ use Rattle.definitions.specs.Times.{least, Copy, Outcome, ready, stopTime, walk
 use Rattle.definitions.specs.Replay.{replay, firstFinish, firstBox, replayText}
 use Rattle.definitions.specs.Tools.{fitting}
 use Rattle.definitions.specs.Claims.{PlacedWithin}
-use Rattle.heads.specs.Layout.{lineAt, rowAt, farAt, processorAt}
+use Rattle.heads.specs.Layout.{lineAt, rowAt, farAt, processorAt, lateAt}
 use Rattle.jobs.specs.Held.{jobIn}
 use Rattle.rounds.specs.Schedule.{lineTicks}
 use Rattle.ticks.specs.Cells.{neverCell, timeIn, Small}
@@ -45,7 +45,9 @@ FedBefore rooms k mem =
 -- In the lines from k to below n early times changed, and nothing else.
 pub record Retimed (rooms k n : ℕ) (d e : List ℕ) : Type 0 where
   pub outside : KeptOutside (rowAt rooms k) (rowAt rooms n) d e
-  pub row : (i o : ℕ) → o < 25 → (o % 3 ≡ 2 → ⊥) → nth e (rowAt rooms i + o) ≡ nth d (rowAt rooms i + o)
+  pub task : (i : ℕ) → nth e (rowAt rooms i) ≡ nth d (rowAt rooms i)
+  pub processor : (i c : ℕ) → c < 8 → nth e (processorAt (rowAt rooms i) c) ≡ nth d (processorAt (rowAt rooms i) c)
+  pub late : (i c : ℕ) → c < 8 → nth e (lateAt (rowAt rooms i) c) ≡ nth d (lateAt (rowAt rooms i) c)
 
 -- The replicas of the first c of line k.
 unfoldable pub copiesIn : ℕ → ℕ → ℕ → List ℕ → List Copy

@@ -2,11 +2,11 @@
 use mathlib.Core.Path.{_≡_}
 use mathlib.Core.List.{List, map}
 use mathlib.Core.Bool.{Bool, true, false}
-use Prim.Native.Nat.{ℕ, _+_, _*_, _-_, _<_, _≤_}
+use Prim.Native.Nat.{ℕ, _+_, _*_, _<_, _≤_}
 use Rattle.definitions.specs.Lists.{nth, In}
 use Rattle.definitions.specs.Limits.{document01}
-use Rattle.definitions.specs.Job.{Edge, delay, incoming}
-use Rattle.definitions.specs.Times.{Time, tick, after, least, largest}
+use Rattle.definitions.specs.Job.{Edge, incoming}
+use Rattle.definitions.specs.Times.{Time, after, least, largest, arrival}
 use Rattle.definitions.specs.Planner.{largestDelay, bottomLevels}
 use Rattle.jobs.specs.Held.{jobIn}
 use Rattle.plans.specs.Lines.{rowOutcomes, rowOf}
@@ -21,11 +21,13 @@ choiceOf false = least
 abbrev pub lineTicks : ℕ
 lineTicks = document01 .runTime + document01 .volume * document01 .delay
 
--- When the data of a predecessor whose line is at a is on p.
+-- An edge of this volume from the task whose line is at a.
+abbrev pub edgeFrom : ℕ → ℕ → List ℕ → Edge
+edgeFrom volume a mem = record { from = nth mem a; to = 0; volume = volume }
+
+-- When its data is on p, by the replicas of that line.
 unfoldable pub arrivalIn : Bool → ℕ → ℕ → ℕ → List ℕ → Time
-arrivalIn late volume p a mem =
-    choiceOf late
-    (map (λ d. after (volume * delay (jobIn mem) (d .processor) p) (d .time)) (rowOutcomes late a (nth mem 3 + 1) mem))
+arrivalIn late volume p a mem = arrival (jobIn mem) (choiceOf late) (rowOutcomes late a (nth mem 3 + 1) mem) p (edgeFrom volume a mem)
 
 -- When all data of t is on p.
 unfoldable pub dataIn : ℕ → Bool → ℕ → ℕ → List ℕ → Time

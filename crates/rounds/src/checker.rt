@@ -8,20 +8,19 @@ ghost use Rattle.definitions.specs.Limits.{document01};
 ghost use Rattle.definitions.specs.Text.{good};
 ghost use Rattle.definitions.specs.Refusals.{doubledTasks, ticksAgree, endsAgree};
 ghost use Rattle.definitions.specs.Tools.{verdictFor};
-ghost use Rattle.jobs.specs.Held.{jobIn, LinkedOut};
+ghost use Rattle.jobs.specs.Held.{jobIn, LinksHeld};
 ghost use Rattle.rounds.specs.Schedule.{ShortTo};
-ghost use Rattle.plans.specs.Loading.{planIn};
+ghost use Rattle.plans.specs.Loading.{planIn, PlanHeld};
 ghost use Rattle.rounds.specs.Verdicts.{Judged};
 ghost use Rattle.rounds.specs.Arrivals.{DelayTable};
-ghost use Rattle.plans.specs.Loading.{PlanHeld};
 ghost use Rattle.replicas.specs.Cells.{doubledIn};
 ghost use Rattle.rounds.specs.Checking.{ClocksAfter, LineAgrees, DoubledBy};
 use crate::Checked;
 use crate::clocks;
 use crate::ends;
+use crate::row;
 use crate::times;
 use heads::layout::BEST;
-use heads::layout::ROWS;
 use heads::layout::WORST;
 use replicas::Doubling;
 use ticks::clocks::Clocks;
@@ -31,29 +30,37 @@ fn doubled(mem: &[u64], rooms: usize) -> Doubling
     requires { ⌜ PlanHeld rooms (now mem) ⌝ }
     ensures { λ r. ⌜ DoubledBy (doubledTasks (planIn rooms (now (mem .entry)) .lines)) (doubledIn r) ⌝ }
 {
-    let rows = ROWS * rooms;
-    let end = rows + mem[0] as usize * 25;
+    let first = row::row_at(rooms, 0);
+    let end = row::row_at(rooms, mem[0] as usize);
     let w = mem[3] as usize + 1;
-    replicas::doubled_task(&mem[rows..end], w)
+    replicas::doubled_task(&mem[first..end], w)
 }
 
 // The ticks of line k are the equations'.
-fn line_agrees(mem: &[u64], rooms: usize, delays: &[u16; 256], k: usize, clocks: Clocks) -> bool
-    requires { ⌜ PlanHeld rooms (now mem) × DelayTable (now delays) (now mem) × (k < nth (now mem) 0) × ShortTo rooms k (now mem) × ClocksAfter rooms k (now mem) clocks ⌝ }
+fn line_agrees(
+    mem: &[u64],
+    links: &[u64],
+    rooms: usize,
+    delays: &[u16; 256],
+    k: usize,
+    clocks: Clocks,
+) -> bool
+    requires { ⌜ PlanHeld rooms (now mem) × DelayTable (now delays) (now mem) × (k < nth (now mem) 0) × ShortTo rooms k (now mem) × ClocksAfter rooms k (now mem) clocks
+        × LinksHeld (now mem) (now links) ⌝ }
     ensures { λ r. ⌜ (r ≡ true → LineAgrees rooms k (now (mem .entry)) × ShortTo rooms (k + 1) (now (mem .entry))) × (LineAgrees rooms k (now (mem .entry)) → r ≡ true) ⌝ }
 {
-    let rows = ROWS * rooms;
     let w = mem[3] as usize + 1;
-    let a = rows + k * 25;
+    let a = row::row_at(rooms, k);
     let t = mem[a] as usize;
-    let f = times::finishes(mem, rooms, delays, t, clocks);
+    let f = times::finishes(mem, links, rooms, delays, t, clocks);
     let mut c = 0;
     while c < w {
-        let p = mem[a + (1 + 3 * c)] as usize;
-        if f.early[p] as u64 != mem[a + (2 + 3 * c)] {
+        let x = row::replica_at(mem, a, c);
+        let p = x.processor;
+        if f.early[p] as u64 != x.early {
             return false;
         }
-        if f.late[p] as u64 != mem[a + (3 + 3 * c)] {
+        if f.late[p] as u64 != x.late {
             return false;
         }
         c += 1;
@@ -62,18 +69,17 @@ fn line_agrees(mem: &[u64], rooms: usize, delays: &[u16; 256], k: usize, clocks:
 }
 
 // All ticks are the equations'.
-fn ticks_agree(mem: &[u64], rooms: usize) -> bool
-    requires { ⌜ PlanHeld rooms (now mem) × (doubledTasks (planIn rooms (now mem) .lines) ≡ []) ⌝ }
+fn ticks_agree(mem: &[u64], links: &[u64], rooms: usize) -> bool
+    requires { ⌜ PlanHeld rooms (now mem) × (doubledTasks (planIn rooms (now mem) .lines) ≡ []) × LinksHeld (now mem) (now links) ⌝ }
     ensures { λ r. ⌜ r ≡ ticksAgree (jobIn (now (mem .entry))) (planIn rooms (now (mem .entry)) .lines) ⌝ }
 {
-    let rows = ROWS * rooms;
     let v = mem[0] as usize;
     let delays = times::delay_table(mem);
     let mut clocks = Clocks::new();
     let mut k = 0;
     while k < v {
-        if line_agrees(mem, rooms, &delays, k, clocks) {
-            let next = clocks::advance_line(mem, rows + k * 25, clocks);
+        if line_agrees(mem, links, rooms, &delays, k, clocks) {
+            let next = clocks::advance_line(mem, row::row_at(rooms, k), clocks);
             clocks = next;
         } else {
             return false;
@@ -84,27 +90,28 @@ fn ticks_agree(mem: &[u64], rooms: usize) -> bool
 }
 
 // M* and M are the equations', if all ticks are.
-fn ends_agree(mem: &[u64], rooms: usize) -> bool
-    requires { ⌜ PlanHeld rooms (now mem) × LinkedOut rooms (now mem) × (doubledTasks (planIn rooms (now mem) .lines) ≡ []) × (ticksAgree (jobIn (now mem)) (planIn rooms (now mem) .lines) ≡ true) ⌝ }
+fn ends_agree(mem: &[u64], links: &[u64], rooms: usize) -> bool
+    requires { ⌜ PlanHeld rooms (now mem) × LinksHeld (now mem) (now links) × (doubledTasks (planIn rooms (now mem) .lines) ≡ [])
+        × (ticksAgree (jobIn (now mem)) (planIn rooms (now mem) .lines) ≡ true) ⌝ }
     ensures { λ r. ⌜ r ≡ endsAgree (jobIn (now (mem .entry))) (planIn rooms (now (mem .entry))) ⌝ }
 {
     let best_at = BEST * rooms;
     let worst_at = WORST * rooms;
-    let best = ends::end_of(mem, rooms, false);
+    let best = ends::end_of(mem, links, rooms, false);
     if best != mem[best_at] {
         return false;
     }
-    let worst = ends::end_of(mem, rooms, true);
+    let worst = ends::end_of(mem, links, rooms, true);
     worst == mem[worst_at]
 }
 
 // The checker's answer to the plan in memory, none of whose tasks has two replicas on one processor.
-fn compare(mem: &[u64], rooms: usize) -> Checked
-    requires { ⌜ PlanHeld rooms (now mem) × LinkedOut rooms (now mem) × (doubledTasks (planIn rooms (now mem) .lines) ≡ []) ⌝ }
+fn compare(mem: &[u64], links: &[u64], rooms: usize) -> Checked
+    requires { ⌜ PlanHeld rooms (now mem) × LinksHeld (now mem) (now links) × (doubledTasks (planIn rooms (now mem) .lines) ≡ []) ⌝ }
     ensures { λ r. ⌜ Judged (verdictFor document01 (jobIn (now (mem .entry))) (good (planIn rooms (now (mem .entry))))) r ⌝ }
 {
-    if ticks_agree(mem, rooms) {
-        if ends_agree(mem, rooms) {
+    if ticks_agree(mem, links, rooms) {
+        if ends_agree(mem, links, rooms) {
             return Checked::Accepted;
         }
         return Checked::Refused(14);
@@ -113,12 +120,12 @@ fn compare(mem: &[u64], rooms: usize) -> Checked
 }
 
 // The checker's answer to the plan in memory.
-pub fn judge(mem: &[u64], rooms: usize) -> Checked
-    requires { ⌜ PlanHeld rooms (now mem) × LinkedOut rooms (now mem) ⌝ }
+pub fn judge(mem: &[u64], links: &[u64], rooms: usize) -> Checked
+    requires { ⌜ PlanHeld rooms (now mem) × LinksHeld (now mem) (now links) ⌝ }
     ensures { λ r. ⌜ Judged (verdictFor document01 (jobIn (now (mem .entry))) (good (planIn rooms (now (mem .entry))))) r ⌝ }
 {
     match doubled(mem, rooms) {
-        Doubling::Single => compare(mem, rooms),
+        Doubling::Single => compare(mem, links, rooms),
         Doubling::Twice(t) => Checked::Doubled(t as u8),
     }
 }

@@ -1,7 +1,8 @@
 // The clocks after a line.
 ghost use Prim.Native.Nat.{_+_};
 ghost use Rattle.definitions.specs.Lists.{nth};
-ghost use Rattle.rounds.specs.Planning.{LineTimed, Advanced};
+ghost use Rattle.rounds.specs.Clocks.{LineTimed, Advanced};
+use crate::row;
 use ticks::clocks::Clocks;
 
 // The clocks after the replicas of the line at `a`, copy by copy.
@@ -13,10 +14,8 @@ pub fn advance_line(mem: &[u64], a: usize, clocks: Clocks) -> Clocks
     let mut after = clocks;
     let mut c = 0;
     while c < w {
-        let p = mem[a + (1 + 3 * c)] as usize;
-        let early = mem[a + (2 + 3 * c)] as u32;
-        let late = mem[a + (3 + 3 * c)] as u32;
-        let next = after.advance(p, early, late);
+        let x = row::replica_at(mem, a, c);
+        let next = after.advance(x.processor, x.early as u32, x.late as u32);
         after = next;
         c += 1;
     }

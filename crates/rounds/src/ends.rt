@@ -6,14 +6,12 @@ ghost use lib.ListN.{length};
 ghost use Rattle.definitions.specs.Lists.{if_then_else_, nth, empty};
 ghost use Rattle.definitions.specs.Job.{outgoing};
 ghost use Rattle.definitions.specs.Times.{tick, times, ofTask, end};
-ghost use Rattle.jobs.specs.Held.{jobIn, LinkedOut, JobStands};
+ghost use Rattle.jobs.specs.Held.{jobIn, JobStands, LinksHeld};
 ghost use Rattle.ticks.specs.Cells.{timeIn};
-ghost use Rattle.plans.specs.Lines.{rowOutcomes, placedIn, Standing};
+ghost use Rattle.plans.specs.Lines.{rowEnd, rowOutcomes, placedIn, Standing};
 ghost use Rattle.rounds.specs.Schedule.{choiceOf};
+use crate::row;
 use crate::times;
-use heads::layout::LINE;
-use heads::layout::OUT_HEAD;
-use heads::layout::ROWS;
 use ticks::lanes::NEVER;
 
 // The choice among no times.
@@ -26,58 +24,44 @@ fn chosen_of_none(late: bool) -> u64
     NEVER
 }
 
-// Where a replica's late or early time stands after its line's task.
-fn time_place(late: bool) -> usize
-    ensures { λ r. ⌜ r ≡ (if late then 3 else 2) ⌝ }
-{
-    if late {
-        return 3;
-    }
-    2
-}
-
 // The least early, or the largest late, of the times in the line at `a`.
 fn chosen_in(mem: &[u64], late: bool, a: usize) -> u64
-    requires { ⌜ JobStands (now mem) × (a + 25 ≤ length (now mem)) ⌝ }
+    requires { ⌜ JobStands (now mem) × (rowEnd a ≤ length (now mem)) ⌝ }
     ensures { λ r. ⌜ timeIn r ≡ choiceOf late (times (rowOutcomes late a (nth (now (mem .entry)) 3 + 1) (now (mem .entry)))) ⌝ }
 {
     let w = mem[3] as usize + 1;
-    let place = time_place(late);
     let mut acc = chosen_of_none(late);
     let mut c = 0;
     while c < w {
-        acc = times::chosen_of(late, mem[a + (place + 3 * c)], acc);
+        acc = times::chosen_of(late, row::time_at(mem, late, a, c), acc);
         c += 1;
     }
     acc
 }
 
 // The end of t, if no edge leaves it, else 0.
-fn exit_time(mem: &[u64], rooms: usize, late: bool, t: usize) -> u64
-    requires { ⌜ Standing rooms (nth (now mem) 0) (now mem) × LinkedOut rooms (now mem) × (t < nth (now mem) 0) ⌝ }
+fn exit_time(mem: &[u64], links: &[u64], rooms: usize, late: bool, t: usize) -> u64
+    requires { ⌜ Standing rooms (nth (now mem) 0) (now mem) × LinksHeld (now mem) (now links) × (t < nth (now mem) 0) ⌝ }
     ensures { λ r. ⌜ timeIn r ≡ (if empty (outgoing (jobIn (now (mem .entry))) t) then choiceOf late
         (times (ofTask t (placedIn rooms late (nth (now (mem .entry)) 3 + 1) (nth (now (mem .entry)) 0) (now (mem .entry))))) else tick 0) ⌝ }
 {
-    let out_head = OUT_HEAD * rooms;
-    let rows = ROWS * rooms;
-    let line = LINE * rooms;
-    if mem[out_head + t] != 0 {
+    let span = orders::leaving(links, mem[0] as usize, t);
+    if span.start < span.end {
         return 0;
     }
-    let a = rows + (mem[line + t] as usize - 1) * 25;
-    chosen_in(mem, late, a)
+    chosen_in(mem, late, row::row_of(mem, rooms, t))
 }
 
 // The end of all tasks, each of which is placed.
-pub fn end_of(mem: &[u64], rooms: usize, late: bool) -> u64
-    requires { ⌜ Standing rooms (nth (now mem) 0) (now mem) × LinkedOut rooms (now mem) ⌝ }
+pub fn end_of(mem: &[u64], links: &[u64], rooms: usize, late: bool) -> u64
+    requires { ⌜ Standing rooms (nth (now mem) 0) (now mem) × LinksHeld (now mem) (now links) ⌝ }
     ensures { λ r. ⌜ timeIn r ≡ end (jobIn (now (mem .entry))) (choiceOf late) (placedIn rooms late (nth (now (mem .entry)) 3 + 1) (nth (now (mem .entry)) 0) (now (mem .entry))) ⌝ }
 {
     let v = mem[0] as usize;
     let mut acc = 0;
     let mut t = 0;
     while t < v {
-        let x = exit_time(mem, rooms, late, t);
+        let x = exit_time(mem, links, rooms, late, t);
         acc = times::chosen_of(true, x, acc);
         t += 1;
     }

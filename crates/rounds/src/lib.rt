@@ -15,12 +15,15 @@ mod clocks;
 mod ends;
 mod free;
 mod levels;
+mod numbers;
 mod plan_text;
 mod planner;
 mod priority;
 mod replaying;
 mod results;
+mod row;
 mod times;
+mod tools;
 mod walk;
 
 // The checker's answer: the plan is accepted; or 12 with a task that has two replicas on one processor; or another number.
@@ -31,19 +34,22 @@ pub enum Checked {
 }
 
 // The plan for a job's text, whose head was read up to `at`, written into `out`, if it fits. `mem` is a working memory of so many
-// rooms.
+// rooms, `links` one for the links between the job's edges.
 pub fn plan_in(
     job: &[u8],
     at: usize,
     head: Head,
     mem: &mut [u64],
+    links: &mut [u64],
     rooms: usize,
     out: &mut [u8],
 ) -> Answer
-    ensures { λ r. do ⌜ Answered (planOf (jobFrom rooms (length (now (mem .entry))) (headOf head) (drop at (now (job .entry)))) (← ⟦out.len()⟧ .entry)) (now (out .entry)) (now (out .exit)) r ⌝ }
+    ensures { λ r. do
+      ⌜ Answered (planOf (jobFrom rooms (length (now (mem .entry))) (length (now (links .entry))) (headOf head) (drop at (now (job .entry)))) (← ⟦out.len()⟧ .entry))
+          (now (out .entry)) (now (out .exit)) r ⌝ }
 {
-    match jobs::load_job(job, at, head, mem, rooms) {
-        Step::Next(_) => plan_text::put_plan(mem, rooms, out),
+    match jobs::load_job(job, at, head, mem, links, rooms) {
+        Step::Next(_) => tools::put_plan(mem, &links[..], rooms, out),
         Step::Refused(x) => Answer::Refusal(x),
     }
 }
@@ -55,12 +61,13 @@ pub fn check_in(
     head: Head,
     plan: &[u8],
     mem: &mut [u64],
+    links: &mut [u64],
     rooms: usize,
 ) -> Checked
-    ensures { λ r. ⌜ Judged (verdictBoth (bothFrom rooms (length (now (mem .entry))) (headOf head) (drop at (now (job .entry))) (now (plan .entry)))) r ⌝ }
+    ensures { λ r. ⌜ Judged (verdictBoth (bothFrom rooms (length (now (mem .entry))) (length (now (links .entry))) (headOf head) (drop at (now (job .entry))) (now (plan .entry)))) r ⌝ }
 {
-    match plans::load_both(job, at, head, plan, mem, rooms) {
-        Step::Next(_) => checker::judge(&mem[..], rooms),
+    match plans::load_both(job, at, head, plan, mem, links, rooms) {
+        Step::Next(_) => checker::judge(&mem[..], &links[..], rooms),
         Step::Refused(x) => Checked::Refused(x),
     }
 }
@@ -73,15 +80,16 @@ pub fn replay_in(
     plan: &[u8],
     stops: &[u8],
     mem: &mut [u64],
+    links: &mut [u64],
     rooms: usize,
     out: &mut [u8],
 ) -> Answer
     ensures { λ r. do
-      ⌜ Answered (replayBoth (bothFrom rooms (length (now (mem .entry))) (headOf head) (drop at (now (job .entry))) (now (plan .entry)))
+      ⌜ Answered (replayBoth (bothFrom rooms (length (now (mem .entry))) (length (now (links .entry))) (headOf head) (drop at (now (job .entry))) (now (plan .entry)))
           (now (stops .entry)) (← ⟦out.len()⟧ .entry)) (now (out .entry)) (now (out .exit)) r ⌝ }
 {
-    match plans::load_both(job, at, head, plan, mem, rooms) {
-        Step::Next(_) => results::put_replay(stops, mem, rooms, out),
+    match plans::load_both(job, at, head, plan, mem, links, rooms) {
+        Step::Next(_) => tools::put_replay(stops, mem, &links[..], rooms, out),
         Step::Refused(x) => Answer::Refusal(x),
     }
 }

@@ -1,31 +1,31 @@
 // Priorities: the top levels of tasks that become free.
 ghost use mathlib.Core.Path.{_≡_};
-ghost use mathlib.Core.List.{map};
 ghost use Prim.Native.Nat.{ℕ, _+_, _*_, _≤_, _<_};
-ghost use lib.ListN.{length};
-ghost use Rattle.definitions.specs.Lists.{nth, below, greatest};
+ghost use Rattle.definitions.specs.Lists.{nth};
 ghost use Rattle.definitions.specs.Limits.{document01};
 ghost use Rattle.definitions.specs.Times.{tick};
-ghost use Rattle.definitions.specs.Planner.{tickOf, scale};
+ghost use Rattle.definitions.specs.Planner.{tickOf, scale, largestDelay};
 ghost use Rattle.heads.specs.Layout.{memorySize, farAt, rowAt, processorAt, earlyAt};
-ghost use Rattle.jobs.specs.Held.{jobIn, JobHeld};
+ghost use Rattle.jobs.specs.Held.{jobIn, JobHeld, JobStands, LinksHeld};
 ghost use Rattle.rounds.specs.Schedule.{topIn, FarFilled, FedIn};
 ghost use Rattle.lists.specs.Kept.{KeptOutside};
 ghost use Rattle.plans.specs.Lines.{Standing};
 ghost use Rattle.rounds.specs.Planning.{Sends, spreadIn};
+use crate::numbers;
+use crate::row;
 use crate::walk;
 use heads::layout::FAR;
-use heads::layout::IN_HEAD;
 
-// The largest of the m delays from `a` on.
-fn largest_delay(mem: &[u64], a: usize, m: usize) -> u64
-    requires { ⌜ a + m ≤ length (now mem) ⌝ }
-    ensures { λ r. ⌜ r ≡ greatest (map (λ q. nth (now (mem .entry)) (a + q)) (below m)) ⌝ }
+// The largest of the delays from processor p.
+fn largest_delay(mem: &[u64], p: usize) -> u64
+    requires { ⌜ JobStands (now mem) × (p < nth (now mem) 1) ⌝ }
+    ensures { λ r. ⌜ r ≡ largestDelay (jobIn (now (mem .entry))) p ⌝ }
 {
+    let m = mem[1] as usize;
     let mut x = 0;
     let mut q = 0;
     while q < m {
-        let y = mem[a + q];
+        let y = numbers::delay(mem, p, q);
         if y > x {
             x = y;
         }
@@ -40,11 +40,10 @@ pub fn fill_far(mem: &mut [u64], rooms: usize)
     ensures { λ _. ⌜ KeptOutside (farAt rooms) (memorySize rooms) (now (mem .entry)) (now (mem .exit)) × FarFilled rooms (now (mem .exit)) ⌝ }
 {
     let far = FAR * rooms;
-    let v = mem[0] as usize;
     let m = mem[1] as usize;
     let mut p = 0;
     while p < m {
-        let x = largest_delay(&mem[..], 4 + (v + p) * (m + 1) + 1, m);
+        let x = largest_delay(&mem[..], p);
         mem[far + p] = x;
         p += 1;
     }
@@ -56,8 +55,9 @@ fn sent(mem: &[u64], rooms: usize, a: usize, c: usize, volume: u64) -> u64
     ensures { λ r. ⌜ (r ≡ nth (now (mem .entry)) (earlyAt a c) + volume * nth (now (mem .entry)) (farAt rooms + nth (now (mem .entry)) (processorAt a c))) × (r ≤ 4296011520) ⌝ }
 {
     let far = FAR * rooms;
-    let p = mem[a + (1 + 3 * c)] as usize;
-    mem[a + (2 + 3 * c)] + volume * mem[far + p]
+    let x = row::replica_at(mem, a, c);
+    let p = x.processor;
+    x.early + volume * mem[far + p]
 }
 
 // The first tick at which the data of a predecessor whose line is at `a` is everywhere.
@@ -79,21 +79,19 @@ fn spread(mem: &[u64], rooms: usize, a: usize, volume: u64) -> u64
 }
 
 // The scaled top level of t, whose predecessors all have a line.
-pub fn top_level(mem: &[u64], rooms: usize, t: usize) -> u64
+pub fn top_level(mem: &[u64], links: &[u64], rooms: usize, t: usize) -> u64
     requires { ⌜ ((k : ℕ) × Standing rooms k (now mem) × ((i c : ℕ) → i < k → c < nth (now mem) 3 + 1 → nth (now mem) (earlyAt (rowAt rooms i) c) ≤ document01 .tick))
-        × (t < nth (now mem) 0) × FedIn rooms t (now mem) × FarFilled rooms (now mem) ⌝ }
+        × LinksHeld (now mem) (now links) × (t < nth (now mem) 0) × FedIn rooms t (now mem) × FarFilled rooms (now mem) ⌝ }
     ensures { λ r. ⌜ (r ≡ tickOf (topIn rooms t (now (mem .entry))) * scale (jobIn (now (mem .entry)))) × (r ≤ 1100000000000) ⌝ }
 {
-    let g = walk::edges_at(mem);
+    let span = orders::entering(links, mem[0] as usize, t);
     let mut x = 0;
-    let mut k = mem[IN_HEAD * rooms + t] as usize;
-    while k > 0 {
-        let e = walk::entering(mem, rooms, g, k);
+    for k in span.start..span.end {
+        let e = walk::entering(mem, rooms, links[k]);
         let y = spread(mem, rooms, e.row, e.volume as u64);
         if y > x {
             x = y;
         }
-        k = e.next;
     }
     let m = mem[1];
     if m == 1 {

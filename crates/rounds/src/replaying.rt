@@ -6,15 +6,14 @@ ghost use lib.ListN.{length};
 ghost use Rattle.definitions.specs.Lists.{nth};
 ghost use Rattle.definitions.specs.Times.{unlessStopped};
 ghost use Rattle.definitions.specs.Facts.{Ordered};
-ghost use Rattle.jobs.specs.Held.{jobIn};
+ghost use Rattle.jobs.specs.Held.{jobIn, LinksHeld};
 ghost use Rattle.ticks.specs.Cells.{timeIn, Small};
 ghost use Rattle.plans.specs.Lines.{Standing};
 ghost use Rattle.rounds.specs.Arrivals.{DelayTable};
 ghost use Rattle.plans.specs.Loading.{planIn};
 ghost use Rattle.rounds.specs.Replaying.{Running, FedBefore, LineRun, RisingIn, RoundRun, FirstIn};
+use crate::row;
 use crate::times;
-use heads::layout::LINE;
-use heads::layout::ROWS;
 use replicas::First;
 use ticks::clocks::Ready;
 use ticks::lanes::NEVER;
@@ -32,28 +31,30 @@ fn unless_stopped(stop: u64, x: u64) -> u64
 // Line k, replica by replica. The answer is the ready times after it.
 fn run_line(
     mem: &mut [u64],
+    links: &[u64],
     rooms: usize,
     delays: &[u16; 256],
     k: usize,
     stops: &[u64],
     ready: Ready,
 ) -> Ready
-    requires { ⌜ DelayTable (now delays) (now mem) × Running rooms k 0 (ready .at) (now mem) × (k < nth (now mem) 0) × FedBefore rooms k (now mem) × (length (now stops) ≡ 16) ⌝ }
+    requires { ⌜ DelayTable (now delays) (now mem) × Running rooms k 0 (ready .at) (now mem) × (k < nth (now mem) 0) × FedBefore rooms k (now mem) × (length (now stops) ≡ 16)
+        × LinksHeld (now mem) (now links) ⌝ }
     ensures { λ r. ⌜ Running rooms (suc k) 0 (r .at) (now (mem .exit)) × LineRun rooms k (now (stops .entry)) (now (mem .entry)) (now (mem .exit)) ⌝ }
 {
-    let rows = ROWS * rooms;
     let w = mem[3] as usize + 1;
-    let a = rows + k * 25;
+    let a = row::row_at(rooms, k);
     let t = mem[a] as usize;
-    let b = 4 + t * (mem[1] as usize + 1) + 1;
-    let data = times::first_data(&mem[..], rooms, delays, t);
+    let data = times::first_data(&mem[..], links, rooms, delays, t);
+    let runs = times::run_times(&mem[..], t);
     let mut after = ready;
     let mut c = 0;
     while c < w {
-        let p = mem[a + (1 + 3 * c)] as usize;
-        let x = times::finish_of(after.at[p], data[p], mem[b + p]);
+        let r = row::replica_at(&mem[..], a, c);
+        let p = r.processor;
+        let x = times::finish_of(after.at[p], data[p], runs[p] as u64);
         let y = unless_stopped(stops[p], x);
-        mem[a + (2 + 3 * c)] = y;
+        row::put_early(mem, a, c, y);
         let next = after.advance(p, y);
         after = next;
         c += 1;
@@ -62,8 +63,8 @@ fn run_line(
 }
 
 // All lines of the plan in memory.
-pub fn run_round(mem: &mut [u64], rooms: usize, stops: &[u64])
-    requires { ⌜ Standing rooms (nth (now mem) 0) (now mem) × Ordered (jobIn (now mem)) [] (planIn rooms (now mem) .lines) × (length (now stops) ≡ 16) ⌝ }
+pub fn run_round(mem: &mut [u64], links: &[u64], rooms: usize, stops: &[u64])
+    requires { ⌜ Standing rooms (nth (now mem) 0) (now mem) × Ordered (jobIn (now mem)) [] (planIn rooms (now mem) .lines) × (length (now stops) ≡ 16) × LinksHeld (now mem) (now links) ⌝ }
     ensures { λ _. ⌜ RoundRun rooms (now (stops .entry)) (now (mem .entry)) (now (mem .exit)) ⌝ }
 {
     let v = mem[0] as usize;
@@ -71,7 +72,7 @@ pub fn run_round(mem: &mut [u64], rooms: usize, stops: &[u64])
     let mut ready = Ready::new();
     let mut k = 0;
     while k < v {
-        let after = run_line(mem, rooms, &delays, k, stops, ready);
+        let after = run_line(mem, links, rooms, &delays, k, stops, ready);
         ready = after;
         k += 1;
     }
@@ -82,8 +83,8 @@ pub fn first_finish(mem: &[u64], rooms: usize, t: usize) -> First
     requires { ⌜ Standing rooms (nth (now mem) 0) (now mem) × RisingIn rooms (now mem) × (t < nth (now mem) 0) ⌝ }
     ensures { λ r. ⌜ FirstIn rooms t (r .time) (r .processor) (now (mem .entry)) ⌝ }
 {
-    let line = mem[LINE * rooms + t] as usize;
-    let a = ROWS * rooms + (line - 1) * 25 + 1;
-    let end = a + 3 * (mem[3] as usize + 1);
-    replicas::first_finish(&mem[a..end])
+    let a = row::row_of(mem, rooms, t);
+    let first = row::place(a, 0);
+    let end = row::place(a, mem[3] as usize + 1);
+    replicas::first_finish(&mem[first..end])
 }

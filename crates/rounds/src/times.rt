@@ -8,12 +8,13 @@ ghost use Rattle.definitions.specs.Lists.{if_then_else_, nth};
 ghost use Rattle.definitions.specs.Limits.{document01};
 ghost use Rattle.definitions.specs.Times.{later, sooner, after};
 ghost use Rattle.ticks.specs.Cells.{timeIn, Small};
-ghost use Rattle.plans.specs.Lines.{RowHeld, Standing};
+ghost use Rattle.plans.specs.Lines.{rowEnd, RowHeld, Standing};
 ghost use Rattle.rounds.specs.Schedule.{arrivalIn, dataIn};
-ghost use Rattle.jobs.specs.Held.{JobStands};
+ghost use Rattle.jobs.specs.Held.{JobStands, LinksHeld};
 ghost use Rattle.rounds.specs.Arrivals.{shortIn, DelayTable, FirstShort, BothShort, FirstFed, BothFed, BothRaised, BothReady, ShortClocks, RunsOf, BothFinish};
+use crate::numbers;
+use crate::row;
 use crate::walk;
-use heads::layout::IN_HEAD;
 use ticks::clocks::Clocks;
 use ticks::lanes;
 use ticks::lanes::Both;
@@ -53,7 +54,6 @@ pub fn delay_table(mem: &[u64]) -> [u16; 256]
     requires { ⌜ JobStands (now mem) ⌝ }
     ensures { λ r. ⌜ DelayTable r (now (mem .entry)) ⌝ }
 {
-    let v = mem[0] as usize;
     let m = mem[1] as usize;
     let n = 16 * m;
     let mut delays = [0u16; 256];
@@ -61,7 +61,7 @@ pub fn delay_table(mem: &[u64]) -> [u16; 256]
     while i < n {
         let p = i % 16;
         if p < m {
-            delays[i] = mem[4 + (v + i / 16) * (m + 1) + (p + 1)] as u16;
+            delays[i] = numbers::delay(mem, i / 16, p) as u16;
             i += 1;
         } else {
             i += 16 - p;
@@ -72,17 +72,16 @@ pub fn delay_table(mem: &[u64]) -> [u16; 256]
 
 // When the first data of a predecessor whose line is at `a` is on each processor.
 fn first_arrivals(mem: &[u64], delays: &[u16; 256], a: usize, volume: u16) -> [u32; 16]
-    requires { ⌜ JobStands (now mem) × DelayTable (now delays) (now mem) × RowHeld a (now mem) × (a + 25 ≤ length (now mem)) × (volume ≤ document01 .volume) × FirstShort a (now mem) ⌝ }
+    requires { ⌜ JobStands (now mem) × DelayTable (now delays) (now mem) × RowHeld a (now mem) × (rowEnd a ≤ length (now mem)) × (volume ≤ document01 .volume) × FirstShort a (now mem) ⌝ }
     ensures { λ r. ⌜ (length r ≡ 16) × ((p : ℕ) → p < nth (now (mem .entry)) 1 → shortIn (nth r p) ≡ arrivalIn false volume p a (now (mem .entry))) ⌝ }
 {
     let w = mem[3] as usize + 1;
     let mut low = [SHORT_NEVER; 16];
     let mut c = 0;
     while c < w {
-        let x = mem[a + (2 + 3 * c)];
-        if x != NEVER {
-            let q = mem[a + (1 + 3 * c)] as usize;
-            lanes::offer_sooner(&mut low, delays, q, volume, x as u32);
+        let x = row::replica_at(mem, a, c);
+        if x.early != NEVER {
+            lanes::offer_sooner(&mut low, delays, x.processor, volume, x.early as u32);
         }
         c += 1;
     }
@@ -90,18 +89,22 @@ fn first_arrivals(mem: &[u64], delays: &[u16; 256], a: usize, volume: u16) -> [u
 }
 
 // When all data of t is on each processor, by the first replicas.
-pub fn first_data(mem: &[u64], rooms: usize, delays: &[u16; 256], t: usize) -> [u64; 16]
-    requires { ⌜ ((k : ℕ) × Standing rooms k (now mem)) × DelayTable (now delays) (now mem) × (t < nth (now mem) 0) × FirstFed rooms t (now mem) ⌝ }
+pub fn first_data(
+    mem: &[u64],
+    links: &[u64],
+    rooms: usize,
+    delays: &[u16; 256],
+    t: usize,
+) -> [u64; 16]
+    requires { ⌜ ((k : ℕ) × Standing rooms k (now mem)) × LinksHeld (now mem) (now links) × DelayTable (now delays) (now mem) × (t < nth (now mem) 0) × FirstFed rooms t (now mem) ⌝ }
     ensures { λ r. ⌜ (length r ≡ 16) × ((p : ℕ) → p < nth (now (mem .entry)) 1 → (timeIn (nth r p) ≡ dataIn rooms false t p (now (mem .entry))) × Small 5000000000 (nth r p)) ⌝ }
 {
-    let g = walk::edges_at(mem);
+    let span = orders::entering(links, mem[0] as usize, t);
     let mut high = [0u32; 16];
-    let mut k = mem[IN_HEAD * rooms + t] as usize;
-    while k > 0 {
-        let e = walk::entering(mem, rooms, g, k);
+    for k in span.start..span.end {
+        let e = walk::entering(mem, rooms, links[k]);
         let low = first_arrivals(mem, delays, e.row, e.volume);
         lanes::raise(&mut high, &low);
-        k = e.next;
     }
     lanes::widened(&high)
 }
@@ -125,7 +128,7 @@ fn both_arrivals(
     early: &mut [u32; 16],
     late: &mut [u32; 16],
 )
-    requires { ⌜ JobStands (now mem) × DelayTable (now delays) (now mem) × RowHeld a (now mem) × (a + 25 ≤ length (now mem)) × (volume ≤ document01 .volume) × BothShort a (now mem)
+    requires { ⌜ JobStands (now mem) × DelayTable (now delays) (now mem) × RowHeld a (now mem) × (rowEnd a ≤ length (now mem)) × (volume ≤ document01 .volume) × BothShort a (now mem)
         × (length (now early) ≡ 16) × (length (now late) ≡ 16) ⌝ }
     ensures { λ _. ⌜ BothRaised volume a (now (mem .entry)) (now (early .entry)) (now (early .exit)) (now (late .entry)) (now (late .exit)) ⌝ }
 {
@@ -133,54 +136,65 @@ fn both_arrivals(
     let mut low = [SHORT_NEVER; 16];
     let mut c = 0;
     while c < w {
-        let q = mem[a + (1 + 3 * c)] as usize;
-        let x = mem[a + (2 + 3 * c)] as u32;
-        let y = mem[a + (3 + 3 * c)] as u32;
-        lanes::offer_both(&mut low, late, delays, q, volume, x, y);
+        let x = row::replica_at(mem, a, c);
+        lanes::offer_both(
+            &mut low,
+            late,
+            delays,
+            x.processor,
+            volume,
+            x.early as u32,
+            x.late as u32,
+        );
         c += 1;
     }
     lanes::raise(early, &low);
 }
 
 // When all data of t is on each processor, by the first replicas and by the last.
-fn both_data(mem: &[u64], rooms: usize, delays: &[u16; 256], t: usize) -> Both
-    requires { ⌜ ((k : ℕ) × Standing rooms k (now mem)) × DelayTable (now delays) (now mem) × (t < nth (now mem) 0) × BothFed rooms t (now mem) ⌝ }
+fn both_data(mem: &[u64], links: &[u64], rooms: usize, delays: &[u16; 256], t: usize) -> Both
+    requires { ⌜ ((k : ℕ) × Standing rooms k (now mem)) × LinksHeld (now mem) (now links) × DelayTable (now delays) (now mem) × (t < nth (now mem) 0) × BothFed rooms t (now mem) ⌝ }
     ensures { λ r. ⌜ BothReady rooms t (now (mem .entry)) (r .early) (r .late) ⌝ }
 {
-    let g = walk::edges_at(mem);
+    let span = orders::entering(links, mem[0] as usize, t);
     let mut early = [0u32; 16];
     let mut late = [0u32; 16];
-    let mut k = mem[IN_HEAD * rooms + t] as usize;
-    while k > 0 {
-        let e = walk::entering(mem, rooms, g, k);
+    for k in span.start..span.end {
+        let e = walk::entering(mem, rooms, links[k]);
         both_arrivals(mem, delays, e.row, e.volume, &mut early, &mut late);
-        k = e.next;
     }
     Both { early, late }
 }
 
 // The run times of t, one for each processor of the job.
-fn run_times(mem: &[u64], t: usize) -> [u32; 16]
+pub fn run_times(mem: &[u64], t: usize) -> [u32; 16]
     requires { ⌜ JobStands (now mem) × (t < nth (now mem) 0) ⌝ }
     ensures { λ r. ⌜ RunsOf t (now (mem .entry)) r ⌝ }
 {
     let m = mem[1] as usize;
-    let a = 4 + t * (m + 1);
     let mut runs = [0u32; 16];
     let mut p = 0;
     while p < m {
-        runs[p] = mem[a + (p + 1)] as u32;
+        runs[p] = numbers::run_time(mem, t, p) as u32;
         p += 1;
     }
     runs
 }
 
 // The early and the late finish of t on each processor, if it is ready at the clocks' ticks.
-pub fn finishes(mem: &[u64], rooms: usize, delays: &[u16; 256], t: usize, clocks: Clocks) -> Both
-    requires { ⌜ ((k : ℕ) × Standing rooms k (now mem)) × DelayTable (now delays) (now mem) × (t < nth (now mem) 0) × BothFed rooms t (now mem) × ShortClocks clocks (now mem) ⌝ }
+pub fn finishes(
+    mem: &[u64],
+    links: &[u64],
+    rooms: usize,
+    delays: &[u16; 256],
+    t: usize,
+    clocks: Clocks,
+) -> Both
+    requires { ⌜ ((k : ℕ) × Standing rooms k (now mem)) × DelayTable (now delays) (now mem) × (t < nth (now mem) 0) × BothFed rooms t (now mem) × ShortClocks clocks (now mem)
+        × LinksHeld (now mem) (now links) ⌝ }
     ensures { λ r. ⌜ BothFinish rooms t clocks (now (mem .entry)) (r .early) (r .late) ⌝ }
 {
-    let data = both_data(mem, rooms, delays, t);
+    let data = both_data(mem, links, rooms, delays, t);
     let runs = run_times(mem, t);
     lanes::finish(clocks, data, runs)
 }

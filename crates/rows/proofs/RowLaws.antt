@@ -6,65 +6,59 @@ use Prim.Native.Nat.{ℕ, zero, suc, _+_, _-_, _*_, _/_, _<_, _≤_}
 use native.Mathlib.Omega.{arith}
 use native.Mathlib.Numerals.{add-one}
 use native.Mathlib.Nat.{zero-add, suc-add, suc-mul, mul-le-mul-right, le-div-iff-mul-le, div-lt-iff-lt-mul}
-use borrow.Author.Tests.{lt-ltb, le-ltb, ltb-true, le-leb, lt-leb, eq-eqb, ne-eqb}
+use borrow.Author.Tests.{ltb-true, le-leb, lt-leb, eq-eqb, ne-eqb}
 use borrow.Rule.Slice.PartMut.{putMid, take-put}
-use lib.Dec.{ltb, eqb}
+use lib.Dec.{eqb}
 use lib.ListN.{length, getD, take, drop, length-append, drop-of-length-le}
 use lib.Seq.{drop-cons, take-take, take-nil}
 use Rattle.definitions.specs.Lists.{nth, any}
-use Rattle.definitions.specs.Limits.{document01}
-use Rattle.definitions.specs.Text.{refused, firstOf, line, lines}
+use Rattle.definitions.specs.Limits.{Limits}
+use Rattle.definitions.specs.Text.{refused, firstOf}
 use Rattle.definitions.specs.Job.{outside, runRule, delayRule}
-use Rattle.definitions.proofs.Lists.{either-right}
 use Rattle.lists.proofs.Over.{drop-lent}
-use Rattle.rows.specs.Rows.{rows, ruleOf, strayOf, wide, rowsInto}
+use Rattle.rows.specs.Rows.{rows, ruleOf, strayOf, wide, rowLines, rowsInto}
 use Rattle.rows.specs.declared.Kind.{Kind}
 use Rattle.rows.specs.declared.Kind.the-variants.{Runs, Delays}
 
 -- Numbers outside a range, from number i of a row on.
 module _ (low high : ℕ) (row : List ℕ) (i : ℕ) where
-  pub stray-low : i < length row → getD row i 0 < low → true ≡ any (outside low high) (drop i row)
+  pub stray-here : i < length row → outside low high (getD row i 0) ≡ true → true ≡ any (outside low high) (drop i row)
   unfolding any
-  stray-low h e = rw (drop-cons row i 0 h, lt-ltb _ _ e)
+  stray-here h e = rw (drop-cons row i 0 h, e)
 
-  pub stray-high : i < length row → high < getD row i 0 → true ≡ any (outside low high) (drop i row)
+  pub stray-next : i < length row → outside low high (getD row i 0) ≡ false → any (outside low high) (drop (i + 1) row) ≡ any (outside low high) (drop i row)
   unfolding any
-  stray-high h e = rw (drop-cons row i 0 h, lt-ltb high _ e, either-right (ltb (getD row i 0) low) refl)
-
-  pub stray-next : i < length row → low ≤ getD row i 0 → getD row i 0 ≤ high
-      → any (outside low high) (drop (i + 1) row) ≡ any (outside low high) (drop i row)
-  unfolding any
-  stray-next h e f = rw (drop-cons row i 0 h, le-ltb _ low e, le-ltb high _ f, add-one)
+  stray-next h e = rw (drop-cons row i 0 h, e, add-one)
 
   pub stray-end : length row ≤ i → false ≡ any (outside low high) (drop i row)
   unfolding any
   stray-end h = rw (drop-of-length-le row h)
 
 -- The rules of row i, after the rows in `seen`.
-module _ (seen : List (List ℕ)) (row : List ℕ) (i : ℕ) (l : length seen ≡ i) where
-  pub out-of-turn : (kind : Kind) → not (eqb (nth row 0) i) ≡ true → 2 ≡ ruleOf kind seen row
+module _ (l : Limits) (seen : List (List ℕ)) (row : List ℕ) (i : ℕ) (n : length seen ≡ i) where
+  pub out-of-turn : (kind : Kind) → not (eqb (nth row 0) i) ≡ true → 2 ≡ ruleOf l kind seen row
   unfolding runRule delayRule firstOf
-  out-of-turn Runs h = rw (l, h)
-  out-of-turn Delays h = rw (l, h)
+  out-of-turn Runs h = rw (n, h)
+  out-of-turn Delays h = rw (n, h)
 
   module _ (t : not (eqb (nth row 0) i) ≡ false) where
-    pub out-of-range : (kind : Kind) → true ≡ any (strayOf kind) (drop 1 row) → 3 ≡ ruleOf kind seen row
+    pub out-of-range : (kind : Kind) → true ≡ any (strayOf l kind) (drop 1 row) → 3 ≡ ruleOf l kind seen row
     unfolding runRule delayRule firstOf
-    out-of-range Runs e = rw (l, t, ← e)
-    out-of-range Delays e = rw (l, t, ← e)
+    out-of-range Runs e = rw (n, t, ← e)
+    out-of-range Delays e = rw (n, t, ← e)
 
-    pub run-good : false ≡ any (strayOf Runs) (drop 1 row) → 0 ≡ ruleOf Runs seen row
+    pub run-good : false ≡ any (strayOf l Runs) (drop 1 row) → 0 ≡ ruleOf l Runs seen row
     unfolding runRule firstOf
-    run-good e = rw (l, t, ← e)
+    run-good e = rw (n, t, ← e)
 
-    module _ (e : false ≡ any (strayOf Delays) (drop 1 row)) where
-      pub delay-self : (nth row (i + 1) ≡ 0 → ⊥) → 5 ≡ ruleOf Delays seen row
+    module _ (e : false ≡ any (strayOf l Delays) (drop 1 row)) where
+      pub delay-self : (nth row (i + 1) ≡ 0 → ⊥) → 5 ≡ ruleOf l Delays seen row
       unfolding delayRule firstOf
-      delay-self h = let c : 1 + length seen ≡ i + 1 = omega arith in rw (c, l, t, ← e, ne-eqb (nth row (i + 1)) 0 h)
+      delay-self h = let c : 1 + length seen ≡ i + 1 = omega arith in rw (c, n, t, ← e, ne-eqb (nth row (i + 1)) 0 h)
 
-      pub delay-good : nth row (i + 1) ≡ 0 → 0 ≡ ruleOf Delays seen row
+      pub delay-good : nth row (i + 1) ≡ 0 → 0 ≡ ruleOf l Delays seen row
       unfolding delayRule firstOf
-      delay-good h = let c : 1 + length seen ≡ i + 1 = omega arith in rw (c, l, t, ← e, eq-eqb (nth row (i + 1)) 0 h)
+      delay-good h = let c : 1 + length seen ≡ i + 1 = omega arith in rw (c, n, t, ← e, eq-eqb (nth row (i + 1)) 0 h)
 
 -- Rows that are wide enough for their kind.
 module _ (k n : ℕ) (kind : Kind) (h : wide kind k n ≡ true) where
@@ -79,17 +73,17 @@ module _ (k n : ℕ) (kind : Kind) (h : wide kind k n ≡ true) where
   delays-wide e = ltb-true n k (rw e at h)
 
 -- Whether n rows fit so many cells.
-module _ (room : ℕ) (kind : Kind) (opening : List ℕ) (k n : ℕ) (s : List ℕ) where
-  pub rows-narrow : wide kind k n ≡ false → refused 8 ≡ rowsInto room kind opening k n s
+module _ (l : Limits) (room : ℕ) (kind : Kind) (opening : List ℕ) (k n : ℕ) (s : List ℕ) where
+  pub rows-narrow : wide kind k n ≡ false → refused 8 ≡ rowsInto l room kind opening k n s
   unfolding rowsInto
   rows-narrow w = rw w
 
   module _ (w : wide kind k n ≡ true) where
-    pub rows-fit : n * k ≤ room → rowsInto room kind opening k n s ≡ lines (line document01 opening k) (ruleOf kind) n [] s
+    pub rows-fit : n * k ≤ room → rowsInto l room kind opening k n s ≡ rowLines l kind opening k n [] s
     unfolding rowsInto
     rows-fit h = rw (w, le-leb (n * k) room h)
 
-    pub rows-unfit : room / k < n → refused 8 ≡ rowsInto room kind opening k n s
+    pub rows-unfit : room / k < n → refused 8 ≡ rowsInto l room kind opening k n s
     unfolding rowsInto
     rows-unfit h = rw (w, lt-leb (n * k) room (div-lt-iff-lt-mul (some-number k n kind w) .0 h))
 
@@ -104,7 +98,7 @@ drop-take (suc a) k [] = rw (suc-add, take-nil k)
 drop-take (suc a) k (x ∷ l) = rw suc-add (drop-take a k l)
 
 -- Rows depend on their own cells only.
-pub rows-same : (k n : ℕ) (d e : List ℕ) → take (n * k) d ≡ take (n * k) e → rows k n d ≡ rows k n e
+rows-same : (k n : ℕ) (d e : List ℕ) → take (n * k) d ≡ take (n * k) e → rows k n d ≡ rows k n e
 unfolding rows
 rows-same k zero d e h = refl
 rows-same k (suc n) d e h =
@@ -114,7 +108,7 @@ rows-same k (suc n) d e h =
     let g : take k (drop (n * k) d) ≡ take k (drop (n * k) e) = sym (drop-take (n * k) k d) ∙ ap (drop (n * k)) (rw c at h) ∙ drop-take (n * k) k e in
     rw (rows-same k n d e f, g)
 
-pub rows-more : (k n : ℕ) (d : List ℕ) → rows k (n + 1) d ≡ rows k n d ++ take k (drop (n * k) d) ∷ []
+rows-more : (k n : ℕ) (d : List ℕ) → rows k (n + 1) d ≡ rows k n d ++ take k (drop (n * k) d) ∷ []
 unfolding rows
 rows-more k n d = rw add-one
 
@@ -132,7 +126,7 @@ module _ (k i : ℕ) (d ys : List ℕ) (h : i * k ≤ length d) where
   abbrev new : List ℕ
   new = putMid (i * k) (length d - i * k) d ys
 
-  pub lent-rows : rows k i new ≡ rows k i d
+  lent-rows : rows k i new ≡ rows k i d
   lent-rows = rows-same k i new d (take-put (i * k) (length d - i * k) d ys h)
 
   pub lent-more : rows k (i + 1) new ≡ rows k i d ++ take k ys ∷ []

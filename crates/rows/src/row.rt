@@ -5,13 +5,15 @@ ghost use Prim.Native.Nat.{ℕ, _+_, _*_, _≤_, _<_};
 ghost use lib.ListN.{length, take, drop};
 ghost use Rattle.definitions.specs.Lists.{any};
 ghost use Rattle.definitions.specs.Limits.{document01};
-ghost use Rattle.definitions.specs.Text.{line, lines};
+ghost use Rattle.definitions.specs.Text.{line};
 ghost use Rattle.definitions.specs.Job.{outside};
 ghost use Rattle.text.specs.Told.{told, ruled};
-ghost use Rattle.rows.specs.Rows.{rows, ruleOf, strayOf, wide};
+ghost use Rattle.rows.specs.Rows.{rows, ruleOf, rowLines, strayOf, wide};
 ghost use Rattle.rows.specs.declared.Kind.the-variants.{Delays};
 use crate::Kind;
 use text::Step;
+use text::limits::DELAY;
+use text::limits::RUN_TIME;
 
 // n rows of k numbers are wide enough for their kind.
 pub fn is_wide(kind: Kind, n: usize, k: usize) -> bool
@@ -24,15 +26,12 @@ pub fn is_wide(kind: Kind, n: usize, k: usize) -> bool
 }
 
 // Some number of a row, after its first, is outside low..high.
-fn strays(row: &[u64], low: u64, high: u64) -> bool
+fn any_outside(row: &[u64], low: u64, high: u64) -> bool
     ensures { λ r. ⌜ r ≡ any (outside low high) (drop 1 (now (row .entry))) ⌝ }
 {
     let mut i = 1;
     while i < row.len() {
-        if row[i] < low {
-            return true;
-        }
-        if high < row[i] {
+        if text::outside(low, high, row[i]) {
             return true;
         }
         i += 1;
@@ -42,18 +41,18 @@ fn strays(row: &[u64], low: u64, high: u64) -> bool
 
 // Some number of a row, after its first, is outside the range of its kind.
 fn off_range(kind: Kind, row: &[u64]) -> bool
-    ensures { λ r. ⌜ r ≡ any (strayOf kind) (drop 1 (now (row .entry))) ⌝ }
+    ensures { λ r. ⌜ r ≡ any (strayOf document01 kind) (drop 1 (now (row .entry))) ⌝ }
 {
     match kind {
-        Kind::Runs => strays(row, 1, 1000000),
-        Kind::Delays => strays(row, 0, 255),
+        Kind::Runs => any_outside(row, 1, RUN_TIME),
+        Kind::Delays => any_outside(row, 0, DELAY),
     }
 }
 
 // The number of the refusal of row i, or 0.
 fn check_row(kind: Kind, i: usize, row: &[u64]) -> u64
     requires { ⌜ (0 < length (now row)) × (kind ≡ Delays → i + 1 < length (now row)) ⌝ }
-    ensures { λ r. ⌜ ((seen : List (List ℕ)) → length seen ≡ i → r ≡ ruleOf kind seen (now (row .entry))) ⌝ }
+    ensures { λ r. ⌜ ((seen : List (List ℕ)) → length seen ≡ i → r ≡ ruleOf document01 kind seen (now (row .entry))) ⌝ }
 {
     let misplaced = row[0] != i as u64;
     let astray = off_range(kind, row);
@@ -85,7 +84,8 @@ fn read_row(
     cells: &mut [u64],
 ) -> Step
     requires { ⌜ (0 < k) × (k ≤ length (now cells)) × (kind ≡ Delays → i + 1 < k) ⌝ }
-    ensures { λ r. ⌜ ((seen : List (List ℕ)) → length seen ≡ i → told (now (s .entry)) (take k (now (cells .exit))) r ≡ ruled (line document01 (now (opening .entry)) k) (ruleOf kind) seen (drop at (now (s .entry)))) ⌝ }
+    ensures { λ r. ⌜ ((seen : List (List ℕ)) → length seen ≡ i
+        → told (now (s .entry)) (take k (now (cells .exit))) r ≡ ruled (line document01 (now (opening .entry)) k) (ruleOf document01 kind) seen (drop at (now (s .entry)))) ⌝ }
 {
     match lines::read_line(s, at, opening, k, cells) {
         Step::Next(p) => {
@@ -110,7 +110,7 @@ pub fn fill_rows(
     mem: &mut [u64],
 ) -> Step
     requires { ⌜ (0 < k) × (n * k ≤ length (now mem)) × (kind ≡ Delays → n < k) ⌝ }
-    ensures { λ r. ⌜ told (now (s .entry)) (rows k n (now (mem .exit))) r ≡ lines (line document01 (now (opening .entry)) k) (ruleOf kind) n [] (drop at (now (s .entry))) ⌝ }
+    ensures { λ r. ⌜ told (now (s .entry)) (rows k n (now (mem .exit))) r ≡ rowLines document01 kind (now (opening .entry)) k n [] (drop at (now (s .entry))) ⌝ }
 {
     let mut i = 0;
     let mut p = at;

@@ -11,10 +11,10 @@ use lib.Dec.{eqb, ltb, leb}
 use lib.ListN.{length, set, take, drop, length-set, length-drop, drop-of-length-le}
 use lib.Seq.{getD-take, getD-set-same, getD-set-other}
 use Rattle.definitions.specs.Lists.{if_then_else_, bytes, nth}
-use Rattle.definitions.specs.Limits.{Limits, document01}
+use Rattle.definitions.specs.Limits.{Limits}
 use Rattle.definitions.specs.Text.{Reader, found, refused, next, return, due, firstOf, isDigit, digits, number, exactly, mark, numbers, line, linesToEnd, Result, ended}
 use Rattle.definitions.specs.Job.{Job}
-use Rattle.definitions.specs.Stops.{Stop, notAfter, stopLine, stopRule, readStops}
+use Rattle.definitions.specs.Stops.{Stop, stopOf, notAfter, stopLine, stopRule, readStops}
 use Rattle.definitions.specs.Times.{tick, never, stopTime}
 use Rattle.definitions.specs.Facts.{afterLast}
 use Rattle.definitions.proofs.Lists.{last-of}
@@ -22,8 +22,10 @@ use Rattle.definitions.proofs.Reading.{next-found}
 use Rattle.text.specs.declared.Step.{Step}
 use Rattle.text.specs.declared.Step.the-variants.{Next, Refused}
 use Rattle.ticks.specs.Cells.{neverCell, timeIn, Small}
-use Rattle.stops.specs.Loading.{stopsFrom, StopsLoaded}
-use Rattle.lines.proofs.LineLaws.{due-no}
+use Rattle.text.specs.Suited.{Suited}
+use Rattle.stops.specs.Loading.{stopsFrom, stopLines, StopRuled, StopsLoaded}
+use Rattle.text.specs.Told.{ruled}
+use Rattle.lines.proofs.LineLaws.{ruled-bad, ruled-no, ruled-yes, ruled-then}
 use Rattle.lists.proofs.Counting.{equal-or-not, last-or-before}
 
 -- What is left of a text after a line is shorter --------------------------------------------------------------------
@@ -70,7 +72,7 @@ module _ (l : Limits) where
       rw e (omega (arith, number-shorter s v s1 e1, exactly-shorter (mark k ∷ []) s1 u s2 e2, numbers-shorter k s2 ws s3 e3))
 
   -- A line takes its opening at the least.
-  pub line-shorter : (opening : List ℕ) (k : ℕ) (s vs r : List ℕ) → line l opening k s ≡ found vs r → length opening + length r ≤ length s
+  line-shorter : (opening : List ℕ) (k : ℕ) (s vs r : List ℕ) → line l opening k s ≡ found vs r → length opening + length r ≤ length s
   unfolding line
   line-shorter opening k s vs r h =
       let (u, s′, e, g) = next-found (exactly opening s) (λ _. numbers l k) vs r h in
@@ -80,7 +82,7 @@ module _ (l : Limits) where
 
 -- At most n lines more, after those in `seen`; s is the rest of the text.
 module _ {A : Type 0} (form : Reader A) (rule : List A → A → ℕ) (n : ℕ) (seen : List A) (s : List ℕ) where
-  pub to-end : length s ≤ 0 → found seen [] ≡ linesToEnd form rule n seen s
+  to-end : length s ≤ 0 → found seen [] ≡ linesToEnd form rule n seen s
   unfolding linesToEnd
   to-end h = by n s h
     where
@@ -90,25 +92,20 @@ module _ {A : Type 0} (form : Reader A) (rule : List A → A → ℕ) (n : ℕ) 
       by n (b ∷ s) h = absurd (omega arith)
 
   module _ (g : 0 < length s) where
-    one-line : linesToEnd form rule (suc n) seen s
-        ≡ next (form s) (λ a r. next (due (rule seen a) r) (λ _. linesToEnd form rule n (seen ++ a ∷ [])))
+    one-line : linesToEnd form rule (suc n) seen s ≡ next (ruled form rule seen s) (λ a. linesToEnd form rule n (seen ++ a ∷ []))
     unfolding linesToEnd
-    one-line = by s g
+    one-line = by s g ∙ ruled-then form rule seen s (λ a. linesToEnd form rule n (seen ++ a ∷ []))
       where
         by : (s : List ℕ) → 0 < length s
             → linesToEnd form rule (suc n) seen s ≡ next (form s) (λ a r. next (due (rule seen a) r) (λ _. linesToEnd form rule n (seen ++ a ∷ [])))
         by [] h = absurd (omega arith)
         by (b ∷ s) h = refl
 
-    pub to-bad : (x : ℕ) → form s ≡ refused x → refused x ≡ linesToEnd form rule (suc n) seen s
-    to-bad x e = sym (one-line ∙ rw e)
+    to-no : (x : ℕ) → refused x ≡ ruled form rule seen s → refused x ≡ linesToEnd form rule (suc n) seen s
+    to-no x e = sym (one-line ∙ rw (← e))
 
-    module _ (a : A) (r : List ℕ) (e : form s ≡ found a r) where
-      pub to-no : (x : ℕ) → x ≡ rule seen a → 0 < x → refused x ≡ linesToEnd form rule (suc n) seen s
-      to-no x f z = due-no x (linesToEnd form rule n (seen ++ a ∷ [])) r z ∙ sym (one-line ∙ rw (e, f))
-
-      pub to-next : (x : ℕ) → x ≡ rule seen a → x ≤ 0 → linesToEnd form rule n (seen ++ a ∷ []) r ≡ linesToEnd form rule (suc n) seen s
-      to-next x f z = let q : rule seen a ≡ 0 = omega arith in sym (one-line ∙ rw (e, q))
+    to-next : (a : A) (r : List ℕ) → found a r ≡ ruled form rule seen s → linesToEnd form rule n (seen ++ a ∷ []) r ≡ linesToEnd form rule (suc n) seen s
+    to-next a r e = sym (one-line ∙ rw (← e))
 
 -- The rule of a stop line --------------------------------------------------------------------------------------------
 
@@ -120,21 +117,21 @@ not-after (some q) s = by (ltb (s .processor) (1 + q .processor)) refl
     by true e = le-leb (s .processor) (q .processor) (omega (arith, ltb-true (s .processor) (1 + q .processor) e))
     by false e = lt-leb (s .processor) (q .processor) (omega (arith, ltb-false (s .processor) (1 + q .processor) e))
 
-module _ (j : Job) (seen : List Stop) (s : Stop) where
-  pub stop-processor : j .processors ≤ s .processor → 3 ≡ stopRule document01 j seen s
+module _ (l : Limits) (j : Job) (seen : List Stop) (s : Stop) where
+  pub stop-processor : j .processors ≤ s .processor → 3 ≡ stopRule l j seen s
   unfolding stopRule firstOf
   stop-processor h = rw (le-ltb _ _ h)
 
-  pub stop-tick : s .processor < j .processors → 4294967295 < s .tick → 3 ≡ stopRule document01 j seen s
+  pub stop-tick : s .processor < j .processors → l .tick < s .tick → 3 ≡ stopRule l j seen s
   unfolding stopRule firstOf
   stop-tick h g = rw (lt-ltb _ _ h, le-ltb (s .tick) 0 (omega arith), lt-ltb _ _ g)
 
-  module _ (h : s .processor < j .processors) (g : s .tick ≤ 4294967295) where
-    pub stop-order : s .processor < afterLast (getLast? seen) → 15 ≡ stopRule document01 j seen s
+  module _ (h : s .processor < j .processors) (g : s .tick ≤ l .tick) where
+    pub stop-order : s .processor < afterLast (getLast? seen) → 15 ≡ stopRule l j seen s
     unfolding stopRule firstOf
     stop-order f = rw (lt-ltb _ _ h, le-ltb (s .tick) 0 (omega arith), le-ltb _ _ g, not-after (getLast? seen) s, lt-ltb _ _ f)
 
-    pub stop-good : afterLast (getLast? seen) ≤ s .processor → 0 ≡ stopRule document01 j seen s
+    pub stop-good : afterLast (getLast? seen) ≤ s .processor → 0 ≡ stopRule l j seen s
     unfolding stopRule firstOf
     stop-good f = rw (lt-ltb _ _ h, le-ltb (s .tick) 0 (omega arith), le-ltb _ _ g, not-after (getLast? seen) s, le-ltb _ _ f)
 
@@ -156,20 +153,19 @@ stop-other [] s q e = rw (ne-eqb _ _ e)
 stop-other (x ∷ ss) s q e = rw (stop-other ss s q e)
 
 -- Stops were read up to the place p of the text s: the cells have their ticks, and processors from `least` on may follow.
-pub record StopsUpTo (s : List ℕ) (m p least : ℕ) (cells : List ℕ) : Type 0 where
+pub record StopsUpTo (l : Limits) (s : List ℕ) (m p least : ℕ) (cells : List ℕ) : Type 0 where
   pub seen : List Stop
   pub left : ℕ
   pub enough : length s ≤ p + left
-  pub rest : (j : Job) → j .processors ≡ m
-      → linesToEnd (stopLine document01) (stopRule document01 j) left seen (drop p s) ≡ linesToEnd (stopLine document01) (stopRule document01 j) (length s) [] s
+  pub rest : (j : Job) → j .processors ≡ m → stopLines l j left seen (drop p s) ≡ stopLines l j (length s) [] s
   pub size : m ≤ length cells
   pub next-least : afterLast (getLast? seen) ≡ least
-  pub times : (q : ℕ) → q < length cells → (timeIn (nth cells q) ≡ stopTime seen q) × Small (document01 .tick) (nth cells q)
+  pub times : (q : ℕ) → q < length cells → (timeIn (nth cells q) ≡ stopTime seen q) × Small (l .tick) (nth cells q)
   pub above : (q : ℕ) → least ≤ q → stopTime seen q ≡ never
 
-pub stops-none : (s : List ℕ) (m : ℕ) (cells : List ℕ) → m ≤ length cells → ((q : ℕ) → q < length cells → nth cells q ≡ neverCell) → StopsUpTo s m 0 0 cells
+pub stops-none : (l : Limits) (s : List ℕ) (m : ℕ) (cells : List ℕ) → m ≤ length cells → ((q : ℕ) → q < length cells → nth cells q ≡ neverCell) → StopsUpTo l s m 0 0 cells
 unfolding stopTime
-stops-none s m cells z h =
+stops-none l s m cells z h =
     record {
       seen = [];
       left = length s;
@@ -181,26 +177,23 @@ stops-none s m cells z h =
       above = λ q g. refl;
     }
 
--- The numbers of a stop line that was read.
-abbrev pub stopIn : List ℕ → Stop
-stopIn ys = record { processor = nth ys 0; tick = nth ys 1 }
-
-stop-read : (s ys r : List ℕ) → line document01 (bytes "S,") 2 s ≡ found (take 2 ys) r → stopLine document01 s ≡ found (stopIn ys) r
+-- A stop line, with its numbers at the front of ys.
+stop-read : (l : Limits) (s ys r : List ℕ) → line l (bytes "S,") 2 s ≡ found (take 2 ys) r → stopLine l s ≡ found (stopOf ys) r
 unfolding stopLine
-stop-read s ys r e = rw (e, getD-take 2 ys 0 0 (omega arith), getD-take 2 ys 1 0 (omega arith))
+stop-read l s ys r e = rw (e, getD-take 2 ys 0 0 (omega arith), getD-take 2 ys 1 0 (omega arith))
 
-stop-bad : (s : List ℕ) (n : ℕ) → line document01 (bytes "S,") 2 s ≡ refused n → stopLine document01 s ≡ refused n
+stop-bad : (l : Limits) (s : List ℕ) (n : ℕ) → line l (bytes "S,") 2 s ≡ refused n → stopLine l s ≡ refused n
 unfolding stopLine
-stop-bad s n e = rw e
+stop-bad l s n e = rw e
 
-module _ {s : List ℕ} {m p least : ℕ} {cells : List ℕ} (u : StopsUpTo s m p least cells) where
+module _ {l : Limits} {s : List ℕ} {m p least : ℕ} {cells : List ℕ} (u : StopsUpTo l s m p least cells) where
   abbrev all : Job → Result (List Stop)
-  all j = ended (linesToEnd (stopLine document01) (stopRule document01 j) (length s) [] s)
+  all j = ended (stopLines l j (length s) [] s)
 
-  pub stops-end : length s ≤ p → (j : Job) → j .processors ≡ m → StopsLoaded (all j) cells (Next p)
+  pub stops-end : length s ≤ p → (j : Job) → j .processors ≡ m → StopsLoaded l (all j) cells (Next p)
   stops-end h j e =
-      let q : linesToEnd (stopLine document01) (stopRule document01 j) (length s) [] s ≡ found (u .seen) [] =
-      sym (u .rest j e) ∙ sym (to-end (stopLine document01) (stopRule document01 j) (u .left) (u .seen) (drop p s) (rw (drop-of-length-le s h) (omega arith))) in
+      let q : stopLines l j (length s) [] s ≡ found (u .seen) [] =
+      sym (u .rest j e) ∙ sym (to-end (stopLine l) (stopRule l j) (u .left) (u .seen) (drop p s) (rw (drop-of-length-le s h) (omega arith))) in
       rw q ((p, refl), u .times)
 
   module _ (h : p < length s) where
@@ -210,71 +203,73 @@ module _ {s : List ℕ} {m p least : ℕ} {cells : List ℕ} (u : StopsUpTo s m 
     one-left : u .left ≡ suc (u .left - 1)
     one-left = omega (arith, u .enough)
 
-    pub stops-bad : (n : ℕ) → line document01 (bytes "S,") 2 (drop p s) ≡ refused n → (j : Job) → j .processors ≡ m → StopsLoaded (all j) cells (Refused n)
-    stops-bad n b j e =
-        let q : linesToEnd (stopLine document01) (stopRule document01 j) (length s) [] s ≡ refused n =
-        sym (u .rest j e) ∙ rw one-left (sym (to-bad (stopLine document01) (stopRule document01 j) (u .left - 1) (u .seen) (drop p s) some-left n (stop-bad (drop p s) n b))) in
+    refuse : (x : ℕ) → ((j : Job) → j .processors ≡ m → refused x ≡ ruled (stopLine l) (stopRule l j) (u .seen) (drop p s))
+        → (j : Job) → j .processors ≡ m → StopsLoaded l (all j) cells (Refused x)
+    refuse x f j e =
+        let q : stopLines l j (length s) [] s ≡ refused x =
+        sym (u .rest j e) ∙ rw one-left (sym (to-no (stopLine l) (stopRule l j) (u .left - 1) (u .seen) (drop p s) some-left x (f j e))) in
         rw q
 
-    module _ (ys : List ℕ) (n : ℕ) (b : line document01 (bytes "S,") 2 (drop p s) ≡ found (take 2 ys) (drop n s)) where
-      pub stops-no : (x : ℕ) → 0 < x → ((j : Job) (seen : List Stop) → j .processors ≡ m → afterLast (getLast? seen) ≡ least → x ≡ stopRule document01 j seen (stopIn ys))
-          → (j : Job) → j .processors ≡ m → StopsLoaded (all j) cells (Refused x)
-      stops-no x z f j e =
-          let q : linesToEnd (stopLine document01) (stopRule document01 j) (length s) [] s ≡ refused x =
-          sym (u .rest j e) ∙ rw one-left (sym (to-no (stopLine document01) (stopRule document01 j) (u .left - 1) (u .seen) (drop p s) some-left (stopIn ys) (drop n s)
-          (stop-read (drop p s) ys (drop n s) b) x (f j (u .seen) e (u .next-least)) z)) in
-          rw q
+    pub stops-bad : (n : ℕ) → line l (bytes "S,") 2 (drop p s) ≡ refused n → (j : Job) → j .processors ≡ m → StopsLoaded l (all j) cells (Refused n)
+    stops-bad n b = refuse n (λ j e. ruled-bad (stopLine l) (stopRule l j) (u .seen) (drop p s) n (stop-bad l (drop p s) n b))
+
+    module _ (ys : List ℕ) (n : ℕ) (b : line l (bytes "S,") 2 (drop p s) ≡ found (take 2 ys) (drop n s)) where
+      formed : stopLine l (drop p s) ≡ found (stopOf ys) (drop n s)
+      formed = stop-read l (drop p s) ys (drop n s) b
+
+      pub stops-no : (x : ℕ) → 0 < x → StopRuled l m least (stopOf ys) x → (j : Job) → j .processors ≡ m → StopsLoaded l (all j) cells (Refused x)
+      stops-no x z f =
+          refuse x (λ j e. ruled-no (stopLine l) (stopRule l j) (u .seen) (drop p s) (stopOf ys) (drop n s) formed x (f j (u .seen) e (u .next-least)) z)
 
       -- The text that is left is shorter.
       pub stops-shorter : length s - n < length s - p
-      stops-shorter = omega (arith, line-shorter document01 (bytes "S,") 2 (drop p s) (take 2 ys) (drop n s) b, length-drop p s, length-drop n s)
+      stops-shorter = omega (arith, line-shorter l (bytes "S,") 2 (drop p s) (take 2 ys) (drop n s) b, length-drop p s, length-drop n s)
 
-      pub stops-next : nth ys 0 < m → nth ys 1 ≤ 4294967295 → least ≤ nth ys 0
-          → ((j : Job) (seen : List Stop) → j .processors ≡ m → afterLast (getLast? seen) ≡ least → 0 ≡ stopRule document01 j seen (stopIn ys))
-          → StopsUpTo s m n (nth ys 0 + 1) (set cells (nth ys 0) (nth ys 1))
-      stops-next a t l f =
+      pub stops-next : Suited l → nth ys 0 < m → nth ys 1 ≤ l .tick → least ≤ nth ys 0 → StopRuled l m least (stopOf ys) 0
+          → StopsUpTo l s m n (nth ys 0 + 1) (set cells (nth ys 0) (nth ys 1))
+      stops-next i a t lo f =
           let k = nth ys 0 in
           let here : k < length cells = omega (arith, a, u .size) in
           let z : length (set cells k (nth ys 1)) ≡ length cells = length-set cells k (nth ys 1) in
-          let no : nth ys 1 ≡ neverCell → ⊥ = λ w. omega arith in
+          let no : nth ys 1 ≡ neverCell → ⊥ = λ w. omega (arith, w, t, i .tick-fits) in
           record {
-            seen = u .seen ++ stopIn ys ∷ [];
+            seen = u .seen ++ stopOf ys ∷ [];
             left = u .left - 1;
             enough = omega (arith, stops-shorter, u .enough);
             rest = λ j e.
-                to-next (stopLine document01) (stopRule document01 j) (u .left - 1) (u .seen) (drop p s) some-left (stopIn ys) (drop n s) (stop-read (drop p s) ys (drop n s) b) 0
-                (f j (u .seen) e (u .next-least)) (omega arith)
+                to-next (stopLine l) (stopRule l j) (u .left - 1) (u .seen) (drop p s) some-left (stopOf ys) (drop n s)
+                (ruled-yes (stopLine l) (stopRule l j) (u .seen) (drop p s) (stopOf ys) (drop n s) formed 0 (f j (u .seen) e (u .next-least)) (omega arith))
                 ∙ (rw one-left at (u .rest j e));
             size = omega (arith, z, u .size);
-            next-least = rw (last-of (u .seen) (stopIn ys)) (omega arith);
+            next-least = rw (last-of (u .seen) (stopOf ys)) (omega arith);
             times = λ q g.
                 ⊎-elim
-                (λ (i : k ≡ q). rw (← i) (rw (getD-set-same cells k (nth ys 1) 0 here) (rw (ne-eqb (nth ys 1) neverCell no) (sym (stop-new (u .seen) (stopIn ys) k (u .above k l) refl)), inr t)))
-                (λ (i : k ≡ q → ⊥). rw (getD-set-other cells k q (nth ys 1) 0 (λ w. i (sym w)), stop-other (u .seen) (stopIn ys) q i) (u .times q (omega (arith, z, g))))
+                (λ (i : k ≡ q). rw (← i) (rw (getD-set-same cells k (nth ys 1) 0 here) (rw (ne-eqb (nth ys 1) neverCell no) (sym (stop-new (u .seen) (stopOf ys) k (u .above k lo) refl)), inr t)))
+                (λ (i : k ≡ q → ⊥). rw (getD-set-other cells k q (nth ys 1) 0 (λ w. i (sym w)), stop-other (u .seen) (stopOf ys) q i) (u .times q (omega (arith, z, g))))
                 (equal-or-not k q);
-            above = λ q g. stop-other (u .seen) (stopIn ys) q (λ w. omega arith) ∙ u .above q (omega arith);
+            above = λ q g. stop-other (u .seen) (stopOf ys) q (λ w. omega arith) ∙ u .above q (omega arith);
           }
 
 -- The whole text, for cells that are `size` in number.
-module _ (size : ℕ) (s cells : List ℕ) (j : Job) where
-  pub stops-short : size < j .processors → StopsLoaded (stopsFrom size j s) cells (Refused 8)
+module _ (l : Limits) (size : ℕ) (s cells : List ℕ) (j : Job) where
+  pub stops-short : size < j .processors → StopsLoaded l (stopsFrom l size j s) cells (Refused 8)
   unfolding stopsFrom
   stops-short h = rw (lt-ltb _ _ h)
 
-  module _ (l : j .processors ≤ size) where
-    pub stops-long : 65536 < length s → StopsLoaded (stopsFrom size j s) cells (Refused 1)
+  module _ (g : j .processors ≤ size) where
+    pub stops-long : l .textLength < length s → StopsLoaded l (stopsFrom l size j s) cells (Refused 1)
     unfolding stopsFrom readStops
-    stops-long h = rw (le-ltb _ _ l, lt-ltb _ _ h)
+    stops-long h = rw (le-ltb _ _ g, lt-ltb _ _ h)
 
-    pub stops-whole : (r : Step) → length s ≤ 65536 → StopsLoaded (ended (linesToEnd (stopLine document01) (stopRule document01 j) (length s) [] s)) cells r
-        → StopsLoaded (stopsFrom size j s) cells r
+    pub stops-whole : (r : Step) → length s ≤ l .textLength → StopsLoaded l (ended (stopLines l j (length s) [] s)) cells r
+        → StopsLoaded l (stopsFrom l size j s) cells r
     unfolding stopsFrom readStops
-    stops-whole r h t = rw (le-ltb _ _ l, le-ltb _ _ h) t
+    stops-whole r h t = rw (le-ltb _ _ g, le-ltb _ _ h) t
 
 -- One cell more is never.
 pub never-more : (cells : List ℕ) (i : ℕ) → i < length cells → ((q : ℕ) → q < i → nth cells q ≡ neverCell) → (q : ℕ) → q < i + 1 → nth (set cells i neverCell) q ≡ neverCell
-never-more cells i l h q g =
+never-more cells i r h q g =
     ⊎-elim
-    (λ (e : q ≡ i). rw e (getD-set-same cells i neverCell 0 l))
+    (λ (e : q ≡ i). rw e (getD-set-same cells i neverCell 0 r))
     (λ b. getD-set-other cells i q neverCell 0 (λ e. omega arith) ∙ h q b)
     (last-or-before i q (omega arith))

@@ -1,17 +1,16 @@
 // A stop list's text: for each processor the tick at which it stops.
 ghost use mathlib.Core.Path.{_≡_};
-ghost use mathlib.Core.List.{List, [], getLast?};
+ghost use mathlib.Core.List.{[]};
 ghost use Prim.Native.Nat.{ℕ, _≤_, _<_};
 ghost use lib.ListN.{length};
 ghost use Rattle.definitions.specs.Lists.{nth};
 ghost use Rattle.definitions.specs.Limits.{document01};
-ghost use Rattle.definitions.specs.Text.{linesToEnd, ended};
+ghost use Rattle.definitions.specs.Text.{ended};
 ghost use Rattle.definitions.specs.Job.{Job};
-ghost use Rattle.definitions.specs.Stops.{Stop, stopLine, stopRule};
-ghost use Rattle.definitions.specs.Facts.{afterLast};
 ghost use Rattle.ticks.specs.Cells.{neverCell};
-ghost use Rattle.stops.specs.Loading.{StopsLoaded};
+ghost use Rattle.stops.specs.Loading.{stopLines, StopRuled, StopsLoaded};
 use text::Step;
+use text::limits::TICK;
 use ticks::lanes::NEVER;
 
 // No processor stops.
@@ -28,7 +27,7 @@ pub fn clear(stops: &mut [u64])
 // The stop lines, for cells that are all never.
 pub fn read_stop_lines(s: &[u8], m: u64, stops: &mut [u64]) -> Step
     requires { ⌜ (m ≤ length (now stops)) × ((q : ℕ) → q < length (now stops) → nth (now stops) q ≡ neverCell) ⌝ }
-    ensures { λ r. ⌜ ((j : Job) → j .processors ≡ m → StopsLoaded (ended (linesToEnd (stopLine document01) (stopRule document01 j) (length (now (s .entry))) [] (now (s .entry)))) (now (stops .exit)) r) ⌝ }
+    ensures { λ r. ⌜ ((j : Job) → j .processors ≡ m → StopsLoaded document01 (ended (stopLines document01 j (length (now (s .entry))) [] (now (s .entry)))) (now (stops .exit)) r) ⌝ }
 {
     let mut line = [0u64; 2];
     let mut least = 0;
@@ -52,13 +51,13 @@ pub fn read_stop_lines(s: &[u8], m: u64, stops: &mut [u64]) -> Step
 
 // The number of the refusal of a stop line, or 0; `least` is the least processor that may come.
 fn check_stop(m: u64, least: u64, processor: u64, tick: u64) -> u64
-    ensures { λ r. ⌜ ((j : Job) (seen : List Stop) → j .processors ≡ m → afterLast (getLast? seen) ≡ least → r ≡ stopRule document01 j seen (record { processor = processor; tick = tick }))
-        × (r ≡ 0 → (processor < m) × (tick ≤ 4294967295) × (least ≤ processor)) ⌝ }
+    ensures { λ r. ⌜ StopRuled document01 m least (record { processor = processor; tick = tick }) r
+        × (r ≡ 0 → (processor < m) × (tick ≤ document01 .tick) × (least ≤ processor)) ⌝ }
 {
     if processor >= m {
         return 3;
     }
-    if tick > 4294967295 {
+    if tick > TICK {
         return 3;
     }
     if processor < least {

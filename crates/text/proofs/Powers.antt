@@ -20,21 +20,21 @@ tenfold-at zero p d h = absurd (omega arith)
 tenfold-at (suc k) p zero h = omega arith
 tenfold-at (suc k) p (suc d) h = tenfold-at k (p * 10) d (omega arith) ∙ mul-assoc p 10 (10 ^ d) ∙ ap (λ (x : ℕ). p * x) (sym (pow-succ' 10 d))
 
--- The width of n is at least d, and d is below 10: one turn of the search.
-module _ (d n : ℕ) (h : d < 10) where
-  turn : widthFrom (10 - d) d n ≡ if ltb n (getD (tenfold 10 1) d 0) then d else widthFrom (10 - (d + 1)) (d + 1) n
+-- The width of n is at least d, which is below the most: one turn of the search.
+module _ (most d n : ℕ) (h : d < most) where
+  turn : widthFrom (most - d) d n ≡ if ltb n (getD (tenfold most 1) d 0) then d else widthFrom (most - (d + 1)) (d + 1) n
   unfolding widthFrom
   turn =
-      let e : 10 - d ≡ suc (10 - (d + 1)) = omega arith in
-      let p : getD (tenfold 10 1) d 0 ≡ 10 ^ d = tenfold-at 10 1 d h ∙ omega arith in
+      let e : most - d ≡ suc (most - (d + 1)) = omega arith in
+      let p : getD (tenfold most 1) d 0 ≡ 10 ^ d = tenfold-at most 1 d h ∙ omega arith in
       rw (e, p)
 
-  pub width-stop : n < getD (tenfold 10 1) d 0 → widthFrom (10 - d) d n ≡ d
+  pub width-stop : n < getD (tenfold most 1) d 0 → widthFrom (most - d) d n ≡ d
   width-stop t = turn ∙ rw (lt-ltb _ _ t)
 
-  pub width-next : getD (tenfold 10 1) d 0 ≤ n → widthFrom (10 - d) d n ≡ widthFrom (10 - (d + 1)) (d + 1) n
+  pub width-next : getD (tenfold most 1) d 0 ≤ n → widthFrom (most - d) d n ≡ widthFrom (most - (d + 1)) (d + 1) n
   width-next t = turn ∙ rw (le-ltb _ _ t)
 
-pub width-end : (d n : ℕ) → d ≡ 10 → widthFrom (10 - d) d n ≡ d
+pub width-end : (most d n : ℕ) → most ≤ d → widthFrom (most - d) d n ≡ d
 unfolding widthFrom
-width-end d n h = rw h
+width-end most d n h = let e : most - d ≡ 0 = omega arith in rw e

@@ -10,8 +10,9 @@ use native.Mathlib.Nat.{pow-suc, pow-le-pow-right, eq-zero-or-pos}
 use borrow.Author.Tests.{lt-leb, le-leb, eq-eqb, ne-eqb}
 use lib.ListN.{length, getD, drop, drop-of-length-le}
 use lib.Seq.{drop-cons}
-use Rattle.definitions.specs.Limits.{Limits, document01}
+use Rattle.definitions.specs.Limits.{Limits}
 use Rattle.definitions.specs.Text.{found, refused, isDigit, digits, number, exactly}
+use Rattle.text.specs.Suited.{Suited}
 
 pub digit-yes : (b : ℕ) → 48 ≤ b → b ≤ 57 → isDigit b ≡ true
 digit-yes b l h = simp (le-leb 48 b l, le-leb b 57 h)
@@ -31,15 +32,17 @@ digit-wrapped b r w e = (
   λ h. ⊎-elim (λ z. digit-high b (omega arith)) (λ z. digit-low b (omega arith)) (eq-zero-or-pos (48 - b)),
 )
 
--- The value of at most ten digits: one digit more, and the bound.
+-- The value of i digits: one digit more.
 pub value-ten : (i n d : ℕ) → n < 10 ^ i → d ≤ 9 → n * 10 + d < 10 ^ (i + 1)
 value-ten i n d a b = rw (add-one, pow-suc) (omega arith)
 
-pub value-more : (k n d : ℕ) → k ≤ 9 → 0 < k → n < 10 ^ (10 - k) → d ≤ 9 → n * 10 + d < 10 ^ (10 - (k - 1))
-value-more k n d h p a b = let e : 10 - (k - 1) ≡ 10 - k + 1 = omega arith in rw e (value-ten (10 - k) n d a b)
+pub value-more : (most k n d : ℕ) → k < most → 0 < k → n < 10 ^ (most - k) → d ≤ 9 → n * 10 + d < 10 ^ (most - (k - 1))
+value-more most k n d h p a b = let e : most - (k - 1) ≡ most - k + 1 = omega arith in rw e (value-ten (most - k) n d a b)
 
-pub value-small : (i n : ℕ) → i ≤ 10 → n < 10 ^ i → n < 10 ^ 10
-value-small i n l h = omega (arith, pow-le-pow-right {n = 10} (omega arith) {i = i} {j = 10} l)
+-- With it there are no more digits than are read.
+pub value-fits : (l : Limits) → Suited l → (i n : ℕ) → i < l .digits → n < 10 ^ i → n * 10 + 9 < 2 ^ 64
+value-fits l u i n h a =
+    omega (arith, value-ten i n 9 a (omega arith), pow-le-pow-right {n = 10} (omega arith) {i = i + 1} {j = l .digits} (omega arith), u .number-fits)
 
 module _ (s : List ℕ) (i k n : ℕ) where
   pub digits-end : length s ≤ i → found n (drop i s) ≡ digits k n (drop i s)
@@ -59,25 +62,28 @@ module _ (s : List ℕ) (i k n : ℕ) where
   unfolding digits
   digits-next h t e = rw (drop-cons s i 0 h, t, ne-eqb k 0 e, add-one)
 
--- The i-th byte after a first digit at `at`, where the text goes on.
-module _ (s : List ℕ) (at i n : ℕ) (h : at + 12 ≤ length s) (l : i ≤ 10) where
-  pub inner-stop : isDigit (getD s (at + i) 0) ≡ false → found n (drop (at + i) s) ≡ digits (10 - i) n (drop (at + i) s)
-  inner-stop t = digits-stop s (at + i) (10 - i) n (omega arith) t
+-- The i-th byte after a first digit at `at`, where the text goes on for two bytes after as many digits as are read.
+module _ (most : ℕ) (s : List ℕ) (at i n : ℕ) (h : at + (most + 2) ≤ length s) (l : i ≤ most) where
+  pub inner-stop : isDigit (getD s (at + i) 0) ≡ false → found n (drop (at + i) s) ≡ digits (most - i) n (drop (at + i) s)
+  inner-stop t = digits-stop s (at + i) (most - i) n (omega arith) t
 
-  pub inner-next : (d : ℕ) → i < 10 → (isDigit (getD s (at + i) 0) ≡ true) × (getD s (at + i) 0 ≡ d + 48)
-      → digits (10 - (i + 1)) (n * 10 + d) (drop (at + (i + 1)) s) ≡ digits (10 - i) n (drop (at + i) s)
+  pub inner-next : (d : ℕ) → i < most → (isDigit (getD s (at + i) 0) ≡ true) × (getD s (at + i) 0 ≡ d + 48)
+      → digits (most - (i + 1)) (n * 10 + d) (drop (at + (i + 1)) s) ≡ digits (most - i) n (drop (at + i) s)
   inner-next d g t =
       let f : getD s (at + i) 0 - 48 ≡ d = omega (arith, t .1) in
-      let k : 10 - (i + 1) ≡ 10 - i - 1 = omega arith in
+      let k : most - (i + 1) ≡ most - i - 1 = omega arith in
       let p : at + (i + 1) ≡ at + i + 1 = omega arith in
-      rw (k, p, ← f) (digits-next s (at + i) (10 - i) n (omega arith) (t .0) (λ z. omega arith))
+      rw (k, p, ← f) (digits-next s (at + i) (most - i) n (omega arith) (t .0) (λ z. omega arith))
 
-  module _ (g : 10 ≤ i) where
-    pub inner-full : isDigit (getD s (at + 10) 0) ≡ true → refused 2 ≡ digits (10 - i) n (drop (at + i) s)
-    inner-full t = let e : i ≡ 10 = omega arith in rw e (digits-full s (at + 10) 0 n (omega arith) t refl)
+  module _ (g : most ≤ i) where
+    last : i ≡ most
+    last = omega arith
 
-    pub inner-end : isDigit (getD s (at + 10) 0) ≡ false → found n (drop (at + 10) s) ≡ digits (10 - i) n (drop (at + i) s)
-    inner-end t = let e : i ≡ 10 = omega arith in rw e (digits-stop s (at + 10) 0 n (omega arith) t)
+    pub inner-full : isDigit (getD s (at + most) 0) ≡ true → refused 2 ≡ digits (most - i) n (drop (at + i) s)
+    inner-full t = rw last (digits-full s (at + most) (most - most) n (omega arith) t (omega arith))
+
+    pub inner-end : isDigit (getD s (at + most) 0) ≡ false → found n (drop (at + most) s) ≡ digits (most - i) n (drop (at + i) s)
+    inner-end t = rw last (digits-stop s (at + most) (most - most) n (omega arith) t)
 
 module _ (l : Limits) (s : List ℕ) (i : ℕ) where
   pub number-end : length s ≤ i → refused 2 ≡ number l (drop i s)
@@ -98,23 +104,23 @@ module _ (l : Limits) (s : List ℕ) (i : ℕ) where
   number-more h t e = rw (drop-cons s i 0 h, t, ne-eqb _ _ e, add-one)
 
 -- The number at `at`, where the text goes on, by the digit d that its first byte is.
-module _ (s : List ℕ) (at : ℕ) (h : at + 12 ≤ length s) where
-  pub inner-no : isDigit (getD s at 0) ≡ false → refused 2 ≡ number document01 (drop at s)
-  inner-no t = number-no document01 s at (omega arith) t
+module _ (l : Limits) (s : List ℕ) (at : ℕ) (h : at + (l .digits + 2) ≤ length s) where
+  pub inner-no : isDigit (getD s at 0) ≡ false → refused 2 ≡ number l (drop at s)
+  inner-no t = number-no l s at (omega arith) t
 
   module _ (d : ℕ) (t : (isDigit (getD s at 0) ≡ true) × (getD s at 0 ≡ d + 48)) where
-    pub inner-more : 0 < d → digits 9 d (drop (at + 1) s) ≡ number document01 (drop at s)
+    pub inner-more : 0 < d → digits (l .digits - 1) d (drop (at + 1) s) ≡ number l (drop at s)
     inner-more g =
         let f : getD s at 0 - 48 ≡ d = omega (arith, t .1) in
-        rw (← f) (number-more document01 s at (omega arith) (t .0) (λ z. omega (arith, t .1)))
+        rw (← f) (number-more l s at (omega arith) (t .0) (λ z. omega (arith, t .1)))
 
-    zero : d ≤ 0 → digits 0 0 (drop (at + 1) s) ≡ number document01 (drop at s)
-    zero g = number-zero document01 s at (omega arith) (t .0) (omega (arith, t .1))
+    zero : d ≤ 0 → digits 0 0 (drop (at + 1) s) ≡ number l (drop at s)
+    zero g = number-zero l s at (omega arith) (t .0) (omega (arith, t .1))
 
-    pub inner-zeros : d ≤ 0 → isDigit (getD s (at + 1) 0) ≡ true → refused 2 ≡ number document01 (drop at s)
+    pub inner-zeros : d ≤ 0 → isDigit (getD s (at + 1) 0) ≡ true → refused 2 ≡ number l (drop at s)
     inner-zeros g u = digits-full s (at + 1) 0 0 (omega arith) u refl ∙ zero g
 
-    pub inner-zero : d ≤ 0 → isDigit (getD s (at + 1) 0) ≡ false → found 0 (drop (at + 1) s) ≡ number document01 (drop at s)
+    pub inner-zero : d ≤ 0 → isDigit (getD s (at + 1) 0) ≡ false → found 0 (drop (at + 1) s) ≡ number l (drop at s)
     inner-zero g u = digits-stop s (at + 1) 0 0 (omega arith) u ∙ zero g
 
 -- The fixed bytes o from number i on, at the place p of the text s.

@@ -57,19 +57,18 @@ module _ (d : List ℕ) (at : ℕ) (t : List ℕ) where
   pub written-fits : at + length t ≤ length d → written d at t ≡ over d at t
   written-fits h = rw (le-leb _ _ h)
 
+  pub written-unfit : length d < at + length t → written d at t ≡ d
+  written-unfit h = rw (lt-leb _ _ h)
+
   pub place-fits : at + length t ≤ length d → placeAfter d at t ≡ at + length t
   place-fits h = rw (le-leb _ _ h)
 
--- t was to be written at the front of the output d: it fits, or not.
-module _ (d t : List ℕ) where
-  pub front-fits : length t ≤ length d → (n : ℕ) (e : List ℕ) → n ≡ length t → e ≡ over d 0 t → (n ≡ placeAfter d 0 t) × (e ≡ written d 0 t)
-  front-fits h n e f g = rw (le-leb (0 + length t) (length d) (omega (arith, h))) (omega (arith, f), g)
+  -- The answers n and e, where t fits, and where it does not.
+  pub fits : at + length t ≤ length d → (n : ℕ) (e : List ℕ) → n ≡ at + length t → e ≡ over d at t → (n ≡ placeAfter d at t) × (e ≡ written d at t)
+  fits h n e f g = rw (le-leb _ _ h) (f, g)
 
-  pub front-whole : length t ≤ length d → (n : ℕ) (e : List ℕ) → n ≡ placeAfter d 0 t → e ≡ written d 0 t → (n ≡ length t) × (e ≡ over d 0 t)
-  front-whole h n e f g = (f ∙ place-fits d 0 t (omega (arith, h)) ∙ omega arith, g ∙ written-fits d 0 t (omega (arith, h)))
-
-  pub front-unfit : length d < length t → (0 ≡ placeAfter d 0 t) × (d ≡ written d 0 t)
-  front-unfit h = rw (lt-leb (0 + length t) (length d) (omega (arith, h))) (refl, refl)
+  pub unfit : length d < at + length t → (at ≡ placeAfter d at t) × (d ≡ written d at t)
+  unfit h = rw (lt-leb _ _ h) (refl, refl)
 
 -- x is the output d with s written from `at` on, m the place after s, and there is room for t behind s.
 module _ (d x : List ℕ) (at m : ℕ) (s t : List ℕ) (e : x ≡ over d at s) (em : m ≡ at + length s) (h : at + length (s ++ t) ≤ length d) where

@@ -5,7 +5,7 @@ use mathlib.Core.List.{List, _++_}
 use lib.Dec.{leb, ltb}
 use lib.ListN.{length, drop}
 use Rattle.definitions.specs.Lists.{if_then_else_}
-use Rattle.definitions.specs.Limits.{document01}
+use Rattle.definitions.specs.Limits.{Limits}
 use Rattle.definitions.specs.Text.{Reading, Reader, found, refused, next, _>>=_, _>>_, return, due, line, Result, good, bad}
 use Rattle.lists.specs.Over.{over}
 use Rattle.text.specs.declared.Num.{Num}
@@ -48,8 +48,8 @@ PlacedAt p (Next next) = next ≡ p
 PlacedAt p (Refused n) = Unit {0}
 
 -- A line of k numbers into a slice of so many cells: 8 if it has fewer.
-abbrev pub lineInto : ℕ → List ℕ → ℕ → Reader (List ℕ)
-lineInto room opening k s = if ltb room k then refused 8 else line document01 opening k s
+abbrev pub lineInto : Limits → ℕ → List ℕ → ℕ → Reader (List ℕ)
+lineInto l room opening k s = if ltb room k then refused 8 else line l opening k s
 
 -- One line of a kind, after the lines in `seen`: its form, then its rule.
 abbrev pub ruled : {A : Type 0} → Reader A → (List A → A → ℕ) → List A → Reader A

@@ -3,9 +3,14 @@ ghost use mathlib.Core.Path.{_≡_};
 ghost use Prim.Native.Nat.{_≤_, _<_, _-_, _+_, _^_};
 ghost use lib.ListN.{length, drop};
 ghost use Rattle.definitions.specs.Limits.{document01};
+ghost use Rattle.definitions.specs.Job.{outside};
 ghost use Rattle.definitions.specs.Text.{digits, number, exactly, mark, width, lowDigits, decimal};
 ghost use Rattle.lists.specs.Over.{over};
 ghost use Rattle.text.specs.Told.{numberTold, Placed, told, PlacedAt, written, placeAfter};
+use crate::limits::DIGITS;
+use crate::limits::POWERS;
+
+pub mod limits;
 
 // A number and the place after it.
 pub enum Num {
@@ -19,8 +24,8 @@ pub enum Step {
     Refused(u64),
 }
 
-// The ten powers of ten that decide a printed number's width.
-const POWERS: [u64; 10] = [
+// The powers of ten that decide a printed number's width.
+const TENS: [u64; POWERS] = [
     1,
     10,
     100,
@@ -39,9 +44,16 @@ fn wide(x: u8) -> u64
     x as u64
 }
 
+// A number is outside its range.
+pub fn outside(low: u64, high: u64, n: u64) -> bool
+    ensures { λ r. ⌜ r ≡ outside low high n ⌝ }
+{
+    (n < low) | (high < n)
+}
+
 // The digits that follow, at most `room` of them, after those that make `value`.
 fn more_digits(s: &[u8], at: usize, room: usize, value: u64) -> Num
-    requires { ⌜ (at ≤ length (now s)) × (room ≤ 9) × (value < 10 ^ (10 - room)) ⌝ }
+    requires { ⌜ (at ≤ length (now s)) × (room < document01 .digits) × (value < 10 ^ (document01 .digits - room)) ⌝ }
     ensures { λ r. ⌜ numberTold (now (s .entry)) r ≡ digits room value (drop at (now (s .entry))) ⌝ }
     ensures placed { λ r. ⌜ Placed (now (s .entry)) r ⌝ }
 {
@@ -84,7 +96,7 @@ pub fn read_number(s: &[u8], at: usize) -> Num
     if b == 48 {
         return more_digits(s, at + 1, 0, 0);
     }
-    more_digits(s, at + 1, 9, wide(b - 48))
+    more_digits(s, at + 1, DIGITS - 1, wide(b - 48))
 }
 
 // The place after the fixed bytes `opening`, if they stand at `at`.
@@ -119,8 +131,8 @@ pub fn width_of(n: u64) -> usize
     ensures { λ r. ⌜ r ≡ width document01 n ⌝ }
 {
     let mut d: usize = 1;
-    while d < 10 {
-        if n < POWERS[d] {
+    while d < POWERS {
+        if n < TENS[d] {
             return d;
         }
         d += 1;

@@ -2,6 +2,9 @@
 use mathlib.Core.List.{[], _∷_}
 use native.Mathlib.Omega.{arith}
 use borrow.Author.Needs.{needs}
+use mathlib.Core.Path.{_∙_}
+use Rattle.definitions.specs.Lists.{bytes}
+use Rattle.text.proofs.Writing.{place-fits}
 use Rattle.definitions.specs.Limits.{document01}
 use Rattle.definitions.specs.Tools.{verdict}
 use Rattle.check_plan.proofs.Printed.{shown}
@@ -18,7 +21,8 @@ returns c =
     let k = c .before .before .before .before .before .before .before .check in
     let enum-told = c .before .before .before .before .before .enum-told in
     let w = c .before .before .write-fixed in
-    shown (verdict document01 (a .job .now) (a .plan .now)) ([]) (a .out .now) (w .last .0) (w .result) (rw (enum-told .given .1) at (k .ensures .0)) (omega arith) pre (w .ensures .0) (w .ensures .1)
+    shown (verdict document01 (a .job .now) (a .plan .now)) ([]) (a .out .now) (w .last .0) (w .result) (rw (enum-told .given .1) at (k .ensures .0)) (omega arith) pre
+    (w .ensures .0 ∙ place-fits (a .out .now) 0 (bytes "OK\n") (omega (arith, pre))) (w .ensures .1)
 
 returns-2 : tie.Need-returns-2
 returns-2 c =

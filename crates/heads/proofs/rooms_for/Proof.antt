@@ -16,18 +16,16 @@ returns-2 c = rw (sym (c .before .before .before .fits2 .ensures) ∙ c .before 
 returns-3 : tie.Need-returns-3
 unfolding roomsFor
 returns-3 c =
-    let fits2 = c .before .before .before .before .before .fits2 in
     let if1 = c .before .before .before .before .if1 in
     let fits3 = c .before .before .before .fits3 in
-    rw (sym (fits2 .ensures) ∙ if1 .left, sym (fits3 .ensures) ∙ c .before .before .if2 .left, sym (c .before .fits4 .ensures) ∙ c .if3 .taken)
+    rw (sym (c .before .before .before .before .before .fits2 .ensures) ∙ if1 .left, sym (fits3 .ensures) ∙ c .before .before .if2 .left, sym (c .before .fits4 .ensures) ∙ c .if3 .taken)
 
 returns-4 : tie.Need-returns-4
 unfolding roomsFor
 returns-4 c =
-    let fits2 = c .before .before .before .before .before .fits2 in
     let if1 = c .before .before .before .before .if1 in
     let fits3 = c .before .before .before .fits3 in
-    rw (sym (fits2 .ensures) ∙ if1 .left, sym (fits3 .ensures) ∙ c .before .before .if2 .left, sym (c .before .fits4 .ensures) ∙ c .if3 .left)
+    rw (sym (c .before .before .before .before .before .fits2 .ensures) ∙ if1 .left, sym (fits3 .ensures) ∙ c .before .before .if2 .left, sym (c .before .fits4 .ensures) ∙ c .if3 .left)
 
 pub rooms-for-spec : {M : Type 1} → statement M
 rooms-for-spec =

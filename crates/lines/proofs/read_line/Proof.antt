@@ -16,4 +16,4 @@ returns-2 c =
 
 pub read-line-spec : {M : Type 1} → statement M
 read-line-spec = tie.close (tie.spec
-    (λ c. (sym (line-unfit _ _ _ _ (c .if1 .taken)), (refl, λ h. refl))) (λ c κs. search needs) (λ c. search needs) returns-2)
+    (λ c. (sym (line-unfit _ _ _ _ _ (c .if1 .taken)), (refl, λ h. refl))) (λ c κs. search needs) (λ c. search needs) returns-2)

@@ -1,10 +1,10 @@
 use borrow.Author.Needs.{needs}
 use mathlib.Core.Path.{_≡_, refl, sym, ap, _∙_}
 use mathlib.Core.Logic.{⊎-elim}
-use Prim.Native.Nat.{ℕ, _≤_, _-_, _/_}
+use Prim.Native.Nat.{ℕ, _≤_, _-_}
 use native.Mathlib.Omega.{arith}
 use lib.ListN.{length}
-use Rattle.replicas.specs.Cells.{leastEarly, leastOn}
+use Rattle.replicas.specs.Cells.{replicasOf, leastEarly, leastOn}
 use Rattle.replicas.proofs.TwiceLaws.{least-none, least-sooner, least-stays}
 use Rattle.replicas.proofs.first_finish.Statement.{statement}
 use Rattle.replicas.proofs.first_finish.Tie as tie
@@ -26,7 +26,7 @@ loop-again c =
 
 returns : tie.Need-returns Inv-loop μ-loop
 returns c =
-    let e : c .before .loop .c ≡ length (c .before .before .args .cells .now) / 3 = omega (arith, c .before .loop .inv .0, c .loop-test .left) in
+    let e : c .before .loop .c ≡ replicasOf (length (c .before .before .args .cells .now)) = omega (arith, c .before .loop .inv .0, c .loop-test .left) in
     (c .before .loop .inv .1 ∙ ap (λ (i : ℕ). leastEarly i (c .before .before .args .cells .now)) e, c .before .loop .inv .2 ∙ ap (λ (i : ℕ). leastOn i (c .before .before .args .cells .now)) e)
 
 pub first-finish-spec : {M : Type 1} → statement M

@@ -14,30 +14,32 @@ enum-told c = search needs
 
 put-replay-requires : tie.Need-put-replay-requires
 put-replay-requires c κs =
-    let a = c .before .before .before .before .before .before .before .before .before .before .before .before .before .args in
-    let load-both = c .before .before .before .before .before .before .load-both in
-    let x = jobFrom (a .rooms) (length (a .mem .now)) (headOf (a .head)) (drop (a .at) (a .job .now)) in
-    both-held (a .rooms) x (a .plan .now) (load-both .last .1 .1 .1 .1 .0) _ (rw (c .before .before .enum-told .given .1) at (load-both .ensures))
+    let l = c .before .before .before .before .before .before .before .before .before .load-both in
+    let enum-told = c .before .before .before .enum-told in
+    let a = c .before .before .before .before .before .before .before .before .before .before .before .before .before .before .before .before .before .before .args in
+    let x = jobFrom (a .rooms) (length (a .mem .now)) (length (a .links .now)) (headOf (a .head)) (drop (a .at) (a .job .now)) in
+    both-held (a .rooms) x (a .plan .now) (l .last .1 .1 .1 .1 .0) (l .last .1 .1 .1 .1 .1 .0) _ (rw (enum-told .given .1) at (l .ensures))
 
 returns : tie.Need-returns
 returns c =
-    let a = c .before .before .before .before .before .before .before .before .before .before .before .before .before .before .before .before .before .before .args in
-    let load-both = c .before .before .before .before .before .before .before .before .before .before .before .load-both in
-    let enum-told = c .before .before .before .before .before .before .before .enum-told in
-    let put-replay = c .before .before .before .before .put-replay in
-    let x = withPlan (jobFrom (a .rooms) (length (a .mem .now)) (headOf (a .head)) (drop (a .at) (a .job .now))) (a .plan .now) in
-    replay-put (a .rooms) x (load-both .last .1 .1 .1 .1 .0) (a .stops .now) (a .out .now) _ (rw (enum-told .given .1) at (load-both .ensures)) (put-replay .last .1 .1 .1 .0) (put-replay .result) (put-replay .ensures)
+    let l = c .before .before .before .before .before .before .before .before .before .before .before .before .before .before .load-both in
+    let enum-told = c .before .before .before .before .before .before .before .before .enum-told in
+    let p = c .before .before .before .before .put-replay in
+    let a = c .before .before .before .before .before .before .before .before .before .before .before .before .before .before .before .before .before .before .before .before .before .before .before .args in
+    let x = withPlan (jobFrom (a .rooms) (length (a .mem .now)) (length (a .links .now)) (headOf (a .head)) (drop (a .at) (a .job .now))) (a .plan .now) in
+    replay-put (a .rooms) x (l .last .1 .1 .1 .1 .0) (l .last .1 .1 .1 .1 .1 .0) (a .stops .now) (a .out .now) _ (rw (enum-told .given .1) at (l .ensures))
+    (p .last .1 .1 .1 .1 .0) (p .result) (p .ensures)
 
 returns-2 : tie.Need-returns-2
 returns-2 c =
-    let a = c .before .before .before .before .before .before .before .before .before .before .before .before .args in
-    let load-both = c .before .before .before .before .before .load-both in
-    let x = withPlan (jobFrom (a .rooms) (length (a .mem .now)) (headOf (a .head)) (drop (a .at) (a .job .now))) (a .plan .now) in
-    replay-refused (a .rooms) x (load-both .last .1 .1 .1 .1 .0) (a .stops .now) (a .out .now) _ (rw (c .before .x .given .1) at (load-both .ensures))
+    let l = c .before .before .before .before .before .before .before .load-both in
+    let a = c .before .before .before .before .before .before .before .before .before .before .before .before .before .before .before .before .args in
+    let x = withPlan (jobFrom (a .rooms) (length (a .mem .now)) (length (a .links .now)) (headOf (a .head)) (drop (a .at) (a .job .now))) (a .plan .now) in
+    replay-refused (a .rooms) x (l .last .1 .1 .1 .1 .0) (l .last .1 .1 .1 .1 .1 .0) (a .stops .now) (a .out .now) _ (rw (c .before .x .given .1) at (l .ensures))
 
 pub replay-in-spec : {M : Type 1} → statement M
 replay-in-spec =
     tie.close
     (tie.spec
-    (λ c κs. search needs) enum-told put-replay-requires (λ c. search needs) (λ c. search needs) (λ c. search needs) returns (λ c. search needs)
-    returns-2)
+    (λ c κs. search needs) enum-told put-replay-requires (λ c. search needs) (λ c. search needs) (λ c. search needs) (λ c. search needs) returns
+    (λ c. search needs) (λ c. search needs) returns-2)

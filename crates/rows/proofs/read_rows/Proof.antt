@@ -21,22 +21,21 @@ fill-rows-requires c κs =
 returns : tie.Need-returns
 returns c =
     let a = c .before .before .before .before .before .before .before .before .before .before .args in
-    let is-wide = c .before .before .before .before .before .before .is-wide in
-    let if1 = c .before .before .before .before .before .if1 in
     let if2 = c .before .before .before .before .if2 in
-    let w = sym (is-wide .ensures) ∙ if1 .taken in
+    let w = sym (c .before .before .before .before .before .before .is-wide .ensures) ∙ c .before .before .before .before .before .if1 .taken in
     let z = some-number (a .k) (a .n) (a .kind) w in
-    c .before .before .fill-rows .ensures ∙ sym (rows-fit (length (a .mem .now)) (a .kind) (a .opening .now) (a .k) (a .n) (drop (a .at) (a .s .now)) w (rows-within (length (a .mem .now)) (a .k) (a .n) z (if2 .taken)))
+    c .before .before .fill-rows .ensures ∙ sym (rows-fit _ (length (a .mem .now)) (a .kind) (a .opening .now) (a .k) (a .n) (drop (a .at) (a .s .now)) w
+    (rows-within (length (a .mem .now)) (a .k) (a .n) z (if2 .taken)))
 
 returns-2 : tie.Need-returns-2
 returns-2 c =
     let a = c .before .before .before .before .before .before .args in
-    rows-unfit (length (a .mem .now)) (a .kind) (a .opening .now) (a .k) (a .n) (drop (a .at) (a .s .now)) (sym (c .before .before .is-wide .ensures) ∙ c .before .if1 .taken) (c .if2 .left)
+    rows-unfit _ (length (a .mem .now)) (a .kind) (a .opening .now) (a .k) (a .n) (drop (a .at) (a .s .now)) (sym (c .before .before .is-wide .ensures) ∙ c .before .if1 .taken) (c .if2 .left)
 
 returns-3 : tie.Need-returns-3
 returns-3 c =
     let a = c .before .before .before .before .before .args in
-    rows-narrow (length (a .mem .now)) (a .kind) (a .opening .now) (a .k) (a .n) (drop (a .at) (a .s .now)) (sym (c .before .is-wide .ensures) ∙ c .if1 .left)
+    rows-narrow _ (length (a .mem .now)) (a .kind) (a .opening .now) (a .k) (a .n) (drop (a .at) (a .s .now)) (sym (c .before .is-wide .ensures) ∙ c .if1 .left)
 
 pub read-rows-spec : {M : Type 1} → statement M
 read-rows-spec =

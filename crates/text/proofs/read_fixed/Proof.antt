@@ -19,14 +19,13 @@ returns : tie.Need-returns Inv-loop μ-loop
 returns c = (fixed-end _ _ _ _ (c .before .loop-test .taken) (c .if1 .taken) ∙ c .before .before .loop .inv .2, tt)
 
 returns-2 : tie.Need-returns-2 Inv-loop μ-loop
-returns-2 c = (fixed-no _ _ _ _ (c .before .before .before .before .loop-test .taken) (c .before .before .before .if1 .left) (λ e. omega arith) ∙ c .before .before .before .before .before .loop .inv .2, tt)
+returns-2 c =
+    (fixed-no _ _ _ _ (c .before .before .before .before .loop-test .taken) (c .before .before .before .if1 .left) (λ e. omega arith) ∙ c .before .before .before .before .before .loop .inv .2, tt)
 
 loop-again : tie.Need-loop-again Inv-loop μ-loop
 loop-again c =
     let loop = c .before .before .before .before .before .loop in
-    let loop-test = c .before .before .before .before .loop-test in
-    let if1 = c .before .before .before .if1 in
-    (search needs, omega (arith, loop .inv .1), fixed-yes _ _ _ _ (loop-test .taken) (if1 .left) (omega arith) ∙ loop .inv .2)
+    (search needs, omega (arith, loop .inv .1), fixed-yes _ _ _ _ (c .before .before .before .before .loop-test .taken) (c .before .before .before .if1 .left) (omega arith) ∙ loop .inv .2)
 
 returns-3 : tie.Need-returns-3 Inv-loop μ-loop
 returns-3 c = (fixed-done (c .before .before .args .s .now) _ _ (c .before .loop .p) (c .loop-test .left) ∙ c .before .loop .inv .2, omega (arith, c .loop-test .left, c .before .loop .inv))

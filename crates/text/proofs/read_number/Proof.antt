@@ -14,10 +14,9 @@ returns-4 c =
 returns-5 : tie.Need-returns-5
 returns-5 c =
     let if1 = c .before .before .before .before .before .before .if1 in
-    let if2 = c .before .before .before .before .if2 in
     let if3 = c .before .before .before .if3 in (
       c .more-digits2 .ensures .0
-          ∙ rw (c .before .wide .ensures) (number-more _ _ _ (if1 .left) (digit-yes _ (if2 .left) (if3 .left)) (c .before .before .if4 .left)),
+          ∙ rw (c .before .wide .ensures) (number-more _ _ _ (if1 .left) (digit-yes _ (c .before .before .before .before .if2 .left) (if3 .left)) (c .before .before .if4 .left)),
       c .more-digits2 .ensures .1,
     )
 
@@ -28,4 +27,4 @@ read-number-spec =
     (λ c. (number-end _ _ _ (c .if1 .taken), tt)) (λ c. search needs)
     (λ c. (number-no _ _ _ (c .before .before .if1 .left) (digit-low _ (c .if2 .taken)), tt))
     (λ c. (number-no _ _ _ (c .before .before .before .if1 .left) (digit-high _ (c .if3 .taken)), tt)) (λ c. search needs) (λ c κs. search needs)
-    returns-4 (λ c. search needs) (λ c κs. search needs) (λ c κs. search needs) returns-5)
+    returns-4 (λ c. search needs) (λ c. search needs) (λ c κs. search needs) (λ c κs. search needs) returns-5)

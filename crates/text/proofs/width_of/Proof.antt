@@ -10,22 +10,22 @@ use Rattle.text.proofs.width_of.Statement.{statement}
 use Rattle.text.proofs.width_of.Tie as tie
 
 abbrev Inv-loop : tie.InvT-loop
-Inv-loop n d₀ d = (d ≤ 10) × (widthFrom (10 - d) d n ≡ width document01 n)
+Inv-loop n d₀ d = (d ≤ document01 .powers) × (widthFrom (document01 .powers - d) d n ≡ width document01 n)
 
 abbrev μ-loop : tie.MeasureT-loop
-μ-loop n d₀ d = 10 - d
+μ-loop n d₀ d = document01 .powers - d
 
 loop-holds : tie.Need-loop-holds Inv-loop μ-loop
 unfolding width
 loop-holds c = (search needs, refl)
 
 loop-again : tie.Need-loop-again Inv-loop μ-loop
-loop-again c = (search needs, sym (width-next _ _ (c .before .loop-test .taken) (c .if1 .left)) ∙ c .before .before .loop .inv .1)
+loop-again c = (search needs, sym (width-next _ _ _ (c .before .loop-test .taken) (c .if1 .left)) ∙ c .before .before .loop .inv .1)
 
 pub width-of-spec : {M : Type 1} → statement M
 width-of-spec =
     tie.close
     (tie.spec
     Inv-loop μ-loop loop-holds (λ c. search needs) (λ c. search needs)
-    (λ c. sym (width-stop _ _ (c .before .loop-test .taken) (c .if1 .taken)) ∙ c .before .before .loop .inv .1) (λ c. search needs)
-    (λ c. search needs) loop-again (λ c. sym (width-end _ _ (omega arith)) ∙ c .before .loop .inv .1))
+    (λ c. sym (width-stop _ _ _ (c .before .loop-test .taken) (c .if1 .taken)) ∙ c .before .before .loop .inv .1) (λ c. search needs)
+    (λ c. search needs) loop-again (λ c. sym (width-end (document01 .powers) _ _ (omega arith)) ∙ c .before .loop .inv .1))

@@ -24,27 +24,24 @@ returns-2 c =
 
 returns-3 : tie.Need-returns-3
 returns-3 c =
+    let if2 = c .before .before .before .before .if2 in
     let args = c .before .before .before .before .before .before .before .args in
     let if1 = c .before .before .before .before .before .if1 in
     let pre = c .before .before .before .before .before .before .before .pre in
     let cells = args .before .now in
-    let l = last-cell cells (omega (arith, c .before .before .before .before .if2 .left)) in
-    sym (order-on cells (args .cell) (nth cells (length cells - 1)) l (if1 .left) (pre) (rw (c .before .before .pair-of .ensures, c .before .pair-of2 .ensures) at (c .if3 .taken)))
+    let l = last-cell cells (omega (arith, if2 .left)) in
+    sym (order-on cells (args .cell) (nth cells (length cells - 1)) l (if1 .left) (pre) (rw (c .before .before .edge-pair .ensures, c .before .edge-pair2 .ensures) at (c .if3 .taken)))
 
 returns-4 : tie.Need-returns-4
-returns-4 c =
-    let args = c .before .before .before .before .before .before .before .before .before .args in
-    sym (order-repeated _ (edgeIn (args .cell)) (sym (c .before .is-repeated .ensures) ∙ c .if4 .taken))
+returns-4 c = sym (order-repeated _ (edgeIn (c .before .before .before .before .before .before .before .before .before .args .cell)) (sym (c .before .is-repeated .ensures) ∙ c .if4 .taken))
 
 returns-5 : tie.Need-returns-5
 returns-5 c =
     let args = c .before .before .before .before .before .before .before .before .before .args in
-    let if2 = c .before .before .before .before .before .before .if2 in
-    let pair-of = c .before .before .before .before .pair-of in
     let if1 = c .before .before .before .before .before .before .before .if1 in
     let cells = args .before .now in
-    let l = last-cell cells (omega (arith, if2 .left)) in
-    let h = rw (pair-of .ensures, c .before .before .before .pair-of2 .ensures) at (c .before .before .if3 .left) in
+    let l = last-cell cells (omega (arith, c .before .before .before .before .before .before .if2 .left)) in
+    let h = rw (c .before .before .before .before .edge-pair .ensures, c .before .before .before .edge-pair2 .ensures) at (c .before .before .if3 .left) in
     sym (order-back cells (args .cell) (nth cells (length cells - 1)) l (if1 .left) h (sym (c .before .is-repeated .ensures) ∙ c .if4 .left))
 
 pub check-order-spec : {M : Type 1} → statement M

@@ -8,11 +8,12 @@ use lib.ListN.{length, take, drop}
 use native.Mathlib.Nat.{sub-zero}
 use Rattle.definitions.specs.Lists.{nth}
 use Rattle.definitions.specs.Limits.{document01}
-use Rattle.definitions.specs.Text.{found, lines}
+use Rattle.definitions.specs.Text.{found}
 use Rattle.definitions.specs.Job.{edgeLine, edgeRule, Ascends}
 use Rattle.text.specs.Told.{told}
 use Rattle.lines.proofs.LineLaws.{lines-end, lines-no, lines-next}
 use Rattle.orders.specs.Edges.{edgeIn}
+use Rattle.edges.specs.Pairs.{edgeLines}
 use Rattle.edges.proofs.EdgeLaws.{edges-more, edge-passed}
 use Rattle.edges.proofs.edge.fill_edges.Statement.{statement}
 use Rattle.edges.proofs.edge.fill_edges.Tie as tie
@@ -20,15 +21,10 @@ use Rattle.edges.proofs.edge.fill_edges.Tie as tie
 abbrev Inv-loop : tie.InvT-loop
 Inv-loop s at v n mem₀ i₀ p₀ mem i p =
     (i ≤ n) × (length mem ≡ length mem₀) × Ascends (map edgeIn (take i mem))
-    × (lines (edgeLine document01) (edgeRule document01 v) (n - i) (map edgeIn (take i mem)) (drop p s) ≡ lines (edgeLine document01) (edgeRule document01 v) n [] (drop at s))
+    × (edgeLines document01 v (n - i) (map edgeIn (take i mem)) (drop p s) ≡ edgeLines document01 v n [] (drop at s))
 
 abbrev μ-loop : tie.MeasureT-loop
-μ-loop s at v n mem₀ i₀ p₀ mem i p =
-    n - i
-
-loop-holds : tie.Need-loop-holds Inv-loop μ-loop
-loop-holds c =
-    (omega arith, refl, tt, rw sub-zero)
+μ-loop s at v n mem₀ i₀ p₀ mem i p = n - i
 
 read-edge-requires : tie.Need-read-edge-requires Inv-loop μ-loop
 read-edge-requires c κs =
@@ -52,17 +48,16 @@ loop-again c =
     let read-edge = c .before .before .before .before .before .read-edge in
     let args = c .before .before .before .before .before .before .before .before .before .before .before .args in
     let loop-test = c .before .before .before .before .before .before .before .loop-test in
-    let pre = c .before .before .before .before .before .before .before .before .before .before .before .pre in
     let i = loop .i in
     let seen = map edgeIn (take i (loop .mem)) in
     let new = read-edge .last .1 .1 .1 .0 in
     let e = sym (read-edge .ensures .1) ∙ ap (told (args .s .now) (edgeIn (nth new i))) (c .before .next .given .1) in
     let k = read-edge .kept .1 .1 .1 .0 in
-    let q = edges-more new i (omega (arith, loop-test .taken, loop .inv .1, pre .1, k)) in
+    let q = edges-more new i (omega (arith, loop-test .taken, loop .inv .1, c .before .before .before .before .before .before .before .before .before .before .before .pre .1, k)) in
     let front = read-edge .ensures .0 in (
       omega (arith, loop-test .taken),
       k ∙ loop .inv .1,
-      rw (q, front) (edge-passed (args .v) seen (drop (loop .p) (args .s .now)) (edgeIn (nth new i)) _ (loop .inv .2) e),
+      rw (q, front) (edge-passed _ (args .v) seen (drop (loop .p) (args .s .now)) (edgeIn (nth new i)) _ (loop .inv .2) e),
       rw (q, front) (lines-next (edgeLine document01) (edgeRule document01 (args .v)) (args .n) i seen (drop (loop .p) (args .s .now)) (loop-test .taken) (edgeIn (nth new i)) _ e ∙ loop .inv .3),
     )
 
@@ -79,5 +74,5 @@ pub fill-edges-spec : {M : Type 1} → statement M
 fill-edges-spec =
     tie.close
     (tie.spec
-    Inv-loop μ-loop loop-holds read-edge-requires (λ c. search needs) (λ c. search needs) (λ c. search needs) returns (λ c. search needs)
-    (λ c. search needs) loop-again (λ c. search needs) returns-2)
+    Inv-loop μ-loop (λ c. (omega arith, refl, tt, rw sub-zero)) read-edge-requires (λ c. search needs) (λ c. search needs) (λ c. search needs) returns
+    (λ c. search needs) (λ c. search needs) loop-again (λ c. search needs) returns-2)

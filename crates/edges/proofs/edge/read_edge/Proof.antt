@@ -1,13 +1,13 @@
 -- The edge is read, then its rule is tried; its cell is put behind the others.
-use mathlib.Core.Path.{refl, sym, ap, _∙_}
+use mathlib.Core.Path.{refl, sym}
 use native.Mathlib.Omega.{arith}
 use borrow.Author.Needs.{needs}
 use lib.ListN.{take}
 use lib.Seq.{length-take-le, take-set-le, getD-set-same}
 use mathlib.Core.List.{map}
 use Rattle.definitions.specs.Job.{edgeOf}
-use Rattle.text.specs.Told.{told}
-use Rattle.lines.proofs.LineLaws.{line-fits}
+use Rattle.text.specs.Suited.{suited}
+use Rattle.lines.proofs.LineLaws.{line-told}
 use Rattle.orders.specs.Edges.{edgeIn}
 use Rattle.edges.proofs.EdgeLaws.{edge-of-cell, edge-bad, edge-no, edge-yes}
 use Rattle.edges.proofs.edge.read_edge.Statement.{statement}
@@ -16,16 +16,15 @@ use Rattle.edges.proofs.edge.read_edge.Tie as tie
 slice-aggregate-check-edge : tie.Need-slice-aggregate-check-edge
 slice-aggregate-check-edge c =
     let args = c .before .before .before .before .before .before .before .before .before .before .args in
-    let pre = c .before .before .before .before .before .before .before .before .before .before .pre in
-    sym (length-take-le (args .i) (args .mem .now) (omega (arith, pre .1)))
+    sym (length-take-le (args .i) (args .mem .now) (omega (arith, c .before .before .before .before .before .before .before .before .before .before .pre .1)))
 
 returns : tie.Need-returns
 returns c =
     let read-line = c .before .before .before .before .before .before .before .read-line in
     let args = c .before .before .before .before .before .before .before .before .before .before .before .before .args in
     let ys = read-line .last .1 .1 .1 .1 .0 in
-    let e = sym (read-line .ensures .0 ∙ line-fits 3 _ 3 _ (omega arith)) ∙ ap (told (args .s .now) (take 3 ys)) (c .before .before .before .before .p .given .1) in
-    (refl, edge-no (args .v) (map edgeIn (take (args .i) (args .mem .now))) _ ys _ e _ (c .before .check-edge .ensures .0) (c .if1 .taken))
+    let e = line-told _ 3 _ 3 _ _ ys _ _ (read-line .ensures .0) (omega arith) (c .before .before .before .before .p .given .1) in
+    (refl, edge-no _ (args .v) (map edgeIn (take (args .i) (args .mem .now))) _ ys _ e _ (c .before .check-edge .ensures .0) (c .if1 .taken))
 
 cell-of-requires : tie.Need-cell-of-requires
 cell-of-requires c κs =
@@ -37,17 +36,16 @@ returns-2 : tie.Need-returns-2
 returns-2 c =
     let args = c .before .before .before .before .before .before .before .before .before .before .before .before .before .args in
     let read-line = c .before .before .before .before .before .before .before .before .read-line in
-    let p = c .before .before .before .before .before .p in
     let check-edge = c .before .before .check-edge in
     let if1 = c .before .if1 in
     let pre = c .before .before .before .before .before .before .before .before .before .before .before .before .before .pre in
     let i = args .i in
     let d = args .mem .now in
     let ys = read-line .last .1 .1 .1 .1 .0 in
-    let e = sym (read-line .ensures .0 ∙ line-fits 3 _ 3 _ (omega arith)) ∙ ap (told (args .s .now) (take 3 ys)) (p .given .1) in
+    let e = line-told _ 3 _ 3 _ _ ys _ _ (read-line .ensures .0) (omega arith) (c .before .before .before .before .before .p .given .1) in
     let h = check-edge .ensures .1 (omega (arith, if1 .left)) in
-    let k = edge-of-cell (edgeOf ys) (omega (arith, h .0, pre .0)) (omega (arith, h .1, pre .0)) in
-    let y = edge-yes (args .v) (map edgeIn (take i d)) _ ys _ e _ (check-edge .ensures .0) (if1 .left) in
+    let k = edge-of-cell _ suited _ (edgeOf ys) (pre .0) (h .0) (h .1) in
+    let y = edge-yes _ (args .v) (map edgeIn (take i d)) _ ys _ e _ (check-edge .ensures .0) (if1 .left) in
     (take-set-le i d i _ (omega arith), rw (getD-set-same d i (c .cell-of .result) 0 (pre .1), c .cell-of .ensures, k) y)
 
 returns-3 : tie.Need-returns-3
@@ -55,8 +53,8 @@ returns-3 c =
     let read-line = c .before .before .before .before .read-line in
     let args = c .before .before .before .before .before .before .before .before .before .args in
     let ys = read-line .last .1 .1 .1 .1 .0 in
-    let e = sym (read-line .ensures .0 ∙ line-fits 3 _ 3 _ (omega arith)) ∙ ap (told (args .s .now) (take 3 ys)) (c .before .x .given .1) in
-    (refl, edge-bad (args .v) (map edgeIn (take (args .i) (args .mem .now))) _ _ e)
+    let e = line-told _ 3 _ 3 _ _ ys _ _ (read-line .ensures .0) (omega arith) (c .before .x .given .1) in
+    (refl, edge-bad _ (args .v) (map edgeIn (take (args .i) (args .mem .now))) _ _ e)
 
 pub read-edge-spec : {M : Type 1} → statement M
 read-edge-spec =

@@ -1,6 +1,7 @@
 -- The head is put to the front of the memory, and the rest is as load_runs leaves it.
 use borrow.Author.Needs.{needs}
 use native.Mathlib.Omega.{arith}
+use lib.ListN.{length}
 use Rattle.heads.specs.Heads.{headOf}
 use Rattle.jobs.proofs.StageLaws.{headed, runs-as}
 use Rattle.jobs.proofs.job.load_rest.Statement.{statement}
@@ -8,17 +9,19 @@ use Rattle.jobs.proofs.job.load_rest.Tie as tie
 
 load-runs-requires : tie.Need-load-runs-requires
 load-runs-requires c κs =
-    let args = c .before .before .before .before .before .before .before .args in
-    let pre = c .before .before .before .before .before .before .before .pre in
-    let put-head = c .before .before .before .put-head in
-    headed (put-head .last .0) (headOf (args .head)) (put-head .ensures) (pre .0) (omega (arith, pre .1, put-head .kept .0))
+    let args = c .before .before .before .before .before .before .before .before .before .args in
+    let pre = c .before .before .before .before .before .before .before .before .before .pre in
+    let put = c .before .before .before .before .put-head in
+    headed (put .last .0) (length (args .links .now)) (headOf (args .head)) (put .ensures) (pre .0) (omega (arith, pre .1, put .kept .0)) (pre .2)
 
 returns : tie.Need-returns
 returns c =
-    let args = c .before .before .before .before .before .before .before .before .before .before .args in
-    let put-head = c .before .before .before .before .before .before .put-head in
-    runs-as _ (headOf (args .head)) _ _ _ (put-head .ensures) (c .before .before .load-runs .ensures)
+    let args = c .before .before .before .before .before .before .before .before .before .before .before .before .before .before .args in
+    let put-head = c .before .before .before .before .before .before .before .before .before .put-head in
+    let load-runs = c .before .before .before .before .load-runs in
+    runs-as _ (headOf (args .head)) _ _ _ _ (put-head .ensures) (load-runs .ensures)
 
 pub load-rest-spec : {M : Type 1} → statement M
-load-rest-spec = tie.close (tie.spec
-    (λ c κs. omega (arith, c .before .before .before .pre .1)) load-runs-requires (λ c. search needs) returns)
+load-rest-spec =
+    tie.close (tie.spec
+    (λ c κs. omega (arith, c .before .before .before .before .pre .1)) load-runs-requires (λ c. search needs) (λ c. search needs) returns)

@@ -1,10 +1,10 @@
 -- The C lines' cells stand after the head, and the rest is as load_delays leaves it.
 use borrow.Author.Needs.{needs}
 use mathlib.Core.Path.{refl, sym, ap, _∙_}
+use mathlib.Core.List.{map}
 use Prim.Native.Nat.{_-_, _+_}
 use native.Mathlib.Omega.{arith}
 use lib.ListN.{length, drop}
-use mathlib.Core.List.{map}
 use borrow.Rule.Slice.PartMut.{putMid}
 use Rattle.definitions.specs.Lists.{bytes, nth}
 use Rattle.definitions.specs.Job.{jobHeadOf}
@@ -17,41 +17,44 @@ use Rattle.jobs.proofs.job.load_runs.Tie as tie
 
 load-delays-requires : tie.Need-load-delays-requires
 load-delays-requires c κs =
-    let args = c .before .before .before .before .before .before .before .before .before .before .before .before .before .args in
-    let pre = c .before .before .before .before .before .before .before .before .before .before .before .before .before .pre in
-    let read-rows = c .before .before .before .before .before .before .read-rows in
+    let args = c .before .before .before .before .before .before .before .before .before .before .before .before .before .before .before .args in
+    let pre = c .before .before .before .before .before .before .before .before .before .before .before .before .before .before .before .pre in
+    let read-rows = c .before .before .before .before .before .before .before .read-rows in
     let d = args .mem .now in
     let ys = read-rows .last .1 .1 .1 .1 .1 .1 .0 in
-    lent-headed d (putMid 4 (length d - 4) d ys) ys 4 refl (read-rows .kept .1 .1 .1 .1 .1 .1 .0) (omega arith) (omega arith) pre
+    lent-headed d (putMid 4 (length d - 4) d ys) ys 4 refl (read-rows .kept .1 .1 .1 .1 .1 .1 .0) (omega arith) (omega (arith, pre .room)) (pre)
 
 returns : tie.Need-returns
 returns c =
-    let args = c .before .before .before .before .before .before .before .before .before .before .before .before .before .before .before .before .args in
-    let w = c .before .before .before .before .before .before .before .before .before .before .before .before .before .before .before .before .pre in
-    let read-rows = c .before .before .before .before .before .before .before .before .before .read-rows in
-    let p = c .before .before .before .before .before .p in
+    let p = c .before .before .before .before .before .before .before .before .p in
+    let load-delays = c .before .before .before .before .load-delays in
+    let args = c .before .before .before .before .before .before .before .before .before .before .before .before .before .before .before .before .before .before .before .before .args in
+    let w = c .before .before .before .before .before .before .before .before .before .before .before .before .before .before .before .before .before .before .before .before .pre in
+    let read = c .before .before .before .before .before .before .before .before .before .before .before .before .read-rows in
     let s = args .s .now in
     let d = args .mem .now in
     let at = args .at in
-    let ys = read-rows .last .1 .1 .1 .1 .1 .1 .0 in
+    let ys = read .last .1 .1 .1 .1 .1 .1 .0 in
     let x = putMid 4 (length d - 4) d ys in
     let rs = rows (1 + nth d 1) (nth d 0) ys in
-    let f = sym (read-rows .ensures ∙ runs-read d w (bytes "C,") (drop at s)) ∙ ap (told s rs) (p .given .1) in
-    runs-then (jobHeadOf d) (drop at s) _ rs _ f (jobHeadOf x) (lent-head d x ys 4 refl (omega arith) (omega arith)) _
-    (c .before .before .load-delays .ensures (map (drop 1) rs) (runs-in d x ys w refl _ _ f))
+    let f = sym (read .ensures ∙ runs-read d w (bytes "C,") (drop at s)) ∙ ap (told s rs) (p .given .1) in
+    runs-then (jobHeadOf d) (drop at s) _ _ rs _ f (jobHeadOf x) (lent-head d x ys 4 refl (omega (arith, w .room)) (omega arith)) _
+    (load-delays .ensures (map (drop 1) rs) (runs-in d x ys w refl _ _ f))
 
 returns-2 : tie.Need-returns-2
 returns-2 c =
-    let s = c .before .before .before .before .before .before .before .before .before .before .before .before .args .s .now in
-    let d = c .before .before .before .before .before .before .before .before .before .before .before .before .args .mem .now in
-    let at = c .before .before .before .before .before .before .before .before .before .before .before .before .args .at in
-    let w = c .before .before .before .before .before .before .before .before .before .before .before .before .pre in
-    let rs = rows (1 + nth d 1) (nth d 0) (c .before .before .before .before .before .read-rows .last .1 .1 .1 .1 .1 .1 .0) in
-    runs-no (jobHeadOf d) (drop at s) _ _ (sym (c .before .before .before .before .before .read-rows .ensures ∙ runs-read d w (bytes "C,") (drop at s)) ∙ ap (told s rs) (c .before .n .given .1))
+    let pre = c .before .before .before .before .before .before .before .before .before .before .before .before .before .pre in
+    let read-rows = c .before .before .before .before .before .read-rows in
+    let args = c .before .before .before .before .before .before .before .before .before .before .before .before .before .args in
+    let s = args .s .now in
+    let d = args .mem .now in
+    let rs = rows (1 + nth d 1) (nth d 0) (read-rows .last .1 .1 .1 .1 .1 .1 .0) in
+    runs-no (jobHeadOf d) (drop (args .at) s) _ _ _ (sym (read-rows .ensures ∙ runs-read d (pre) (bytes "C,") (drop (args .at) s)) ∙ ap (told s rs) (c .before .n .given .1))
 
 pub load-runs-spec : {M : Type 1} → statement M
 load-runs-spec =
     tie.close
     (tie.spec
     (λ c. search needs) (λ c. search needs) (λ c. search needs) (λ c. search needs) (λ c. search needs) (λ c. search needs) (λ c. search needs)
-    (λ c κs. search needs) (λ c. search needs) load-delays-requires (λ c. search needs) (λ c. search needs) returns (λ c. search needs) returns-2)
+    (λ c κs. search needs) (λ c. search needs) load-delays-requires (λ c. search needs) (λ c. search needs) (λ c. search needs) returns
+    (λ c. search needs) returns-2)

@@ -1,14 +1,9 @@
 use mathlib.Core.Path.{refl, sym, ap, _∙_}
-use Prim.Native.Nat.{_-_}
 use borrow.Author.Needs.{needs}
 use Rattle.text.specs.Told.{told}
 use Rattle.lines.proofs.LineLaws.{line-open, line-no}
 use Rattle.lines.proofs.lines.line_at.Statement.{statement}
 use Rattle.lines.proofs.lines.line_at.Tie as tie
-use Rattle.lines.proofs.lines.line_at.Reads as reads
-use Rattle.lines.proofs.lines.line_at.Lts as lts
-use Rattle.lines.proofs.lines.read_numbers.Reads as read-numbers-reads
-use Rattle.text.proofs.read_fixed.Reads as read-fixed-reads
 
 returns : tie.Need-returns
 returns c =
@@ -18,7 +13,9 @@ returns c =
     (c .before .before .read-numbers .ensures .0 ∙ line-open _ _ _ _ _ (sym (read-fixed .ensures .0) ∙ ap (told (args .s .now) tt) (p .given .1)), c .before .before .read-numbers .ensures .1)
 
 returns-2 : tie.Need-returns-2
-returns-2 c = (line-no _ _ _ _ _ (sym (c .before .before .before .read-fixed .ensures .0) ∙ ap (told (c .before .before .before .before .before .before .before .args .s .now) tt) (c .before .n .given .1)), refl)
+returns-2 c =
+    let s = c .before .before .before .before .before .before .before .args .s .now in
+    (line-no _ _ _ _ _ (sym (c .before .before .before .read-fixed .ensures .0) ∙ ap (told s tt) (c .before .n .given .1)), refl)
 
 pub line-at-spec : {M : Type 1} → statement M
 line-at-spec =

@@ -1,10 +1,7 @@
-use Prim.Native.Nat.{_-_}
 use borrow.Author.Needs.{needs}
 use Rattle.lines.proofs.LineLaws.{byte-end, byte-no, byte-yes}
 use Rattle.lines.proofs.lines.read_byte.Statement.{statement}
 use Rattle.lines.proofs.lines.read_byte.Tie as tie
-use Rattle.lines.proofs.lines.read_byte.Reads as reads
-use Rattle.lines.proofs.lines.read_byte.Lts as lts
 
 pub read-byte-spec : {M : Type 1} → statement M
 read-byte-spec = tie.close (tie.spec

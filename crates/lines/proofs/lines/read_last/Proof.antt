@@ -13,7 +13,8 @@ use Rattle.lines.proofs.lines.read_last.Tie as tie
 
 abbrev Inv-loop : tie.InvT-loop
 Inv-loop s at begun k vals₀ i₀ p₀ vals i p =
-    (i ≤ k) × (length vals ≡ length vals₀) × (after (take i vals) (numbers document01 (k - i) (drop p s)) ≡ after (take begun vals₀) (numbers document01 (k - begun) (drop at s))) × (drop k vals ≡ drop k vals₀)
+    (i ≤ k) × (length vals ≡ length vals₀) × (after (take i vals) (numbers document01 (k - i) (drop p s)) ≡ after (take begun vals₀) (numbers document01 (k - begun) (drop at s)))
+    × (drop k vals ≡ drop k vals₀)
 
 abbrev μ-loop : tie.MeasureT-loop
 μ-loop s at begun k vals₀ i₀ p₀ vals i p = k - i

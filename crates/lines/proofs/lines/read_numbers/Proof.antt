@@ -1,12 +1,13 @@
 use mathlib.Core.Path.{_≡_, refl, sym, ap, _∙_}
-use Prim.Native.Nat.{_≤_, _-_, _+_}
+use mathlib.Core.List.{List}
+use Prim.Native.Nat.{ℕ, _≤_, _<_, _-_, _+_}
 use native.Mathlib.Omega.{arith}
 use borrow.Author.Needs.{needs}
 use lib.ListN.{length, take, drop}
 use lib.Seq.{drop-set-lt}
 use native.Mathlib.Nat.{sub-zero}
 use Rattle.definitions.specs.Limits.{document01}
-use Rattle.definitions.specs.Text.{found, numbers}
+use Rattle.definitions.specs.Text.{found, number, numbers}
 use Rattle.text.specs.Told.{numberTold, after}
 use Rattle.lines.proofs.LineLaws.{after-none, byte-no, byte-yes, inner-place, numbers-bad, numbers-no, numbers-next, numbers-end, take-more}
 use Rattle.lines.proofs.lines.read_numbers.Statement.{statement}
@@ -18,6 +19,18 @@ Inv-loop s at k vals₀ end i₀ p₀ vals i p =
 
 abbrev μ-loop : tie.MeasureT-loop
 μ-loop s at k vals₀ end i₀ p₀ vals i p = k - i
+
+-- A number was read at the place p of the text: the place after it is in it.
+abbrev text : tie.After-v Inv-loop μ-loop → List ℕ
+text w = w .before .before .before .before .before .before .before .before .before .args .s .now
+
+number-at : (w : tie.After-v Inv-loop μ-loop) → number document01 (drop (w .before .before .before .before .before .loop .p) (text w)) ≡ found (w .v .given .0 .0)
+    (drop (w .v .given .0 .1 .0) (text w))
+number-at w = sym (w .before .before .read-number .ensures .0) ∙ ap (numberTold (text w)) (w .v .given .1)
+
+place : (w : tie.After-v Inv-loop μ-loop) → w .v .given .0 .1 .0 < length (text w)
+place w = inner-place _ (text w) _ _ _ _ _ (w .before .before .before .before .before .before .end-of .ensures) (w .before .before .before .if1 .left)
+    (w .before .before .read-number .ensures .1) (w .v .given .1)
 
 returns : tie.Need-returns Inv-loop μ-loop
 returns c = (
@@ -32,45 +45,26 @@ returns-2 c =
     let e = sym (c .before .before .read-number .ensures .0) ∙ ap (numberTold s) (c .enum-told .given .1) in
     (numbers-bad document01 s (take (l .i) (l .vals)) _ (l .i) (l .p) (c .before .before .before .before .loop-test .taken) e ∙ l .inv .2, l .inv .3)
 
-shared-slice-read-if2 : tie.Need-shared-slice-read-if2 Inv-loop μ-loop
-shared-slice-read-if2 c =
-    let s = c .before .before .before .before .before .before .before .before .before .before .before .args .s .now in
-    let w = c .before .before .before .before .before .before .before .before .end-of .ensures in
-    inner-place s _ _ _ _ _ w (c .before .before .before .before .before .if1 .left) (c .before .before .before .before .read-number .ensures .1) (c .before .before .v .given .1)
-
 returns-3 : tie.Need-returns-3 Inv-loop μ-loop
 returns-3 c =
-    let s = c .before .before .before .before .before .before .before .before .before .before .before .before .before .args .s .now in
-    let l = c .before .before .before .before .before .before .before .before .before .loop in
-    let h = c .before .before .before .before .before .before .before .before .loop-test .taken in
-    let g = c .before .before .before .before .v .given in
-    let e = sym (c .before .before .before .before .before .before .read-number .ensures .0) ∙ ap (numberTold s) (g .1) in
-    let w = c .before .before .before .before .before .before .before .before .before .before .end-of .ensures in
-    let b = inner-place s _ _ _ _ _ w (c .before .before .before .before .before .before .before .if1 .left) (c .before .before .before .before .before .before .read-number .ensures .1) (g .1) in
-    let f = rw (c .before .mark-after .ensures) at (sym (byte-no s _ _ b (c .if2 .taken))) in
-    (numbers-no document01 s (take (l .i) (l .vals)) _ (l .i) (l .p) _ (g .0 .1 .0) h e _ f ∙ l .inv .2, drop-set-lt _ (l .vals) (l .i) _ h ∙ l .inv .3)
-
-add-p : tie.Need-add-p Inv-loop μ-loop
-add-p c =
-    let s = c .before .before .before .before .before .before .before .before .before .before .before .before .before .args .s .now in
-    let w = c .before .before .before .before .before .before .before .before .before .before .end-of .ensures in
-    let i = c .before .before .before .before .before .before .before .if1 .left in
-    omega (arith, inner-place s _ _ _ _ _ w i (c .before .before .before .before .before .before .read-number .ensures .1) (c .before .before .before .before .v .given .1))
+    let w = c .before .before .before .before in
+    let s = text w in
+    let l = w .before .before .before .before .before .loop in
+    let h = w .before .before .before .before .loop-test .taken in
+    let f = rw (c .before .mark-after .ensures) at (sym (byte-no s _ _ (place w) (c .if2 .taken))) in
+    (numbers-no document01 s (take (l .i) (l .vals)) _ (l .i) (l .p) _ (w .v .given .0 .1 .0) h (number-at w) _ f ∙ l .inv .2, drop-set-lt _ (l .vals) (l .i) _ h ∙ l .inv .3)
 
 loop-again : tie.Need-loop-again Inv-loop μ-loop
 loop-again c =
-    let s = c .before .before .before .before .before .before .before .before .before .before .before .before .before .args .s .now in
-    let l = c .before .before .before .before .before .before .before .before .before .loop in
-    let h = c .before .before .before .before .before .before .before .before .loop-test .taken in
-    let g = c .before .before .before .before .v .given in
-    let n = g .0 .1 .0 in
-    let e = sym (c .before .before .before .before .before .before .read-number .ensures .0) ∙ ap (numberTold s) (g .1) in
-    let w = c .before .before .before .before .before .before .before .before .before .before .end-of .ensures in
-    let b = inner-place s _ _ _ _ _ w (c .before .before .before .before .before .before .before .if1 .left) (c .before .before .before .before .before .before .read-number .ensures .1) (g .1) in
-    let f = rw (c .before .mark-after .ensures) at (sym (byte-yes s _ _ b (c .if2 .left))) in (
+    let w = c .before .before .before .before in
+    let s = text w in
+    let l = w .before .before .before .before .before .loop in
+    let h = w .before .before .before .before .loop-test .taken in
+    let f = rw (c .before .mark-after .ensures) at (sym (byte-yes s _ _ (place w) (c .if2 .left))) in
+    let n = w .v .given .0 .1 .0 in (
       search needs,
       search needs,
-      rw (take-more (l .vals) (l .i) _ (omega arith)) (numbers-next document01 s (take (l .i) (l .vals)) _ (l .i) (l .p) _ n h e (n + 1) f ∙ l .inv .2),
+      rw (take-more (l .vals) (l .i) _ (omega arith)) (numbers-next document01 s (take (l .i) (l .vals)) _ (l .i) (l .p) _ n h (number-at w) (n + 1) f ∙ l .inv .2),
       drop-set-lt _ (l .vals) (l .i) _ h ∙ l .inv .3,
     )
 
@@ -79,8 +73,7 @@ returns-4 c =
     let s = c .before .before .before .before .before .args .s .now in
     let l = c .before .loop in
     let k : c .before .before .before .before .before .args .k ≡ l .i = omega arith in
-    let e = numbers-end document01 s (take (l .i) (l .vals)) _ (l .i) (l .p) (c .loop-test .left) in
-    (ap (λ j. found (take j (l .vals)) (drop (l .p) s)) k ∙ e ∙ l .inv .2, l .inv .3)
+    (ap (λ j. found (take j (l .vals)) (drop (l .p) s)) k ∙ numbers-end document01 s (take (l .i) (l .vals)) _ (l .i) (l .p) (c .loop-test .left) ∙ l .inv .2, l .inv .3)
 
 pub read-numbers-spec : {M : Type 1} → statement M
 read-numbers-spec =
@@ -88,5 +81,5 @@ read-numbers-spec =
     (tie.spec
     Inv-loop μ-loop (λ c κs. search needs) (λ c. (search needs, refl, rw sub-zero (after-none _), refl)) (λ c κs. search needs) (λ c. search needs)
     returns (λ c κs. search needs) (λ c. search needs) (λ c. search needs) (λ c. search needs) returns-2 (λ c. search needs) (λ c. search needs)
-    (λ c. search needs) shared-slice-read-if2 (λ c. search needs) (λ c κs. search needs) (λ c. search needs) returns-3 add-p (λ c. search needs)
-    loop-again (λ c. search needs) returns-4)
+    (λ c. search needs) (λ c. place (c .before .before)) (λ c. search needs) (λ c κs. search needs) (λ c. search needs) returns-3
+    (λ c. omega (arith, place (c .before .before .before .before))) (λ c. search needs) loop-again (λ c. search needs) returns-4)

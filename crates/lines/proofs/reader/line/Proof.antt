@@ -1,4 +1,5 @@
--- `reader::line` meets its contract: a walk of its MIR, by hand. The reader is taken apart, and `line_at` is called on its text and its place. All that the proof knows of `line_at` is that it meets its contract.
+-- `reader::line` meets its contract: a walk of its MIR, by hand. The reader is taken apart, and `line_at` is called on its text and its place.
+-- All that the proof knows of `line_at` is that it meets its contract.
 -- The reader's fields stand in the order in which the callee takes them, so what they own is what it asks. The `&mut` goes to the
 -- callee at its own lifetime, share and name, so what the callee says of its last list is what `line` says.
 -- Assumes nothing.
@@ -40,6 +41,7 @@ use denote.Triple.Walked.{says, needs}
 use Rattle.text.proofs.Step as S
 use Rattle.text.proofs.Step.Laws as S′
 use Rattle.lines.specs.declared.reader.Reader.{Reader}
+use Rattle.definitions.specs.Limits.{document01}
 use Rattle.lines.proofs.ReaderLaws.{LineTold}
 use Rattle.lines.proofs.WalkLaws.{Of, Walk, calls, ended, framed, met}
 use Rattle.lines.proofs.reader.Reader as T
@@ -78,14 +80,16 @@ module _ {M : Type 1} (𝓤 : URA M) (H : Heap 𝓤) (A : Atoms 𝓤) (W : Given
   -- what the parameters own is what the callee asks
   goes : k ≤ length (y .now) → ent 𝓤 (onEntry 𝓤 H A line.signature κs qs (d, (o, (k, (y, tt)))) vals) (Of 𝓤 H A line-at.ended (line-at.clauses 𝓤 H A mem run) .pre to)
   goes within =
-      qed W (raw (alive 𝓤 H A line.signature κs qs) ∷ ‵ (owns (T.the-row (namedLft 3 0 tt κs) ∷ ShrSlice (named 1) (κs .1 .0) u8 ∷ usize ∷ MutSlice (named 2) (κs .1 .1 .0) u64 ∷ []) (d, (o, (k, (y, tt)))) vals) ∷ []) ∵
+      qed W (raw (alive 𝓤 H A line.signature κs qs) ∷ ‵ (owns (T.the-row (namedLft 3 0 tt κs) ∷ ShrSlice (named 1) (κs .1 .0) u8 ∷ usize ∷ MutSlice (named 2) (κs .1 .1 .0) u64 ∷ [])
+      (d, (o, (k, (y, tt)))) vals) ∷ []) ∵
       says ! within $ frame ! $ fsplit ! $
       use1 W (given (mach ∷ [] ≡ mach ∷ []) (‵ (all-own (D κs .parts) (L κs) (d .text, (d .at, tt))))) (own-open 𝓤 H A W (D κs) (L κs) (d .text, (d .at, tt)) mach) $ learn ! (λ _.
       -- [what text owns; what at owns; what the other parameters own]
       fsplit ! $ move ! (1 ∷ []) $ fsplit ! $ move ! (0 ∷ 3 ∷ []) $ fjoin ! $ move ! (2 ∷ 0 ∷ []) $ fjoin ! $ keep ! (0 ∷ []) $ done !)
 
   module _ (C : Calls 𝓤 H) (Λ : Loops 𝓤 H) (fm : FmC 𝓤 H (W .laws) C) (known : Triple 𝓤 (C #lines·lines·line-at) (Of 𝓤 H A line-at.ended (line-at.clauses 𝓤 H A mem run))) where
-    walk : Holds (hasTy (T′.mir (named 0)) mach) × WT mach → Is (ShrSlice (named 1) (κs .1 .0) u8) o (slice-vals o) → k < 2 ^ 64 → Is (MutSlice (named 2) (κs .1 .1 .0) u64) y (slice-vals y) → k ≤ length (y .now)
+    walk : Holds (hasTy (T′.mir (named 0)) mach) × WT mach → Is (ShrSlice (named 1) (κs .1 .0) u8) o (slice-vals o)
+        → k < 2 ^ 64 → Is (MutSlice (named 2) (κs .1 .1 .0) u64) y (slice-vals y) → k ≤ length (y .now)
         → ent 𝓤 (onEntry 𝓤 H A line.signature κs qs (d, (o, (k, (y, tt)))) vals)
         (WpFn 𝓤 H C Λ code.function (Walk 𝓤 H A line.ended (line.clauses 𝓤 H A mem run) .args at) (Walk 𝓤 H A line.ended (line.clauses 𝓤 H A mem run) .post at))
     walk wt po fits py within =
@@ -100,16 +104,19 @@ module _ {M : Type 1} (𝓤 : URA M) (H : Heap 𝓤) (A : Atoms 𝓤) (W : Given
         assigns ! (agg ! (and-then ! (load ! (from ! (stop !)) (look ! 2 refl)) (and-then ! (load ! (from ! (fld ! refl (stop !))) (look-in ! 8 (sub ! 1 refl (whole !)))) (no-more !))))
         (from ! (stop !)) (init ! 0 refl (tt, (tt, (record { fits = py .0 .1 .0 }, tt)))) $
         move ! (18 ∷ []) $ use1 W (raw (Of 𝓤 H A line-at.ended (line-at.clauses 𝓤 H A mem run) .pre to)) (goes within) $
-        calls ! fm line-at.ended (line-at.clauses 𝓤 H A mem run) known to (λ r ws. LineTold d o k y (ws .1 .1 .1 .1 .0) r) (λ r ws. id⊢ 𝓤 _)
+        calls ! fm line-at.ended (line-at.clauses 𝓤 H A mem run) known to (λ r ws. LineTold document01 d o k y (ws .1 .1 .1 .1 .0) r) (λ r ws. id⊢ 𝓤 _)
         (and-then ! (load ! (from ! (stop !)) (look ! 7 refl))
         (and-then ! (load ! (from ! (stop !)) (look ! 5 refl))
-        (and-then ! (load ! (from ! (stop !)) (look ! 13 refl)) (and-then ! (load ! (from ! (stop !)) (look ! 11 refl)) (and-then ! (load ! (from ! (stop !)) (look ! 1 refl)) (no-more !)))))) (λ u r ws e is.
+        (and-then ! (load ! (from ! (stop !)) (look ! 13 refl)) (and-then ! (load ! (from ! (stop !)) (look ! 11 refl)) (and-then ! (load ! (from ! (stop !)) (look ! 1 refl)) (no-more !))))))
+        (λ u r ws e is.
         -- [the result; the tokens; what says the last list; _8; …; room for _0; …]
         land ! (from ! (stop !)) (init ! 19 refl (EL.lawful S.the-type S′.the-laws 𝓤 H A W tt .typed r _ is .0)) $
-        returns ! (look ! 19 refl) $ forget ! 3 refl $ forget ! 5 refl $ forget ! 7 refl $ forget ! 9 refl $ forget ! 11 refl $ forget ! 13 refl $ forget ! 15 refl $ forget ! 17 refl $ forget ! 19 refl $
+        returns ! (look ! 19 refl) $ forget ! 3 refl $ forget ! 5 refl $ forget ! 7 refl $ forget ! 9 refl $ forget ! 11 refl $ forget ! 13 refl $ forget ! 15 refl $ forget ! 17 refl $
+        forget ! 19 refl $
         move ! (19 ∷ 20 ∷ []) $ free1 ! $ move ! (17 ∷ 18 ∷ []) $ free1 ! $ move ! (15 ∷ 16 ∷ []) $ free1 ! $ move ! (13 ∷ 14 ∷ []) $ free1 ! $ move ! (11 ∷ 12 ∷ []) $ free1 ! $ move !
         (9 ∷ 10 ∷ []) $ free1 ! $ move ! (7 ∷ 8 ∷ []) $ free1 ! $ move ! (5 ∷ 6 ∷ []) $ free1 ! $ move ! (3 ∷ 4 ∷ []) $ free1 ! $ free0 ! $
-        move ! (2 ∷ []) $ fsplit ! $ drop ! $ move ! (1 ∷ 2 ∷ 0 ∷ []) $ by ! (ended 𝓤 H A W line.ended (line.clauses 𝓤 H A mem run) at u r (ws .1) (LineTold d o k y (ws .1 .1 .1 .1 .0) r) (id⊢ 𝓤 _) e)))))))))))
+        move ! (2 ∷ []) $ fsplit ! $ drop ! $ move ! (1 ∷ 2 ∷ 0 ∷ []) $ by ! (ended 𝓤 H A W line.ended (line.clauses 𝓤 H A mem run) at u r (ws .1)
+        (LineTold document01 d o k y (ws .1 .1 .1 .1 .0) r) (id⊢ 𝓤 _) e)))))))))))
 
 pub line-spec : {M : Type 1} → stated.statement M
 unfolding code.routine
@@ -120,5 +127,6 @@ line-spec 𝓤 H 𝓜 𝓖 𝓡 =
     (λ κs. (LL.tells (D κs) (L κs), (shr-slice-tells (named 1) (κs .1 .0) u8, (uint-tells w64, (mut-slice-tells (named 2) (κs .1 .1 .0) u64, tt)))))
     (λ κs qs bounds a g are. needs 𝓤 (a .1 .1 .0 ≤ length (a .1 .1 .1 .0 .now)) _
     (walk 𝓤 H (𝓖 .A) W (𝓜 .mem) (𝓡 .run) κs qs (a .0) (a .1 .0) (a .1 .1 .0) (a .1 .1 .1 .0) (tables 𝓤 H 𝓜 𝓡 code.env .C) (tables 𝓤 H 𝓜 𝓡 code.env .Λ) (framed 𝓤 H 𝓜 𝓖 𝓡 code.env)
-    (cited 𝓤 H (Of 𝓤 H (𝓖 .A) line-at.ended (line-at.clauses 𝓤 H (𝓖 .A) (𝓜 .mem) (𝓡 .run))) 𝓜 𝓡 code.env #lines·lines·line-at line-at-def.routine code.calls-lines·lines·line-at (line-at-thm.met 𝓤 H 𝓜 𝓖 𝓡))
+    (cited 𝓤 H (Of 𝓤 H (𝓖 .A) line-at.ended (line-at.clauses 𝓤 H (𝓖 .A) (𝓜 .mem) (𝓡 .run))) 𝓜 𝓡 code.env #lines·lines·line-at line-at-def.routine code.calls-lines·lines·line-at
+    (line-at-thm.met 𝓤 H 𝓜 𝓖 𝓡))
     (LL.lawful (D κs) (L κs) 𝓤 H (𝓖 .A) W .typed (a .0) _ (are .0) .0) (are .1 .0) (are .1 .1 .0 .1) (are .1 .1 .1 .0)))

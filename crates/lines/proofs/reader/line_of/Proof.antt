@@ -39,6 +39,7 @@ use denote.Triple.Walked.{says, needs}
 use Rattle.text.proofs.Step as S
 use Rattle.text.proofs.Step.Laws as S′
 use Rattle.lines.specs.declared.reader.Reader.{Reader}
+use Rattle.definitions.specs.Limits.{document01}
 use Rattle.lines.proofs.ReaderLaws.{LineTold}
 use Rattle.lines.proofs.WalkLaws.{Of, Walk, calls, ended, framed, met}
 use Rattle.lines.proofs.reader.Reader as T
@@ -164,9 +165,10 @@ module _ {M : Type 1} (𝓤 : URA M) (H : Heap 𝓤) (A : Atoms 𝓤) (W : Given
         (from ! (stop !)) (init ! 6 refl (tt, (tt, (record { fits = py .0 .1 .0 }, tt)))) $
         -- `line`
         move ! (3 ∷ 5 ∷ []) $ join ! $ move ! (1 ∷ 2 ∷ 0 ∷ []) $ use3 W (raw (Line 𝓤 H A mem run .pre (to-line r₁ u₁))) (goes-line within r₁ u₁) $
-        calls ! fm line.ended (line.clauses 𝓤 H A mem run) known-line (to-line r₁ u₁) (λ r ws. LineTold r₁ o k y (ws .1 .1 .1 .0) r) (λ r ws. id⊢ 𝓤 _)
+        calls ! fm line.ended (line.clauses 𝓤 H A mem run) known-line (to-line r₁ u₁) (λ r ws. LineTold document01 r₁ o k y (ws .1 .1 .1 .0) r) (λ r ws. id⊢ 𝓤 _)
         (and-then ! (load ! (from ! (stop !)) (look ! 9 refl))
-        (and-then ! (load ! (from ! (stop !)) (look ! 15 refl)) (and-then ! (load ! (from ! (stop !)) (look ! 13 refl)) (and-then ! (load ! (from ! (stop !)) (look ! 3 refl)) (no-more !))))) (λ u r ws e is.
+        (and-then ! (load ! (from ! (stop !)) (look ! 15 refl)) (and-then ! (load ! (from ! (stop !)) (look ! 13 refl)) (and-then ! (load ! (from ! (stop !)) (look ! 3 refl)) (no-more !)))))
+        (λ u r ws e is.
         -- [the result; the tokens; what says the last list; …; …; _9; …; room for _0; …]
         land ! (from ! (stop !)) (init ! 23 refl (EL.lawful S.the-type S′.the-laws 𝓤 H A W tt .typed r _ is .0)) $
         returns ! (look ! 23 refl) $ forget ! 5 refl $ forget ! 7 refl $ forget ! 9 refl $ forget ! 11 refl $ forget ! 13 refl $ forget ! 15 refl $ forget ! 17 refl $ forget ! 19 refl $
@@ -174,8 +176,8 @@ module _ {M : Type 1} (𝓤 : URA M) (H : Heap 𝓤) (A : Atoms 𝓤) (W : Given
         move ! (23 ∷ 24 ∷ []) $ free1 ! $ move ! (21 ∷ 22 ∷ []) $ free1 ! $ move ! (19 ∷ 20 ∷ []) $ free1 ! $ move ! (17 ∷ 18 ∷ []) $ free1 ! $ move ! (15 ∷ 16 ∷ []) $ free1 ! $ move !
         (13 ∷ 14 ∷ []) $ free1 ! $ move ! (11 ∷ 12 ∷ []) $ free1 ! $ move ! (9 ∷ 10 ∷ []) $ free1 ! $ move ! (7 ∷ 8 ∷ []) $ free1 ! $ move ! (5 ∷ 6 ∷ []) $ free1 ! $ free0 ! $
         move ! (2 ∷ []) $ nothing ! $ fjoin ! $ keep ! (1 ∷ 2 ∷ 0 ∷ []) $
-        by ! (ended 𝓤 H A W line-of.ended (line-of.clauses 𝓤 H A mem run) at u r (tt, ws) (LineTold (record { text = s; at = n }) o k y (ws .1 .1 .1 .0) r) (id⊢ 𝓤 _)
-        (subst (λ (x : Reader). LineTold x o k y (ws .1 .1 .1 .0) r) (λ i. record { text = (e₁ .0 ∙ e₀ .0) i; at = e₁ .1 i }) e)))))))))))))))
+        by ! (ended 𝓤 H A W line-of.ended (line-of.clauses 𝓤 H A mem run) at u r (tt, ws) (LineTold document01 (record { text = s; at = n }) o k y (ws .1 .1 .1 .0) r) (id⊢ 𝓤 _)
+        (subst (λ (x : Reader). LineTold document01 x o k y (ws .1 .1 .1 .0) r) (λ i. record { text = (e₁ .0 ∙ e₀ .0) i; at = e₁ .1 i }) e)))))))))))))))
 
 pub line-of-spec : {M : Type 1} → stated.statement M
 unfolding code.routine
@@ -184,7 +186,8 @@ line-of-spec 𝓤 H 𝓜 𝓖 𝓡 =
     (λ κs. (slice-vals, (uint-vals w64, (slice-vals, (uint-vals w64, (slice-vals, tt))))))
     (λ κs. (shr-slice-tells (named 0) (κs .0) u8, (uint-tells w64, (shr-slice-tells (named 1) (κs .1 .0) u8, (uint-tells w64, (mut-slice-tells (named 2) (κs .1 .1 .0) u64, tt))))))
     (λ κs qs bounds a g are. needs 𝓤 (a .1 .1 .1 .0 ≤ length (a .1 .1 .1 .1 .0 .now)) _
-    (walk 𝓤 H (𝓖 .A) (givenOf 𝓤 H 𝓜 𝓖) (𝓜 .mem) (𝓡 .run) κs qs (a .0) (a .1 .0) (a .1 .1 .0) (a .1 .1 .1 .0) (a .1 .1 .1 .1 .0) (tables 𝓤 H 𝓜 𝓡 code.env .C) (tables 𝓤 H 𝓜 𝓡 code.env .Λ) (framed 𝓤 H 𝓜 𝓖 𝓡 code.env)
+    (walk 𝓤 H (𝓖 .A) (givenOf 𝓤 H 𝓜 𝓖) (𝓜 .mem) (𝓡 .run) κs qs (a .0) (a .1 .0) (a .1 .1 .0) (a .1 .1 .1 .0) (a .1 .1 .1 .1 .0) (tables 𝓤 H 𝓜 𝓡 code.env .C) (tables 𝓤 H 𝓜 𝓡 code.env .Λ)
+    (framed 𝓤 H 𝓜 𝓖 𝓡 code.env)
     (cited 𝓤 H (Start 𝓤 H (𝓖 .A) (𝓜 .mem) (𝓡 .run)) 𝓜 𝓡 code.env #lines·reader·start start-def.routine code.calls-lines·reader·start (start-thm.met 𝓤 H 𝓜 𝓖 𝓡))
     (cited 𝓤 H (Moved 𝓤 H (𝓖 .A) (𝓜 .mem) (𝓡 .run)) 𝓜 𝓡 code.env #lines·reader·moved moved-def.routine code.calls-lines·reader·moved (moved-thm.met 𝓤 H 𝓜 𝓖 𝓡))
     (cited 𝓤 H (Line 𝓤 H (𝓖 .A) (𝓜 .mem) (𝓡 .run)) 𝓜 𝓡 code.env #lines·reader·line line-def.routine code.calls-lines·reader·line (line-thm.met 𝓤 H 𝓜 𝓖 𝓡))

@@ -1,76 +1,106 @@
--- The links left to follow give the whole answer.
-use mathlib.Core.Path.{_≡_, refl, sym, _∙_}
-use Prim.Native.Nat.{_≤_, _+_}
-use native.Mathlib.Omega.{arith}
+-- The edges of the run that are left to see give the whole answer.
 use borrow.Author.Needs.{needs}
-use Rattle.definitions.specs.Lists.{nth}
-use Rattle.heads.specs.Layout.{inHeadAt}
+use Prim.Native.Nat.{_≤_, _<_, _-_}
+use lib.ListN.{length}
+use mathlib.Core.Path.{_≡_, _∙_}
+use native.Mathlib.Omega.{arith}
+use Rattle.definitions.specs.Lists.{all}
+use Rattle.definitions.specs.Job.{incoming}
+use Rattle.orders.specs.Links.{Run}
+use Rattle.jobs.specs.Held.{jobIn}
 use Rattle.jobs.proofs.Held.{sizes}
-use Rattle.plans.proofs.PlanLaws.{linedFrom, lined-all, lined-end, lined-no, lined-next, link-falls}
+use Rattle.plans.proofs.PlanLaws.{hasLine, linedTo, lined-end, lined-no, lined-next, entering-run, lined-all, sender-below}
 use Rattle.plans.proofs.plans.fed.Statement.{statement}
 use Rattle.plans.proofs.plans.fed.Tie as tie
 
 abbrev Inv-loop : tie.InvT-loop
-Inv-loop mem rooms t in-next k₀ k = (k ≤ nth mem 2) × (linedFrom rooms mem t k ≡ linedFrom rooms mem t (nth mem (inHeadAt rooms + t)))
+Inv-loop mem links rooms t line start k₀ k =
+    (k ≤ k₀) × Run start k₀ links (incoming (jobIn mem) t) × (linedTo rooms mem links start k ≡ all (λ e. hasLine rooms mem (e .from)) (incoming (jobIn mem) t))
 
 abbrev μ-loop : tie.MeasureT-loop
-μ-loop mem rooms t in-next k₀ k = k
+μ-loop mem links rooms t line start k₀ k = k - start
 
-shared-slice-read-k : tie.Need-shared-slice-read-k Inv-loop μ-loop
-shared-slice-read-k c = let w = sizes (c .before .before .pre .0) in omega (arith, w .size, w .tasks-most, c .before .before .pre .2)
+shared-slice-read-entering : tie.Need-shared-slice-read-entering Inv-loop μ-loop
+shared-slice-read-entering c = let w = sizes (c .before .before .before .pre .0) in omega (arith, w .size, w .tasks-most, w .some-task)
 
 loop-holds : tie.Need-loop-holds Inv-loop μ-loop
-loop-holds c = (c .before .before .pre .1 .head-most (c .before .before .args .t) (c .before .before .pre .2), refl)
+loop-holds c =
+    let pre = c .before .before .before .before .pre in
+    let args = c .before .before .before .before .args in
+    let (h, l, g) = pre in
+    let r : Run (c .entering .result .start) (c .entering .result .end) (args .links .now) (incoming (jobIn (args .mem .now)) (args .t)) = rw
+    (c .entering .ensures .0, c .entering .ensures .1) (entering-run h l (args .t) g) in
+    (search needs, r, lined-all h l (args .t) g r)
 
-sender-unplaced-requires : tie.Need-sender-unplaced-requires Inv-loop μ-loop
-sender-unplaced-requires c κs = (c .before .before .before .before .pre .0, omega (arith, c .before .loop .inv .0, c .loop-test .taken))
+mul-edge-from : tie.Need-mul-edge-from Inv-loop μ-loop
+mul-edge-from c =
+    let args = c .before .before .before .before .before .before .args in
+    let b : c .before .loop .k - 1 < length (args .links .now) = omega (arith, c .before .loop .inv .0, c .before .loop .inv .1 .within, c .loop-test .taken) in search needs
+
+shared-slice-read-edge-from : tie.Need-shared-slice-read-edge-from Inv-loop μ-loop
+shared-slice-read-edge-from c = omega (arith, c .before .before .loop .inv .0, c .before .before .loop .inv .1 .within, c .before .loop-test .taken)
+
+add-if1 : tie.Need-add-if1 Inv-loop μ-loop
+add-if1 c =
+    let pre = c .before .before .before .before .before .before .before .before .pre in
+    let args = c .before .before .before .before .before .before .before .before .args in
+    let loop-test = c .before .before .loop-test in
+    let (h, l, g) = pre in
+    let loop = c .before .before .before .loop in
+    omega (arith, c .edge-from .ensures .0, sender-below h l (args .t) g (loop .inv .1) (loop .k - 1) (omega (arith, loop-test .taken)) (omega (arith, loop .inv .0, loop-test .taken)), sizes h .size)
+
+mul-if1 : tie.Need-mul-if1 Inv-loop μ-loop
+mul-if1 c =
+    let pre = c .before .before .before .before .before .before .before .before .pre in
+    let args = c .before .before .before .before .before .before .before .before .args in
+    let loop-test = c .before .before .loop-test in
+    let (h, l, g) = pre in
+    let loop = c .before .before .before .loop in
+    omega (arith, c .edge-from .ensures .0, sender-below h l (args .t) g (loop .inv .1) (loop .k - 1) (omega (arith, loop-test .taken)) (omega (arith, loop .inv .0, loop-test .taken)), sizes h .size)
+
+shared-slice-read-if1 : tie.Need-shared-slice-read-if1 Inv-loop μ-loop
+shared-slice-read-if1 c =
+    let pre = c .before .before .before .before .before .before .before .before .before .pre in
+    let args = c .before .before .before .before .before .before .before .before .before .args in
+    let loop-test = c .before .before .before .loop-test in
+    let (h, l, g) = pre in
+    let loop = c .before .before .before .before .loop in
+    omega (
+      arith,
+      c .before .edge-from .ensures .0,
+      sender-below h l (args .t) g (loop .inv .1) (loop .k - 1) (omega (arith, loop-test .taken))
+          (omega (arith, loop .inv .0, loop-test .taken)),
+      sizes h .size,
+    )
 
 returns : tie.Need-returns Inv-loop μ-loop
 returns c =
-    let args = c .before .before .before .before .before .before .args in
-    let pre = c .before .before .before .before .before .before .pre in
-    let loop = c .before .before .before .loop in
-    lined-no (args .rooms) (args .mem .now) (args .t) (pre .1) (loop .k) (c .before .before .loop-test .taken) (loop .inv .0) (sym (c .before .sender-unplaced .ensures) ∙ c .if1 .taken)
-    ∙ loop .inv .1 ∙ lined-all (args .rooms) (args .mem .now) (args .t) (pre .1) (pre .2)
-
-shared-slice-read-k-2 : tie.Need-shared-slice-read-k-2 Inv-loop μ-loop
-shared-slice-read-k-2 c =
-    let pre = c .before .before .before .before .before .before .before .pre in
-    let loop = c .before .before .before .before .loop in
-    let loop-test = c .before .before .before .loop-test in
-    let w = sizes (pre .0) in omega (arith, w .size, w .edges-most, loop .inv .0, loop-test .taken)
-
-loop-less : tie.Need-loop-less Inv-loop μ-loop
-loop-less c =
-    let args = c .before .before .before .before .before .before .before .args in
-    let pre = c .before .before .before .before .before .before .before .pre in
-    let loop = c .before .before .before .before .loop in
-    let loop-test = c .before .before .before .loop-test in
-    link-falls (args .rooms) (args .mem .now) (args .t) (pre .1) (loop .k) (loop-test .taken) (loop .inv .0)
+    let loop-test = c .before .before .before .before .loop-test in
+    let a = c .before .before .before .before .before .before .before .before .before .before .args in
+    let l = c .before .before .before .before .before .loop in
+    lined-no (a .rooms) (a .mem .now) (a .links .now) _ (l .k - 1) (l .k) (omega (arith, loop-test .taken)) (omega (arith, loop-test .taken))
+    (rw (← c .before .before .edge-from .ensures .0) (c .if1 .taken)) ∙ l .inv .2
 
 loop-again : tie.Need-loop-again Inv-loop μ-loop
 loop-again c =
-    let args = c .before .before .before .before .before .before .before .args in
-    let pre = c .before .before .before .before .before .before .before .pre in
-    let loop = c .before .before .before .before .loop in
-    let loop-test = c .before .before .before .loop-test in
-    let f = link-falls (args .rooms) (args .mem .now) (args .t) (pre .1) (loop .k) (loop-test .taken) (loop .inv .0) in (
-      omega (arith, f, loop .inv .0),
-      lined-next (args .rooms) (args .mem .now) (args .t) (pre .1) (loop .k) (loop-test .taken) (loop .inv .0)
-          (sym (c .before .before .sender-unplaced .ensures) ∙ c .before .if1 .left) ∙ loop .inv .1,
+    let loop-test = c .before .before .before .before .loop-test in
+    let a = c .before .before .before .before .before .before .before .before .before .before .args in
+    let l = c .before .before .before .before .before .loop in (
+      omega (arith, l .inv .0),
+      l .inv .1,
+      lined-next (a .rooms) (a .mem .now) (a .links .now) _ (l .k - 1) (l .k) (omega (arith, loop-test .taken)) (omega (arith, loop-test .taken))
+          (rw (← c .before .before .edge-from .ensures .0) (c .if1 .left)) ∙ l .inv .2,
     )
 
 returns-2 : tie.Need-returns-2 Inv-loop μ-loop
 returns-2 c =
-    let args = c .before .before .before .before .args in
-    let pre = c .before .before .before .before .pre in
-    let z : c .before .loop .k ≡ 0 = omega (arith, c .loop-test .left) in
-    lined-end (args .rooms) (args .mem .now) (args .t) ∙ rw z at (c .before .loop .inv .1) ∙ lined-all (args .rooms) (args .mem .now) (args .t) (pre .1) (pre .2)
+    let a = c .before .before .before .before .before .before .args in
+    lined-end (a .rooms) (a .mem .now) (a .links .now) _ (c .before .loop .k) (c .loop-test .left) ∙ c .before .loop .inv .2
 
 pub fed-spec : {M : Type 1} → statement M
 fed-spec =
     tie.close
     (tie.spec
-    Inv-loop μ-loop (λ c. search needs) (λ c. search needs) (λ c. search needs) (λ c. search needs) shared-slice-read-k loop-holds (λ c. search needs)
-    sender-unplaced-requires returns (λ c. omega (arith, c .before .before .loop-test .taken)) (λ c. search needs) (λ c. search needs)
-    shared-slice-read-k-2 loop-less loop-again returns-2)
+    Inv-loop μ-loop (λ c. omega (arith, sizes (c .before .before .pre .0) .size)) shared-slice-read-entering (λ c κs. search needs) loop-holds
+    (λ c. omega (arith, c .loop-test .taken)) mul-edge-from shared-slice-read-edge-from (λ c κs. search needs) add-if1 mul-if1 shared-slice-read-if1
+    returns (λ c. omega (arith, c .before .before .before .before .loop-test .taken)) loop-again returns-2)

@@ -7,7 +7,7 @@ use lib.ListN.{length-set}
 use Rattle.definitions.specs.Lists.{nth}
 use Rattle.text.specs.Told.{told}
 use Rattle.heads.specs.Layout.{lineAt, farAt}
-use Rattle.jobs.proofs.Held.{sizes}
+use Rattle.jobs.proofs.Held.{sizes, links-kept}
 use Rattle.lists.proofs.Kept.{kept-then, kept-wider}
 use Rattle.plans.specs.Lines.{linesIn}
 use Rattle.plans.proofs.PlanText.{plan-lines-bad, plan-left-over, plan-good, cleared-standing, cleared-lines, stored-kept, stored-standing, stored-plan}
@@ -16,26 +16,27 @@ use Rattle.plans.proofs.plans.load_lines.Tie as tie
 
 read-plan-lines-requires : tie.Need-read-plan-lines-requires
 read-plan-lines-requires c κs =
-    let pre = c .before .before .before .before .before .before .before .pre in
+    let pre = c .before .before .before .before .before .before .before .before .pre in
     let clear-lines = c .before .before .before .clear-lines in
-    cleared-standing (pre .0) (pre .1) (clear-lines .ensures .0) (clear-lines .ensures .1)
+    (cleared-standing (pre .0) (clear-lines .ensures .0) (clear-lines .ensures .1), links-kept (pre .0) (clear-lines .ensures .0) (omega arith) (pre .1))
 
 returns : tie.Need-returns
 returns c =
-    let args = c .before .before .before .before .before .before .before .before .before .before .before .before .before .before .args in
-    let pre = c .before .before .before .before .before .before .before .before .before .before .before .before .before .before .pre in
+    let p = c .before .before .p in
+    let args = c .before .before .before .before .before .before .before .before .before .before .before .before .before .before .before .args in
+    let pre = c .before .before .before .before .before .before .before .before .before .before .before .before .before .before .before .pre in
     let clear-lines = c .before .before .before .before .before .before .before .before .before .before .clear-lines in
     let read-plan-lines = c .before .before .before .before .before .before .read-plan-lines in
     let mem = read-plan-lines .last .1 .1 .0 in
     let ns = linesIn (args .rooms) (nth mem 3 + 1) (nth mem 0) mem in
-    let g = sym (ap (told (args .s .now) ns) (c .before .before .p .given .1)) ∙ read-plan-lines .ensures .1 ∙ cleared-lines (pre .0) (pre .1) (clear-lines .ensures .0) (args .s .now) (args .at) in (
+    let g = sym (ap (told (args .s .now) ns) (p .given .1)) ∙ read-plan-lines .ensures .1 ∙ cleared-lines (pre .0) (clear-lines .ensures .0) (args .s .now) (args .at) in (
       kept-then (kept-wider (lineAt (args .rooms)) (farAt (args .rooms)) (clear-lines .ensures .0) (omega arith) (omega arith)) (read-plan-lines .ensures .0),
-      plan-left-over (args .mem .now) (args .s .now) _ _ (args .at) ns (c .before .before .p .given .0 .0) g _ mem (c .if1 .taken),
+      plan-left-over (args .mem .now) (args .s .now) _ _ (args .at) ns (p .given .0 .0) g _ mem (c .if1 .taken),
     )
 
 slice-write-mem : tie.Need-slice-write-mem
 slice-write-mem c =
-    let pre = c .before .before .before .before .before .before .before .before .before .before .before .before .before .before .pre in
+    let pre = c .before .before .before .before .before .before .before .before .before .before .before .before .before .before .before .pre in
     let clear-lines = c .before .before .before .before .before .before .before .before .before .before .clear-lines in
     let read-plan-lines = c .before .before .before .before .before .before .read-plan-lines in
     let w = sizes (pre .0) in
@@ -44,7 +45,7 @@ slice-write-mem c =
 
 slice-write-mem-2 : tie.Need-slice-write-mem-2
 slice-write-mem-2 c =
-    let pre = c .before .before .before .before .before .before .before .before .before .before .before .before .before .before .pre in
+    let pre = c .before .before .before .before .before .before .before .before .before .before .before .before .before .before .before .pre in
     let clear-lines = c .before .before .before .before .before .before .before .before .before .before .clear-lines in
     let read-plan-lines = c .before .before .before .before .before .before .read-plan-lines in
     let w = sizes (pre .0) in
@@ -59,30 +60,31 @@ same-length-2 c =
 
 returns-2 : tie.Need-returns-2
 returns-2 c =
-    let args = c .before .before .before .before .before .before .before .before .before .before .before .before .before .before .args in
-    let pre = c .before .before .before .before .before .before .before .before .before .before .before .before .before .before .pre in
+    let p = c .before .before .p in
+    let args = c .before .before .before .before .before .before .before .before .before .before .before .before .before .before .before .args in
+    let pre = c .before .before .before .before .before .before .before .before .before .before .before .before .before .before .before .pre in
     let clear-lines = c .before .before .before .before .before .before .before .before .before .before .clear-lines in
     let read-plan-lines = c .before .before .before .before .before .before .read-plan-lines in
     let mem = read-plan-lines .last .1 .1 .0 in
     let best = args .best in
     let worst = args .worst in
     let ns = linesIn (args .rooms) (nth mem 3 + 1) (nth mem 0) mem in
-    let g = sym (ap (told (args .s .now) ns) (c .before .before .p .given .1)) ∙ read-plan-lines .ensures .1 ∙ cleared-lines (pre .0) (pre .1) (clear-lines .ensures .0) (args .s .now) (args .at) in
-    let t = read-plan-lines .ensures .2 (c .before .before .p .given .0 .0) (c .before .before .p .given .1) in (
+    let g = sym (ap (told (args .s .now) ns) (p .given .1)) ∙ read-plan-lines .ensures .1 ∙ cleared-lines (pre .0) (clear-lines .ensures .0) (args .s .now) (args .at) in
+    let t = read-plan-lines .ensures .2 (p .given .0 .0) (p .given .1) in (
       kept-then (kept-wider (lineAt (args .rooms)) (farAt (args .rooms)) (clear-lines .ensures .0) (omega arith) (omega arith))
           (kept-then (read-plan-lines .ensures .0) (kept-wider (lineAt (args .rooms)) (farAt (args .rooms)) (stored-kept mem best worst t) (omega arith) (omega arith))),
-      plan-good (args .mem .now) (args .s .now) best worst (args .at) ns (c .before .before .p .given .0 .0) g _ (c .if1 .left) (stored-plan mem best worst t) (stored-standing mem best worst t),
+      plan-good (args .mem .now) (args .s .now) best worst (args .at) ns (p .given .0 .0) g _ (c .if1 .left) (stored-plan mem best worst t) (stored-standing mem best worst t),
     )
 
 returns-3 : tie.Need-returns-3
 returns-3 c =
-    let args = c .before .before .before .before .before .before .before .before .before .before .before .before .before .args in
-    let pre = c .before .before .before .before .before .before .before .before .before .before .before .before .before .pre in
+    let args = c .before .before .before .before .before .before .before .before .before .before .before .before .before .before .args in
+    let pre = c .before .before .before .before .before .before .before .before .before .before .before .before .before .before .pre in
     let clear-lines = c .before .before .before .before .before .before .before .before .before .clear-lines in
     let read-plan-lines = c .before .before .before .before .before .read-plan-lines in
     let mem = read-plan-lines .last .1 .1 .0 in
     let ns = linesIn (args .rooms) (nth mem 3 + 1) (nth mem 0) mem in
-    let g = sym (ap (told (args .s .now) ns) (c .before .x .given .1)) ∙ read-plan-lines .ensures .1 ∙ cleared-lines (pre .0) (pre .1) (clear-lines .ensures .0) (args .s .now) (args .at) in (
+    let g = sym (ap (told (args .s .now) ns) (c .before .x .given .1)) ∙ read-plan-lines .ensures .1 ∙ cleared-lines (pre .0) (clear-lines .ensures .0) (args .s .now) (args .at) in (
       kept-then (kept-wider (lineAt (args .rooms)) (farAt (args .rooms)) (clear-lines .ensures .0) (omega arith) (omega arith)) (read-plan-lines .ensures .0),
       plan-lines-bad (args .mem .now) (args .s .now) _ _ (args .at) _ mem _ g,
     )
@@ -91,6 +93,6 @@ pub load-lines-spec : {M : Type 1} → statement M
 load-lines-spec =
     tie.close
     (tie.spec
-    (λ c κs. c .before .before .before .pre .0 .size) read-plan-lines-requires (λ c. search needs) (λ c. search needs) returns (λ c. search needs)
+    (λ c κs. c .before .before .before .before .pre .0 .size) read-plan-lines-requires (λ c. search needs) (λ c. search needs) returns (λ c. search needs)
     (λ c. search needs) slice-write-mem (λ c. search needs) (λ c. search needs) slice-write-mem-2 (λ c. search needs) same-length-2 returns-2
     (λ c. search needs) returns-3)

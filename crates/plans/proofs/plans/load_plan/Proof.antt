@@ -11,11 +11,13 @@ use Rattle.plans.proofs.plans.load_plan.Statement.{statement}
 use Rattle.plans.proofs.plans.load_plan.Tie as tie
 
 returns : tie.Need-returns
-returns c = (kept-all, plan-long (c .before .before .before .args .mem .now) (c .before .before .before .args .s .now) _ (c .before .before .before .args .mem .now) (c .if1 .taken))
+returns c =
+    let args = c .before .before .before .before .args in
+    (kept-all, plan-long (args .mem .now) (args .s .now) _ (args .mem .now) (c .if1 .taken))
 
 returns-2 : tie.Need-returns-2
 returns-2 c =
-    let args = c .before .before .before .before .before .before .before .before .before .before .before .before .before .before .args in
+    let args = c .before .before .before .before .before .before .before .before .before .before .before .before .before .before .before .args in
     let if1 = c .before .before .before .before .before .before .before .before .before .before .before .if1 in
     let read-line = c .before .before .before .before .before .before .before .before .read-line in
     let p = c .before .before .before .before .before .p in
@@ -23,16 +25,19 @@ returns-2 c =
     let s = args .s .now in
     let ys = read-line .last .1 .1 .1 .1 .0 in (
       kept-all,
-      plan-head-no d s (if1 .left) ys (p .given .0 .0) (sym (read-line .ensures .0 ∙ line-fits 5 _ 5 _ (omega arith)) ∙ ap (told s (take 5 ys)) (p .given .1)) _ d _
+      plan-head-no d s (if1 .left) ys (p .given .0 .0) (sym (read-line .ensures .0 ∙ line-fits _ 5 _ 5 _ (omega arith)) ∙ ap (told s (take 5 ys)) (p .given .1)) _ d _
           (c .before .check-head .ensures) (c .if2 .taken),
     )
 
 load-lines-requires : tie.Need-load-lines-requires
-load-lines-requires c κs = c .before .before .before .before .before .before .before .before .before .before .before .before .before .before .before .pre
+load-lines-requires c κs =
+    let pre = c .before .before .before .before .before .before .before .before .before .before .before .before .before .before .before .before .pre in
+    pre
 
 returns-3 : tie.Need-returns-3
 returns-3 c =
-    let args = c .before .before .before .before .before .before .before .before .before .before .before .before .before .before .before .before .before .before .args in
+    let load-lines = c .before .before .load-lines in
+    let args = c .before .before .before .before .before .before .before .before .before .before .before .before .before .before .before .before .before .before .before .args in
     let if1 = c .before .before .before .before .before .before .before .before .before .before .before .before .before .before .before .if1 in
     let read-line = c .before .before .before .before .before .before .before .before .before .before .before .before .read-line in
     let p = c .before .before .before .before .before .before .before .before .before .p in
@@ -42,20 +47,20 @@ returns-3 c =
     let s = args .s .now in
     let ys = read-line .last .1 .1 .1 .1 .0 in
     let z : 0 ≡ check-head .result = omega (arith, if2 .left) in (
-      c .before .before .load-lines .ensures .0,
+      load-lines .ensures .0,
       rw (plan-next d s (if1 .left) ys (p .given .0 .0)
-          (sym (read-line .ensures .0 ∙ line-fits 5 _ 5 _ (omega arith)) ∙ ap (told s (take 5 ys)) (p .given .1)) (z ∙ check-head .ensures)) (c .before .before .load-lines .ensures .1),
+          (sym (read-line .ensures .0 ∙ line-fits _ 5 _ 5 _ (omega arith)) ∙ ap (told s (take 5 ys)) (p .given .1)) (z ∙ check-head .ensures)) (load-lines .ensures .1),
     )
 
 returns-4 : tie.Need-returns-4
 returns-4 c =
-    let args = c .before .before .before .before .before .before .before .before .before .before .args in
+    let args = c .before .before .before .before .before .before .before .before .before .before .before .args in
     let if1 = c .before .before .before .before .before .before .before .if1 in
     let read-line = c .before .before .before .before .read-line in
     let d = args .mem .now in
     let s = args .s .now in
     let ys = read-line .last .1 .1 .1 .1 .0 in
-    (kept-all, plan-head-bad d s (if1 .left) _ d _ (sym (read-line .ensures .0 ∙ line-fits 5 _ 5 _ (omega arith)) ∙ ap (told s (take 5 ys)) (c .before .x .given .1)))
+    (kept-all, plan-head-bad d s (if1 .left) _ d _ (sym (read-line .ensures .0 ∙ line-fits _ 5 _ 5 _ (omega arith)) ∙ ap (told s (take 5 ys)) (c .before .x .given .1)))
 
 pub load-plan-spec : {M : Type 1} → statement M
 load-plan-spec =

@@ -3,21 +3,28 @@ use mathlib.Core.Path.{_≡_}
 use Prim.Native.Nat.{ℕ, _≤_, _-_}
 use native.Mathlib.Omega.{arith}
 use borrow.Author.Needs.{needs}
+use Rattle.jobs.proofs.Held.{links-kept}
 use Rattle.plans.proofs.PlanReading.{LinesUpTo, upto-none, tasks-kept, upto-end, upto-kept, upto-no, upto-next}
 use Rattle.plans.proofs.plans.read_plan_lines.Statement.{statement}
 use Rattle.plans.proofs.plans.read_plan_lines.Tie as tie
 
 abbrev Inv-loop : tie.InvT-loop
-Inv-loop s at mem₀ rooms v p₀ k₀ mem p k = (k ≤ v) × LinesUpTo rooms s at mem₀ k p mem
+Inv-loop s at mem₀ links rooms v p₀ k₀ mem p k = (k ≤ v) × LinesUpTo rooms s at mem₀ k p mem
 
 abbrev μ-loop : tie.MeasureT-loop
-μ-loop s at mem₀ rooms v p₀ k₀ mem p k = v - k
+μ-loop s at mem₀ links rooms v p₀ k₀ mem p k = v - k
 
 loop-holds : tie.Need-loop-holds Inv-loop μ-loop
-loop-holds c = (omega arith, upto-none (c .before .before .before .args .s .now) (c .before .before .before .args .at) (c .before .before .before .args .mem .now) (c .before .before .before .pre))
+loop-holds c =
+    let args = c .before .before .before .before .args in
+    let pre = c .before .before .before .before .pre in
+    (omega arith, upto-none (args .s .now) (args .at) (args .mem .now) (pre .0))
 
 read-plan-line-requires : tie.Need-read-plan-line-requires Inv-loop μ-loop
-read-plan-line-requires c κs = (c .before .before .loop .inv .1 .standing, omega (arith, c .before .loop-test .taken, tasks-kept (c .before .before .loop .inv .1)))
+read-plan-line-requires c κs =
+    let l = c .before .before .loop .inv .1 in
+    let pre = c .before .before .before .before .before .before .before .pre in
+    (l .standing, links-kept (pre .0 .job) (l .kept) (omega arith) (pre .1), omega (arith, c .before .loop-test .taken, tasks-kept l))
 
 same-length : tie.Need-same-length Inv-loop μ-loop
 same-length c =
@@ -28,17 +35,21 @@ same-length c =
 
 returns : tie.Need-returns Inv-loop μ-loop
 returns c =
+    let loop-test = c .before .before .before .before .before .before .before .loop-test in
+    let read-plan-line = c .before .before .before .before .before .read-plan-line in
     let l = c .before .before .before .before .before .before .before .before .loop in (
-      upto-kept (l .inv .1) (c .before .before .before .before .before .before .before .loop-test .taken) _ _ (c .before .before .before .before .before .read-plan-line .ensures),
-      upto-no (l .inv .1) (c .before .before .before .before .before .before .before .loop-test .taken) _ _ (c .before .before .before .before .before .read-plan-line .ensures) _ (c .before .x .given .1),
+      upto-kept (l .inv .1) (loop-test .taken) _ _ (read-plan-line .ensures),
+      upto-no (l .inv .1) (loop-test .taken) _ _ (read-plan-line .ensures) _ (c .before .x .given .1),
       λ m e. let z : _≡_ {A = ℕ} 0 1 = cc in absurd (omega (arith, z)),
     )
 
 loop-again : tie.Need-loop-again Inv-loop μ-loop
 loop-again c =
+    let loop-test = c .before .before .before .before .before .before .before .loop-test in
+    let read-plan-line = c .before .before .before .before .before .read-plan-line in
     let l = c .before .before .before .before .before .before .before .before .loop in (
-      omega (arith, c .before .before .before .before .before .before .before .loop-test .taken),
-      upto-next (l .inv .1) (c .before .before .before .before .before .before .before .loop-test .taken) _ _ (c .before .before .before .before .before .read-plan-line .ensures) _ (c .before .next .given .1),
+      omega (arith, loop-test .taken),
+      upto-next (l .inv .1) (loop-test .taken) _ _ (read-plan-line .ensures) _ (c .before .next .given .1),
     )
 
 returns-2 : tie.Need-returns-2 Inv-loop μ-loop

@@ -4,16 +4,18 @@ use Prim.Native.Nat.{_≤_, _-_, _+_}
 use native.Mathlib.Omega.{arith}
 use borrow.Author.Needs.{needs}
 use lib.ListN.{length, drop, length-set}
+use Rattle.definitions.specs.Limits.{document01}
+use Rattle.definitions.specs.Text.{numbersText}
 use Rattle.lists.specs.Over.{over}
 use Rattle.lists.proofs.Over.{over-nil}
-use Rattle.printing.proofs.WriteLaws.{textOf, text-end, place-turn, length-turn, write-turn}
+use Rattle.printing.proofs.WriteLaws.{text-end, place-turn, length-turn, write-turn}
 use Rattle.printing.proofs.writer.write_numbers.Statement.{statement}
 use Rattle.printing.proofs.writer.write_numbers.Tie as tie
 
 abbrev Inv-loop : tie.InvT-loop
 Inv-loop out₀ at vals n p₀ i₀ out p i =
-    (i ≤ n) × (n ≡ length vals) × (length out ≡ length out₀) × (p + length (textOf (drop i vals)) ≡ at + length (textOf vals))
-    × (over out p (textOf (drop i vals)) ≡ over out₀ at (textOf vals))
+    (i ≤ n) × (n ≡ length vals) × (length out ≡ length out₀) × (p + length (numbersText document01 (drop i vals)) ≡ at + length (numbersText document01 vals))
+    × (over out p (numbersText document01 (drop i vals)) ≡ over out₀ at (numbersText document01 vals))
 
 abbrev μ-loop : tie.MeasureT-loop
 μ-loop out₀ at vals n p₀ i₀ out p i = n - i
@@ -27,8 +29,8 @@ slice-write-out c =
     let s = args .vals .now in let l = loop in let w = write-number in
     omega (
       arith,
-      place-turn s (l .i) (loop-test .taken) (l .out) (l .p) (omega arith) (w .last .0) (w .result) (w .ensures .1) (w .ensures .0),
-      length-turn s (l .i) (loop-test .taken) (l .out) (l .p) (omega arith) (w .last .0) (w .result) (w .ensures .1) (w .ensures .0),
+      place-turn document01 s (l .i) (loop-test .taken) (l .out) (l .p) (omega arith) (w .last .0) (w .result) (w .ensures .1) (w .ensures .0),
+      length-turn document01 s (l .i) (loop-test .taken) (l .out) (l .p) (omega arith) (w .last .0) (w .result) (w .ensures .1) (w .ensures .0),
     )
 
 add-p : tie.Need-add-p Inv-loop μ-loop
@@ -38,7 +40,7 @@ add-p c =
     let loop-test = c .before .before .before .before .before .before .loop-test in
     let write-number = c .before .before .before .write-number in
     let s = args .vals .now in let l = loop in let w = write-number in
-    omega (arith, place-turn s (l .i) (loop-test .taken) (l .out) (l .p) (omega arith) (w .last .0) (w .result) (w .ensures .1) (w .ensures .0))
+    omega (arith, place-turn document01 s (l .i) (loop-test .taken) (l .out) (l .p) (omega arith) (w .last .0) (w .result) (w .ensures .1) (w .ensures .0))
 
 loop-again : tie.Need-loop-again Inv-loop μ-loop
 loop-again c =
@@ -47,18 +49,19 @@ loop-again c =
     let loop-test = c .before .before .before .before .before .before .loop-test in
     let write-number = c .before .before .before .write-number in
     let s = args .vals .now in let l = loop in let w = write-number in
-    let r : l .p + length (textOf (drop (l .i) s)) ≤ length (l .out) = omega arith in (
+    let r : l .p + length (numbersText document01 (drop (l .i) s)) ≤ length (l .out) = omega arith in (
       search needs,
       refl,
-      length-set (w .last .0) (w .result) (c .mark-after .result) ∙ length-turn s (l .i) (loop-test .taken) (l .out) (l .p) r (w .last .0) (w .result) (w .ensures .1) (w .ensures .0) ∙ l .inv .2,
-      place-turn s (l .i) (loop-test .taken) (l .out) (l .p) r (w .last .0) (w .result) (w .ensures .1) (w .ensures .0) ∙ l .inv .3,
-      write-turn s (l .i) (loop-test .taken) (l .out) (l .p) r (w .last .0) (w .result) (w .ensures .1) (w .ensures .0) (c .mark-after .result) (c .mark-after .ensures) ∙ l .inv .4,
+      length-set (w .last .0) (w .result) (c .mark-after .result)
+          ∙ length-turn document01 s (l .i) (loop-test .taken) (l .out) (l .p) r (w .last .0) (w .result) (w .ensures .1) (w .ensures .0) ∙ l .inv .2,
+      place-turn document01 s (l .i) (loop-test .taken) (l .out) (l .p) r (w .last .0) (w .result) (w .ensures .1) (w .ensures .0) ∙ l .inv .3,
+      write-turn document01 s (l .i) (loop-test .taken) (l .out) (l .p) r (w .last .0) (w .result) (w .ensures .1) (w .ensures .0) (c .mark-after .result) (c .mark-after .ensures) ∙ l .inv .4,
     )
 
 returns : tie.Need-returns Inv-loop μ-loop
 returns c =
     let s = c .before .before .before .before .args .vals .now in let l = c .before .loop in
-    let e = text-end s (l .i) (omega arith) in
+    let e = text-end document01 s (l .i) (omega arith) in
     (omega (arith, ap length e), sym (over-nil (l .out) (l .p)) ∙ ap (over (l .out) (l .p)) (sym e) ∙ l .inv .4)
 
 pub write-numbers-spec : {M : Type 1} → statement M

@@ -1,10 +1,10 @@
 use borrow.Author.Needs.{needs}
 use mathlib.Core.Path.{_≡_, refl, sym, ap, _∙_}
 use mathlib.Core.List.{[]}
-use Prim.Native.Nat.{ℕ, _+_, _*_, _≤_, _-_, _/_}
+use Prim.Native.Nat.{ℕ, _+_, _*_, _≤_, _-_}
 use native.Mathlib.Omega.{arith}
 use lib.ListN.{length}
-use Rattle.replicas.specs.Cells.{twice, cellsOf, firstTwice}
+use Rattle.replicas.specs.Cells.{linesOf, twice, cellsOf, firstTwice}
 use Rattle.replicas.proofs.TwiceLaws.{part-cells, first-none, first-next, first-here}
 use Rattle.replicas.proofs.twice.first_twice.Statement.{statement}
 use Rattle.replicas.proofs.twice.first_twice.Tie as tie
@@ -31,7 +31,7 @@ loop-again c =
 
 returns-2 : tie.Need-returns-2 Inv-loop μ-loop
 returns-2 c =
-    let e : c .before .loop .k ≡ length (c .before .before .before .args .lines .now) / 25 = omega (arith, c .before .loop .inv .0, c .loop-test .left) in
+    let e : c .before .loop .k ≡ linesOf (length (c .before .before .before .args .lines .now)) = omega (arith, c .before .loop .inv .0, c .loop-test .left) in
     sym (ap (λ (i : ℕ). firstTwice (c .before .before .before .args .w) i (c .before .before .before .args .lines .now)) (sym e) ∙ c .before .loop .inv .1)
 
 pub first-twice-spec : {M : Type 1} → statement M

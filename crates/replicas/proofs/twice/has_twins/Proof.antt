@@ -1,10 +1,10 @@
 use borrow.Author.Needs.{needs}
 use mathlib.Core.Path.{_≡_, sym, ap, _∙_}
 use mathlib.Core.Bool.{false}
-use Prim.Native.Nat.{ℕ, _≤_, _-_, _/_}
+use Prim.Native.Nat.{ℕ, _≤_, _-_}
 use native.Mathlib.Omega.{arith}
 use lib.ListN.{length}
-use Rattle.replicas.specs.Cells.{twins}
+use Rattle.replicas.specs.Cells.{replicasOf, twins}
 use Rattle.replicas.proofs.TwiceLaws.{twins-none, twins-next, twins-here}
 use Rattle.replicas.proofs.twice.has_twins.Statement.{statement}
 use Rattle.replicas.proofs.twice.has_twins.Tie as tie
@@ -27,7 +27,7 @@ loop-again c =
 
 returns-2 : tie.Need-returns-2 Inv-loop μ-loop
 returns-2 c =
-    let e : c .before .loop .c ≡ length (c .before .before .args .cells .now) / 3 - 1 = omega (arith, c .before .loop .inv .0, c .loop-test .left) in
+    let e : c .before .loop .c ≡ replicasOf (length (c .before .before .args .cells .now)) - 1 = omega (arith, c .before .loop .inv .0, c .loop-test .left) in
     sym (ap (λ (i : ℕ). twins i (c .before .before .args .cells .now)) (sym e) ∙ c .before .loop .inv .1)
 
 pub has-twins-spec : {M : Type 1} → statement M

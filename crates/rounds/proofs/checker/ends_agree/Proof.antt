@@ -6,12 +6,12 @@ use Rattle.rounds.proofs.checker.ends_agree.Tie as tie
 
 returns : tie.Need-returns
 returns c =
-    let pre = c .before .before .before .before .pre in
+    let pre = c .before .before .before .before .before .pre in
     best-differs (pre .0) (pre .2) (pre .3) (c .before .before .end-of .result) (c .before .before .end-of .ensures) (c .if1 .taken)
 
 returns-2 : tie.Need-returns-2
 returns-2 c =
-    let pre = c .before .before .before .before .before .before .pre in
+    let pre = c .before .before .before .before .before .before .before .pre in
     let end-of = c .before .before .before .before .end-of in
     worst-decides (pre .0) (pre .2) (pre .3) (end-of .result) (end-of .ensures) (c .before .before .if1 .left) (c .before .end-of2 .result) (c .before .end-of2 .ensures)
 

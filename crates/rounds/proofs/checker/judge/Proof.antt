@@ -7,14 +7,14 @@ use Rattle.rounds.proofs.checker.judge.Statement.{statement}
 use Rattle.rounds.proofs.checker.judge.Tie as tie
 
 compare-requires : tie.Need-compare-requires
-compare-requires c κs = (c .before .before .before .before .pre .0, c .before .before .before .before .pre .1, rw (c .enum-told .given .1) at (c .before .before .doubled .ensures))
+compare-requires c κs = (c .before .before .before .before .before .pre .0, c .before .before .before .before .before .pre .1, rw (c .enum-told .given .1) at (c .before .before .doubled .ensures))
 
-cast-t6 : tie.Need-cast-t6
-cast-t6 c = let i = rw (c .before .t .given .1) at (c .before .before .before .doubled .ensures) in omega (arith, i .1)
+cast-t7 : tie.Need-cast-t7
+cast-t7 c = let i = rw (c .before .t .given .1) at (c .before .before .before .doubled .ensures) in omega (arith, i .1)
 
 returns-2 : tie.Need-returns-2
 returns-2 c =
-    let args = c .before .before .before .before .before .args in
+    let args = c .before .before .before .before .before .before .args in
     let doubled = c .before .before .before .doubled in
     let i = rw (c .before .t .given .1) at (doubled .ensures) in
     answer-doubled (jobIn (args .mem .now)) (planIn (args .rooms) (args .mem .now)) _ (i .0)
@@ -23,4 +23,4 @@ pub judge-spec : {M : Type 1} → statement M
 judge-spec =
     tie.close
     (tie.spec
-    (λ c κs. search needs) (λ c. search needs) compare-requires (λ c. search needs) cast-t6 (λ c. search needs) returns-2)
+    (λ c κs. search needs) (λ c. search needs) compare-requires (λ c. search needs) cast-t7 (λ c. search needs) returns-2)

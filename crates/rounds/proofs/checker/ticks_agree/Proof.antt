@@ -13,60 +13,65 @@ use Rattle.rounds.proofs.checker.ticks_agree.Statement.{statement}
 use Rattle.rounds.proofs.checker.ticks_agree.Tie as tie
 
 abbrev Inv-loop : tie.InvT-loop
-Inv-loop mem rooms rows v delays clocks₀ k₀ clocks k =
+Inv-loop mem links rooms v delays clocks₀ k₀ clocks k =
     (k ≤ v) × ((i : ℕ) → i < k → LineAgrees rooms i mem) × ShortTo rooms k mem × ClocksAfter rooms k mem clocks
 
 abbrev μ-loop : tie.MeasureT-loop
-μ-loop mem rooms rows v delays clocks₀ k₀ clocks k = v - k
+μ-loop mem links rooms v delays clocks₀ k₀ clocks k = v - k
 
 loop-holds : tie.Need-loop-holds Inv-loop μ-loop
-loop-holds c =
-    let args = c .before .before .before .before .args in
-    let pre = c .before .before .before .before .pre in
-    (omega arith, λ i l. absurd (omega arith), λ i n l m. absurd (omega arith), clocks-new (c .new .result) (args .mem .now) (pre .0 .standing .job) (c .new .ensures .0) (c .new .ensures .1))
+loop-holds c = (
+  omega arith,
+  λ i l. absurd (omega arith),
+  λ i n l m. absurd (omega arith),
+  clocks-new (c .new .result) (c .before .before .before .before .before .args .mem .now)
+      (c .before .before .before .before .before .pre .0 .standing .job) (c .new .ensures .0) (c .new .ensures .1),
+)
 
 line-agrees-requires : tie.Need-line-agrees-requires Inv-loop μ-loop
-line-agrees-requires c κs =
-    let pre = c .before .before .before .before .before .before .before .pre in
-    let delay-table = c .before .before .before .before .delay-table in
-    (pre .0, delay-table .ensures, c .before .loop-test .taken, c .before .before .loop .inv .2, c .before .before .loop .inv .3)
+line-agrees-requires c κs = (
+  c .before .before .before .before .before .before .before .before .pre .0,
+  c .before .before .before .before .delay-table .ensures,
+  c .before .loop-test .taken,
+  c .before .before .loop .inv .2,
+  c .before .before .loop .inv .3,
+  c .before .before .before .before .before .before .before .before .pre .2,
+)
 
-mul-advance-line : tie.Need-mul-advance-line Inv-loop μ-loop
-mul-advance-line c = let s = sizes (c .before .before .before .before .before .before .before .before .before .pre .0 .standing .job) in omega arith
-
-add-advance-line : tie.Need-add-advance-line Inv-loop μ-loop
-add-advance-line c = let s = sizes (c .before .before .before .before .before .before .before .before .before .pre .0 .standing .job) in omega arith
+row-at-requires : tie.Need-row-at-requires Inv-loop μ-loop
+row-at-requires c κs =
+    omega (arith, sizes (c .before .before .before .before .before .before .before .before .before .before .pre .0 .standing .job), c .before .before .before .loop-test .taken)
 
 advance-line-requires : tie.Need-advance-line-requires Inv-loop μ-loop
 advance-line-requires c κs =
-    let pre = c .before .before .before .before .before .before .before .before .before .pre in
-    let loop = c .before .before .before .before .loop in
-    line-timed (pre .0 .standing) (omega arith) (c .before .line-agrees .ensures .0 (c .if1 .taken) .1) (loop .k) (omega arith)
+    rw (c .row-at .ensures) (line-timed (c .before .before .before .before .before .before .before .before .before .before .before .pre .0 .standing) (omega arith)
+    (c .before .before .line-agrees .ensures .0 (c .before .if1 .taken) .1) (c .before .before .before .before .before .loop .k) (omega arith))
 
 returns : tie.Need-returns Inv-loop μ-loop
 returns c =
-    let pre = c .before .before .before .before .before .before .before .before .before .pre in
-    let loop = c .before .before .before .before .loop in
-    let loop-test = c .before .before .before .loop-test in
-    ticks-no (pre .0) (pre .1) (loop .k) (loop-test .taken) (λ a. false≢true (sym (c .if1 .left) ∙ c .before .line-agrees .ensures .1 a))
+    ticks-no (c .before .before .before .before .before .before .before .before .before .before .pre .0)
+    (c .before .before .before .before .before .before .before .before .before .before .pre .1) (c .before .before .before .before .loop .k)
+    (c .before .before .before .loop-test .taken) (λ a. false≢true (sym (c .if1 .left) ∙ c .before .line-agrees .ensures .1 a))
 
 add-k : tie.Need-add-k Inv-loop μ-loop
-add-k c = let s = sizes (c .before .before .before .before .before .before .before .before .before .before .pre .0 .standing .job) in omega arith
+add-k c = let s = sizes (c .before .before .before .before .before .before .before .before .before .before .before .before .pre .0 .standing .job) in omega arith
 
 loop-again : tie.Need-loop-again Inv-loop μ-loop
 loop-again c =
-    let (a, s) = c .before .before .line-agrees .ensures .0 (c .before .if1 .taken) in
-    let l = c .before .before .before .before .before .loop in
-    let x = c .before .before .before .before .before .before .before .before .before .before .args in
-    (omega arith, agreed-next (x .rooms) (x .mem .now) (l .k) a (l .inv .1), s, clocks-line (x .rooms) (l .k) (x .mem .now) (c .advance-line .result) (c .advance-line .ensures _ _ (l .inv .3)))
+    let (a, s) = c .before .before .before .line-agrees .ensures .0 (c .before .before .if1 .taken) in
+    let x = c .before .before .before .before .before .before .before .before .before .before .before .before .args in let l = c .before .before .before .before .before .before .loop in
+    let r = clocks-line (x .rooms) (l .k) (x .mem .now) (c .advance-line .result) (rw (c .before .row-at .ensures) at (c .advance-line .ensures _ _ (l .inv .3))) in
+    (omega arith, agreed-next (x .rooms) (x .mem .now) (l .k) a (l .inv .1), s, r)
 
 returns-2 : tie.Need-returns-2 Inv-loop μ-loop
-returns-2 c = ticks-yes (c .before .before .before .before .before .before .pre .0) (c .before .before .before .before .before .before .pre .1) (c .before .loop .k) (omega arith) (c .before .loop .inv .1)
+returns-2 c =
+    ticks-yes (c .before .before .before .before .before .before .before .pre .0) (c .before .before .before .before .before .before .before .pre .1) (c .before .loop .k) (omega arith)
+    (c .before .loop .inv .1)
 
 pub ticks-agree-spec : {M : Type 1} → statement M
 ticks-agree-spec =
     tie.close
     (tie.spec
-    Inv-loop μ-loop (λ c. search needs) (λ c. let s = sizes (c .before .before .pre .0 .standing .job) in omega arith)
-    (λ c κs. (_, c .before .before .pre .0 .standing .job)) (λ c κs. search needs) loop-holds line-agrees-requires mul-advance-line add-advance-line
+    Inv-loop μ-loop (λ c. let s = sizes (c .before .before .before .pre .0 .standing .job) in omega arith)
+    (λ c κs. (_, c .before .before .before .pre .0 .standing .job)) (λ c κs. search needs) loop-holds line-agrees-requires row-at-requires
     advance-line-requires returns add-k (λ c. search needs) loop-again returns-2)

@@ -4,88 +4,62 @@ use Prim.Native.Nat.{_≤_, _-_, _+_}
 use native.Mathlib.Omega.{arith}
 use borrow.Author.Needs.{needs}
 use Rattle.definitions.specs.Lists.{nth}
-use Rattle.rounds.specs.Planning.{Advanced}
-use Rattle.jobs.proofs.Held.{Sizes, sizes}
+use Rattle.rounds.specs.Clocks.{Advanced}
+use Rattle.jobs.proofs.Held.{sizes}
 use Rattle.rounds.proofs.ClockLaws.{clocks-first, clocks-next}
 use Rattle.rounds.proofs.clocks.advance_line.Statement.{statement}
 use Rattle.rounds.proofs.clocks.advance_line.Tie as tie
 
 abbrev Inv-loop : tie.InvT-loop
-Inv-loop mem a w clocks c₀ after c = (c ≤ w) × Advanced a c mem clocks after
+Inv-loop mem a w clocks c₀ after c = (c ≤ w) × (nth mem 3 ≤ 7) × Advanced a c mem clocks after
 
 abbrev μ-loop : tie.MeasureT-loop
 μ-loop mem a w clocks c₀ after c = w - c
 
-held : (c : tie.Start Inv-loop μ-loop) → Sizes (c .pre .job .0) (c .args .mem .now)
-held c = sizes (c .pre .job .1)
+loop-holds : tie.Need-loop-holds Inv-loop μ-loop
+loop-holds c =
+    let args = c .before .before .args in
+    (omega arith, sizes (c .before .before .pre .job .1) .losses-most, clocks-first _ (args .a) (args .mem .now))
 
-mul-p : tie.Need-mul-p Inv-loop μ-loop
-mul-p c = let z = held (c .before .before .before .before) in let y = c .before .before .before .before .pre .within in omega arith
+cast-advance : tie.Need-cast-advance Inv-loop μ-loop
+cast-advance c =
+    omega (
+      arith,
+      c .before .replica-at .ensures .1,
+      c .before .before .before .before .before .before .pre .ticks (c .before .before .before .loop .c)
+          (c .before .before .loop-test .taken) .0,
+    )
 
-add-p : tie.Need-add-p Inv-loop μ-loop
-add-p c = let z = held (c .before .before .before .before) in let y = c .before .before .before .before .pre .within in omega arith
-
-add-p-2 : tie.Need-add-p-2 Inv-loop μ-loop
-add-p-2 c = let z = held (c .before .before .before .before) in let y = c .before .before .before .before .pre .within in omega arith
-
-mul-p-2 : tie.Need-mul-p-2 Inv-loop μ-loop
-mul-p-2 c = let z = held (c .before .before .before .before) in let y = c .before .before .before .before .pre .within in omega arith
-
-shared-slice-read-p : tie.Need-shared-slice-read-p Inv-loop μ-loop
-shared-slice-read-p c = let z = held (c .before .before .before .before .before) in let y = c .before .before .before .before .before .pre .within in omega arith
-
-mul-early : tie.Need-mul-early Inv-loop μ-loop
-mul-early c = let z = held (c .before .before .before .before .before) in let y = c .before .before .before .before .before .pre .within in omega arith
-
-add-early : tie.Need-add-early Inv-loop μ-loop
-add-early c = let z = held (c .before .before .before .before .before) in let y = c .before .before .before .before .before .pre .within in omega arith
-
-add-early-2 : tie.Need-add-early-2 Inv-loop μ-loop
-add-early-2 c = let z = held (c .before .before .before .before .before) in let y = c .before .before .before .before .before .pre .within in omega arith
-
-mul-early-2 : tie.Need-mul-early-2 Inv-loop μ-loop
-mul-early-2 c = let z = held (c .before .before .before .before .before) in let y = c .before .before .before .before .before .pre .within in omega arith
-
-shared-slice-read-early : tie.Need-shared-slice-read-early Inv-loop μ-loop
-shared-slice-read-early c = let z = held (c .before .before .before .before .before .before) in let y = c .before .before .before .before .before .before .pre .within in omega arith
-
-cast-early : tie.Need-cast-early Inv-loop μ-loop
-cast-early c = omega (arith, c .before .before .before .before .before .before .pre .ticks (c .before .before .before .loop .c) (c .before .before .loop-test .taken) .0)
-
-mul-late : tie.Need-mul-late Inv-loop μ-loop
-mul-late c = let z = held (c .before .before .before .before .before .before) in let y = c .before .before .before .before .before .before .pre .within in omega arith
-
-add-late : tie.Need-add-late Inv-loop μ-loop
-add-late c = let z = held (c .before .before .before .before .before .before) in let y = c .before .before .before .before .before .before .pre .within in omega arith
-
-add-late-2 : tie.Need-add-late-2 Inv-loop μ-loop
-add-late-2 c = let z = held (c .before .before .before .before .before .before) in let y = c .before .before .before .before .before .before .pre .within in omega arith
-
-mul-late-2 : tie.Need-mul-late-2 Inv-loop μ-loop
-mul-late-2 c = let z = held (c .before .before .before .before .before .before) in let y = c .before .before .before .before .before .before .pre .within in omega arith
-
-shared-slice-read-late : tie.Need-shared-slice-read-late Inv-loop μ-loop
-shared-slice-read-late c = let z = held (c .before .before .before .before .before .before .before) in let y = c .before .before .before .before .before .before .before .pre .within in omega arith
-
-cast-late : tie.Need-cast-late Inv-loop μ-loop
-cast-late c = omega (arith, c .before .before .before .before .before .before .before .pre .ticks (c .before .before .before .before .loop .c) (c .before .before .before .loop-test .taken) .1)
+cast-advance-2 : tie.Need-cast-advance-2 Inv-loop μ-loop
+cast-advance-2 c =
+    omega (
+      arith,
+      c .before .before .replica-at .ensures .2,
+      c .before .before .before .before .before .before .before .pre .ticks (c .before .before .before .before .loop .c)
+          (c .before .before .before .loop-test .taken) .1,
+    )
 
 loop-again : tie.Need-loop-again Inv-loop μ-loop
 loop-again c =
-    let pre = c .before .before .before .before .before .before .before .before .pre in
-    let l = c .before .before .before .before .before .loop in
-    let loop-test = c .before .before .before .before .loop-test in
-    (omega arith, λ es ls s. clocks-next pre (l .after) _ (l .c) (loop-test .taken) (c .advance .ensures .0) (c .advance .ensures .1) es ls (l .inv .1 es ls s))
+    let l = c .before .before .before .before .before .loop in let (on, early, late) = c .before .before .before .replica-at .ensures in
+    let e = rw (on, early) at (c .advance .ensures .0) in let f = rw (on, late) at (c .advance .ensures .1) in (
+      omega arith,
+      l .inv .1,
+      λ es ls s. clocks-next (c .before .before .before .before .before .before .before .before .pre) (l .after) _ (l .c)
+          (c .before .before .before .before .loop-test .taken) e f es ls (l .inv .2 es ls s),
+    )
 
 returns : tie.Need-returns Inv-loop μ-loop
-returns c = let e : c .before .loop .c ≡ nth (c .before .before .before .before .args .mem .now) 3 + 1 = omega arith in rw e at (c .before .loop .inv .1)
+returns c =
+    let loop = c .before .loop in
+    let e : loop .c ≡ nth (c .before .before .before .before .args .mem .now) 3 + 1 = omega arith in rw e at (loop .inv .2)
 
 pub advance-line-spec : {M : Type 1} → statement M
 advance-line-spec =
     tie.close
     (tie.spec
-    Inv-loop μ-loop (λ c. let z = held (c .before .before) in omega arith) (λ c. let z = held (c .before .before) in omega arith)
-    (λ c. (omega arith, clocks-first _ (c .before .before .args .a) (c .before .before .args .mem .now))) mul-p add-p add-p-2 mul-p-2
-    shared-slice-read-p mul-early add-early add-early-2 mul-early-2 shared-slice-read-early cast-early mul-late add-late add-late-2 mul-late-2
-    shared-slice-read-late cast-late (λ c κs. search needs)
-    (λ c. let z = held (c .before .before .before .before .before .before .before .before) in omega arith) (λ c. search needs) loop-again returns)
+    Inv-loop μ-loop (λ c. let s = sizes (c .before .before .pre .job .1) in omega arith)
+    (λ c. let s = sizes (c .before .before .pre .job .1) in omega arith) loop-holds
+    (λ c κs. omega (arith, c .before .before .before .before .pre .within, c .before .loop .inv .1, c .loop-test .taken)) cast-advance cast-advance-2
+    (λ c κs. search needs) (λ c. let s = sizes (c .before .before .before .before .before .before .before .before .pre .job .1) in omega arith)
+    (λ c. let s = sizes (c .before .before .before .before .before .before .before .before .pre .job .1) in omega arith) loop-again returns)

@@ -8,33 +8,40 @@ use Rattle.rounds.proofs.ends.end_of.Statement.{statement}
 use Rattle.rounds.proofs.ends.end_of.Tie as tie
 
 abbrev Inv-loop : tie.InvT-loop
-Inv-loop mem rooms late v acc₀ t₀ acc t = (t ≤ v) × Ending rooms late mem acc t
+Inv-loop mem links rooms late v acc₀ t₀ acc t = (t ≤ v) × Ending rooms late mem acc t
 
 abbrev μ-loop : tie.MeasureT-loop
-μ-loop mem rooms late v acc₀ t₀ acc t = v - t
+μ-loop mem links rooms late v acc₀ t₀ acc t = v - t
 
 loop-holds : tie.Need-loop-holds Inv-loop μ-loop
-loop-holds c = (search needs, ending-first (c .before .before .args .rooms) (c .before .before .args .late) (c .before .before .args .mem .now))
+loop-holds c =
+    let args = c .before .before .before .args in
+    (search needs, ending-first (args .rooms) (args .late) (args .mem .now))
 
 exit-time-requires : tie.Need-exit-time-requires Inv-loop μ-loop
-exit-time-requires c κs = (c .before .before .before .before .pre .0, c .before .before .before .before .pre .1, c .loop-test .taken)
+exit-time-requires c κs =
+    let pre = c .before .before .before .before .before .pre in
+    (pre .0, pre .1, c .loop-test .taken)
+
+add-t : tie.Need-add-t Inv-loop μ-loop
+add-t c = let w = sizes (c .before .before .before .before .before .before .before .pre .0 .job) in omega arith
 
 loop-again : tie.Need-loop-again Inv-loop μ-loop
 loop-again c =
-    let a = c .before .before .before .before .before .before .args in
-    let loop = c .before .before .before .loop in
-    let l = loop in (
+    let loop-test = c .before .before .loop-test in
+    let a = c .before .before .before .before .before .before .before .args in
+    let l = c .before .before .before .loop in (
       search needs,
-      ending-next (a .rooms) (a .late) (a .mem .now) (l .acc) (l .t) (c .before .exit-time .result) (c .chosen-of .result) (c .before .before .loop-test .taken)
-          (c .before .exit-time .ensures) (c .chosen-of .ensures .0) (l .inv .1),
+      ending-next (a .rooms) (a .late) (a .mem .now) (l .acc) (l .t) (c .before .exit-time .result) (c .chosen-of .result)
+          (loop-test .taken) (c .before .exit-time .ensures) (c .chosen-of .ensures .0) (l .inv .1),
     )
 
 returns : tie.Need-returns Inv-loop μ-loop
-returns c = let a = c .before .before .before .before .args in let l = c .before .loop in ending-done (a .rooms) (a .late) (a .mem .now) (l .acc) (l .t) (c .loop-test .left) (l .inv .1)
+returns c = let a = c .before .before .before .before .before .args in let l = c .before .loop in ending-done (a .rooms) (a .late) (a .mem .now) (l .acc) (l .t) (c .loop-test .left) (l .inv .1)
 
 pub end-of-spec : {M : Type 1} → statement M
 end-of-spec =
     tie.close
     (tie.spec
-    Inv-loop μ-loop (λ c. let w = sizes (c .before .before .pre .0 .job) in omega arith) loop-holds exit-time-requires (λ c κs. search needs)
-    (λ c. let w = sizes (c .before .before .before .before .before .before .pre .0 .job) in omega arith) (λ c. search needs) loop-again returns)
+    Inv-loop μ-loop (λ c. let w = sizes (c .before .before .before .pre .0 .job) in omega arith) loop-holds exit-time-requires (λ c κs. search needs)
+    add-t (λ c. search needs) loop-again returns)

@@ -1,113 +1,85 @@
--- x is the largest over the edges passed; the links lead through the others.
+-- x is the largest over the edges passed.
 use mathlib.Core.Path.{_≡_}
-use Prim.Native.Nat.{_≤_, _+_, _*_}
+use Prim.Native.Nat.{_≤_, _-_, _+_, _*_, max}
 use native.Mathlib.Omega.{arith}
 use borrow.Author.Needs.{needs}
+use mathlib.Core.Logic.{⊎-elim}
 use Rattle.definitions.specs.Lists.{nth}
+use Rattle.definitions.specs.Job.{outgoing}
 use Rattle.heads.specs.Layout.{levelAt}
+use Rattle.orders.specs.Edges.{edgeIn}
+use Rattle.orders.proofs.Walk.{Passed, pass-first, pass-at, pass-on}
+use Rattle.jobs.specs.Held.{jobIn}
 use Rattle.jobs.proofs.Held.{sizes}
 use Rattle.rounds.specs.Levels.{sent}
-use Rattle.rounds.specs.Walks.{edgeOf}
-use Rattle.rounds.proofs.LevelLaws.{Longest, longest-none, longest-leaves, longest-to, longest-message, longest-falls, longest-next, longest-done}
+use Rattle.rounds.proofs.Walks.{leaves-run}
+use Rattle.rounds.proofs.LevelLaws.{Longest, longest-none, longest-next, longest-done, Message, message}
 use Rattle.rounds.proofs.levels.longest_after.Statement.{statement}
 use Rattle.rounds.proofs.levels.longest_after.Tie as tie
 
 abbrev Inv-loop : tie.InvT-loop
-Inv-loop mem rooms t total level g x₀ k₀ x k = (x ≤ 133_714_329_600) × Longest rooms t mem x k
+Inv-loop mem links rooms t total level g x₀ k₀ k-end x k = Passed (g + k₀) (g + k-end) mem (outgoing (jobIn mem) t) (g + k) × (x ≤ 133_714_329_600) × Longest (sent rooms mem) (g + k₀) mem x (g + k)
 
 abbrev μ-loop : tie.MeasureT-loop
-μ-loop mem rooms t total level g x₀ k₀ x k = k
+μ-loop mem links rooms t total level g x₀ k₀ k-end x k = k-end - k
 
-shared-slice-read-k : tie.Need-shared-slice-read-k Inv-loop μ-loop
-shared-slice-read-k c = let s = sizes (c .before .before .before .pre .0) in omega (arith, s .size, s .tasks-most, c .before .before .before .pre .2)
+-- The edge at hand.
+here : (c : tie.In-loop Inv-loop μ-loop)
+    → let a = c .before .before .before .before .before .before .before .args in
+    Message (a .rooms) (a .total) (a .mem .now) (edgeIn (nth (a .mem .now) (c .before .before .before .before .edges-at .result + c .before .loop .k)))
+here c =
+    let pre = c .before .before .before .before .before .before .before .pre in
+    message (pre .0) (c .before .before .before .before .before .before .before .args .t) (pre .3) (pre .4) _ (pass-at (c .before .loop .inv .0) (omega (arith, c .loop-test .taken)))
 
 loop-holds : tie.Need-loop-holds Inv-loop μ-loop
-loop-holds c = (omega arith, longest-none (c .before .before .before .pre .0) (c .before .before .before .pre .1) (c .before .before .before .pre .2))
+loop-holds c =
+    let pre = c .before .before .before .before .before .pre in
+    let edges-at = c .before .before .edges-at in
+    (pass-first (leaves-run (pre .1) (pre .2) (edges-at .ensures) (c .leaving .ensures) .0), omega arith, longest-none)
 
-leaving-requires : tie.Need-leaving-requires Inv-loop μ-loop
-leaving-requires c κs = record { job = c .before .before .before .before .before .pre .0; place = c .before .before .before .edges-at .ensures; some = c .loop-test .taken; most = c .before .loop .inv .1 .most }
-
-mul-y : tie.Need-mul-y Inv-loop μ-loop
-mul-y c =
-    let pre = c .before .before .before .before .before .before .before .pre in
-    let loop = c .before .before .before .loop in
-    rw (c .before .leaving .ensures .volume-of) (omega (arith, longest-message (pre .0) (pre .1) (pre .2) (loop .inv .1) (c .before .before .loop-test .taken) (pre .3)))
+mul-y-2 : tie.Need-mul-y-2 Inv-loop μ-loop
+mul-y-2 c =
+    let start = c .before .before .before .before .before .before .before .before .before .before in
+    let s = sizes (start .pre .0) in omega (arith, here (c .before .before .before) .to-below, c .before .edge-to .ensures .0, s .size, s .tasks-most, start .good .0)
 
 shared-slice-read-y : tie.Need-shared-slice-read-y Inv-loop μ-loop
-shared-slice-read-y c = let s = sizes (c .before .before .before .before .before .before .before .before .pre .0) in omega (arith, c .before .before .leaving .ensures .to-below, s .size, s .tasks-most)
+shared-slice-read-y c =
+    let pre = c .before .before .before .before .before .before .before .before .before .before .before .pre in
+    let edge-to = c .before .before .edge-to in
+    let s = sizes (pre .0) in omega (arith, here (c .before .before .before .before) .to-below, edge-to .ensures .0, s .size, s .tasks-most)
 
 add-y-2 : tie.Need-add-y-2 Inv-loop μ-loop
 add-y-2 c =
-    let args = c .before .before .before .before .before .before .before .before .args in
-    let pre = c .before .before .before .before .before .before .before .before .pre in
-    let loop = c .before .before .before .before .loop in
-    let loop-test = c .before .before .before .loop-test in
-    let e = edgeOf (loop .k) (args .mem .now) in
-    rw (c .before .before .leaving .ensures .volume-of, c .before .before .leaving .ensures .to-of)
-    (omega (arith, longest-message (pre .0) (pre .1) (pre .2) (loop .inv .1) (loop-test .taken) (pre .3), pre .4 e (longest-leaves (pre .0) (pre .1) (pre .2) (loop .inv .1) (loop-test .taken))))
-
-loop-less : tie.Need-loop-less Inv-loop μ-loop
-loop-less c =
-    let pre = c .before .before .before .before .before .before .before .before .before .pre in
-    let loop = c .before .before .before .before .before .loop in
-    let loop-test = c .before .before .before .before .loop-test in
-    let leaving = c .before .before .before .leaving in
-    rw (leaving .ensures .next-of) (longest-falls (pre .0) (pre .1) (pre .2) (loop .inv .1) (loop-test .taken))
+    let edge-to = c .before .before .edge-to in
+    rw (c .before .edge-volume .ensures, edge-to .ensures .0) (omega (arith, here (c .before .before .before .before) .little, here (c .before .before .before .before) .level))
 
 loop-again : tie.Need-loop-again Inv-loop μ-loop
 loop-again c =
-    let args = c .before .before .before .before .before .before .before .before .before .args in
-    let pre = c .before .before .before .before .before .before .before .before .before .pre in
-    let loop = c .before .before .before .before .before .loop in
-    let loop-test = c .before .before .before .before .loop-test in
-    let leaving = c .before .before .before .leaving in
+    let args = c .before .before .before .before .before .before .before .before .before .before .before .before .args in
+    let edges-at = c .before .before .before .before .before .before .before .before .before .edges-at in
+    let loop-test = c .before .before .before .before .before .loop-test in
+    let edge-to = c .before .before .before .edge-to in
+    let edge-volume = c .before .before .edge-volume in
+    let h = here (c .before .before .before .before .before) in
+    let l = c .before .before .before .before .before .before .loop in
     let mem = args .mem .now in
-    let g = loop .inv .1 in
-    let h = loop-test .taken in
-    let f = leaving .ensures in
-    let e = edgeOf (loop .k) mem in
-    let y : leaving .result .volume * args .total + nth mem (levelAt (args .rooms) + leaving .result .to) ≡ sent (args .rooms) mem e = rw (f .volume-of, f .to-of, pre .3) in
-    let z : sent (args .rooms) mem e ≤ 133_714_329_600 =
-    rw (← pre .3) (omega (arith, longest-message (pre .0) (pre .1) (pre .2) g h (pre .3), pre .4 e (longest-leaves (pre .0) (pre .1) (pre .2) g h))) in (
-      omega (arith, y, z, loop .inv .0),
-      rw (f .next-of) (longest-next (pre .0) (pre .1) (pre .2) g h
-          (leaving .result .volume * args .total + nth mem (levelAt (args .rooms) + leaving .result .to)) (omega (arith, c .if1 .taken, y))),
+    let z = sent (args .rooms) mem (edgeIn (nth mem (edges-at .result + l .k))) in
+    let y : edge-volume .result * args .total + nth mem (levelAt (args .rooms) + edge-to .result) ≡ z = rw (edge-volume .ensures, edge-to .ensures .0) (h .sent-same) in
+    let x : c .if1 .x ≡ max z (l .x) = ⊎-elim (λ w. omega (arith, w, y)) (λ w. omega (arith, w, y)) (c .if1 .came) in (
+      pass-on (l .inv .0) (omega (arith, loop-test .taken)) _ (omega arith),
+      omega (arith, x, h .little, h .level, h .sent-same, l .inv .1),
+      longest-next (l .inv .2) (c .if1 .x) _ (omega arith) x,
     )
 
-loop-less-2 : tie.Need-loop-less-2 Inv-loop μ-loop
-loop-less-2 c =
-    let pre = c .before .before .before .before .before .before .before .before .before .pre in
-    let loop = c .before .before .before .before .before .loop in
-    let loop-test = c .before .before .before .before .loop-test in
-    let leaving = c .before .before .before .leaving in
-    rw (leaving .ensures .next-of) (longest-falls (pre .0) (pre .1) (pre .2) (loop .inv .1) (loop-test .taken))
-
-loop-again-2 : tie.Need-loop-again-2 Inv-loop μ-loop
-loop-again-2 c =
-    let args = c .before .before .before .before .before .before .before .before .before .args in
-    let pre = c .before .before .before .before .before .before .before .before .before .pre in
-    let loop = c .before .before .before .before .before .loop in
-    let loop-test = c .before .before .before .before .loop-test in
-    let leaving = c .before .before .before .leaving in
-    let mem = args .mem .now in
-    let g = loop .inv .1 in
-    let h = loop-test .taken in
-    let f = leaving .ensures in
-    let e = edgeOf (loop .k) mem in
-    let y : leaving .result .volume * args .total + nth mem (levelAt (args .rooms) + leaving .result .to) ≡ sent (args .rooms) mem e = rw (f .volume-of, f .to-of, pre .3) in
-    let z : sent (args .rooms) mem e ≤ 133_714_329_600 =
-    rw (← pre .3) (omega (arith, longest-message (pre .0) (pre .1) (pre .2) g h (pre .3), pre .4 e (longest-leaves (pre .0) (pre .1) (pre .2) g h))) in
-    (omega (arith, y, z, loop .inv .0), rw (f .next-of) (longest-next (pre .0) (pre .1) (pre .2) g h (loop .x) (omega (arith, c .if1 .left, y))))
-
 returns : tie.Need-returns Inv-loop μ-loop
-returns c =
-    let pre = c .before .before .before .before .before .pre in
-    (longest-done (pre .0) (pre .1) (pre .2) (c .before .loop .inv .1) (omega arith), omega (arith, c .before .loop .inv .0))
+returns c = (longest-done (c .before .loop .inv .0) (omega (arith, c .loop-test .left)) (c .before .loop .inv .2), omega (arith, c .before .loop .inv .1))
 
 pub longest-after-spec : {M : Type 1} → statement M
 longest-after-spec =
     tie.close
     (tie.spec
-    Inv-loop μ-loop (λ c. search needs) (λ c κs. (_, c .before .pre .0)) (λ c. search needs) (λ c. search needs) (λ c. search needs)
-    shared-slice-read-k loop-holds leaving-requires mul-y (λ c. search needs) (λ c. search needs) shared-slice-read-y add-y-2 loop-less loop-again
-    loop-less-2 loop-again-2 returns)
+    Inv-loop μ-loop (λ c. search needs) (λ c κs. (_, c .before .before .pre .0))
+    (λ c. let s = sizes (c .before .before .before .before .pre .0) in omega arith) (λ c κs. search needs) loop-holds (λ c. search needs)
+    (λ c. search needs) (λ c. search needs) (λ c κs. search needs) (λ c κs. search needs)
+    (λ c. rw (c .edge-volume .ensures) (omega (arith, here (c .before .before .before) .little))) (λ c. search needs) mul-y-2 shared-slice-read-y
+    add-y-2 (λ c. search needs) (λ c. search needs) loop-again returns)

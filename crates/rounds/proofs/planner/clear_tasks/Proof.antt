@@ -1,41 +1,63 @@
 -- The tasks passed are cleared, and nothing else changed.
-use mathlib.Core.Path.{_≡_, refl}
+use mathlib.Core.Path.{_≡_, refl, sym}
 use Prim.Native.Nat.{_≤_, _<_, _-_, _*_}
 use native.Mathlib.Omega.{arith}
 use borrow.Author.Needs.{needs}
 use lib.ListN.{length, length-set}
 use Rattle.definitions.specs.Lists.{nth}
 use Rattle.heads.specs.Layout.{memorySize, lineAt, rowAt}
+use Rattle.orders.proofs.Walk.{pass-length}
+use Rattle.jobs.specs.Held.{jobIn}
 use Rattle.lists.specs.Kept.{KeptOutside}
 use Rattle.rounds.specs.Planning.{Cleared}
 use Rattle.jobs.proofs.Held.{sizes}
 use Rattle.lists.proofs.Kept.{kept-all}
+use Rattle.rounds.proofs.Walks.{enters-run}
 use Rattle.rounds.proofs.OutsetLaws.{cleared-none, cleared-more, cleared-kept}
 use Rattle.rounds.proofs.planner.clear_tasks.Statement.{statement}
 use Rattle.rounds.proofs.planner.clear_tasks.Tie as tie
 
 abbrev Inv-loop : tie.InvT-loop
-Inv-loop mem₀ rooms level line blocked priorities v t₀ mem t = (t ≤ v) × ((v ≤ 255) × (v ≤ 8 * rooms)) × (length mem ≡ memorySize rooms) × KeptOutside (lineAt rooms) (rowAt rooms 0) mem₀ mem × Cleared rooms t mem
+Inv-loop mem₀ links rooms level line blocked priorities v t₀ mem t = (t ≤ v) × ((v ≤ 255) × (v ≤ 8 * rooms)) × (length mem ≡ memorySize rooms)
+    × KeptOutside (lineAt rooms) (rowAt rooms 0) mem₀ mem × Cleared rooms t (jobIn mem₀) mem
 
 abbrev μ-loop : tie.MeasureT-loop
-μ-loop mem₀ rooms level line blocked priorities v t₀ mem t = v - t
+μ-loop mem₀ links rooms level line blocked priorities v t₀ mem t = v - t
+
+loop-holds : tie.Need-loop-holds Inv-loop μ-loop
+loop-holds c = let w = sizes (c .before .before .before .pre .0) in (search needs, w .tasks-most, w .size, kept-all, cleared-none _ _)
+
+sub-mem : tie.Need-sub-mem Inv-loop μ-loop
+sub-mem c =
+    let pre = c .before .before .before .before .before .before .before .before .pre in
+    let loop-test = c .before .before .before .loop-test in
+    let entering = c .before .before .entering in
+    omega (arith, enters-run (pre .1) (loop-test .taken) (entering .ensures) .rises)
 
 loop-again : tie.Need-loop-again Inv-loop μ-loop
 loop-again c =
-    let l = c .before .before .loop in let h : l .t < 8 * c .before .before .before .before .args .rooms = omega arith in
-    (search needs, l .inv .1, simp length-set (l .inv .2), cleared-kept _ (l .mem) (l .t) _ h (l .inv .2) refl _ (l .inv .3), cleared-more _ (l .mem) (l .t) _ h (l .inv .2) refl (l .inv .4))
+    let start = c .before .before .before .before .before .before .before .before in
+    let l = c .before .before .before .before .loop in
+    let h : l .t < 8 * start .args .rooms = omega arith in
+    let r = enters-run (start .pre .1) (c .before .before .before .loop-test .taken) (c .before .before .entering .ensures) in (
+      search needs,
+      l .inv .1,
+      simp length-set (l .inv .2),
+      cleared-kept _ (jobIn (start .args .mem .now)) (l .mem) (l .t) _ _ h (l .inv .2) _ (l .inv .3),
+      cleared-more _ _ (l .mem) (l .t) _ _ h (l .inv .2) (sym (pass-length r)) refl (l .inv .4),
+    )
 
 returns : tie.Need-returns Inv-loop μ-loop
 returns c =
-    let l = c .before .loop in let e : l .t ≡ nth (c .before .before .before .args .mem .now) 0 = omega arith in
+    let l = c .before .loop in let e : l .t ≡ nth (c .before .before .before .before .before .args .mem .now) 0 = omega arith in
     (l .inv .3, rw (l .inv .3 .before 0 (omega arith), ← e) (l .inv .4))
 
 pub clear-tasks-spec : {M : Type 1} → statement M
 clear-tasks-spec =
     tie.close
     (tie.spec
-    Inv-loop μ-loop (λ c. search needs) (λ c. search needs) (λ c. search needs) (λ c. search needs) (λ c. omega (arith, sizes (c .before .pre)))
-    (λ c. let w = sizes (c .before .pre) in (search needs, w .tasks-most, w .size, kept-all, cleared-none _)) (λ c. search needs) (λ c. search needs)
-    (λ c. search needs) (λ c. search needs) (λ c. search needs) (λ c. search needs) (λ c. search needs) (λ c. search needs)
+    Inv-loop μ-loop (λ c. search needs) (λ c. search needs) (λ c. search needs) (λ c. search needs)
+    (λ c. omega (arith, sizes (c .before .before .before .pre .0))) loop-holds (λ c κs. search needs) (λ c. search needs) (λ c. search needs)
+    (λ c. search needs) (λ c. search needs) (λ c. search needs) (λ c. search needs) sub-mem (λ c. search needs) (λ c. search needs)
     (λ c. simp length-set (omega arith)) (λ c. search needs) (λ c. search needs) (λ c. simp length-set (omega arith)) (λ c. search needs)
     (λ c. search needs) loop-again (λ c. search needs) returns)

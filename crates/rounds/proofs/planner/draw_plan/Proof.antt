@@ -6,27 +6,28 @@ use native.Mathlib.Omega.{arith}
 use borrow.Author.Needs.{needs}
 use mathlib.Core.Logic.{⊎-elim}
 use Rattle.definitions.specs.Lists.{nth}
-use Rattle.heads.specs.Layout.{memorySize, jobSize, inHeadAt}
-use Rattle.jobs.specs.Held.{jobIn}
+use Rattle.heads.specs.Layout.{memorySize, jobSize, levelAt}
+use Rattle.jobs.specs.Held.{jobIn, LinksHeld}
 use Rattle.plans.specs.Lines.{placedIn}
 use Rattle.lists.specs.Kept.{KeptOutside}
-use Rattle.rounds.specs.Planning.{earliesIn, latesIn, FreeList, ClocksHeld, Drawn, Ranked}
-use Rattle.jobs.proofs.Held.{processors-in, sizes}
+use Rattle.rounds.specs.Planning.{FreeList, Drawn, Ranked}
+use Rattle.rounds.specs.Clocks.{earliesIn, latesIn, ClocksHeld}
+use Rattle.jobs.proofs.Held.{processors-in, sizes, links-kept}
 use Rattle.lists.proofs.Kept.{same-before, kept-all, kept-then, kept-wider}
 use Rattle.rounds.proofs.ShortLaws.{delays-kept}
 use Rattle.rounds.proofs.FreeLaws.{free-few, last-best, free-out}
 use Rattle.rounds.proofs.Drawing.{drawn-choice, clocks-choice, listed-some}
-use Rattle.rounds.proofs.OutsetLaws.{outset-clocks}
+use Rattle.rounds.proofs.ClockLaws.{outset-clocks}
 use Rattle.rounds.proofs.planner.draw_plan.Statement.{statement}
 use Rattle.rounds.proofs.planner.draw_plan.Tie as tie
 
 abbrev Inv-loop : tie.InvT-loop
-Inv-loop mem₀ rooms v delays clocks₀ free₀ n₀ k₀ mem clocks free n k =
-    (k ≤ v) × (v ≡ nth mem 0) × KeptOutside (inHeadAt rooms) (memorySize rooms) mem₀ mem × Drawn rooms k mem × Ranked rooms [] mem
+Inv-loop mem₀ links rooms v delays clocks₀ free₀ n₀ k₀ mem clocks free n k =
+    (k ≤ v) × (v ≡ nth mem 0) × KeptOutside (levelAt rooms) (memorySize rooms) mem₀ mem × Drawn rooms k mem × Ranked rooms [] mem
     × ClocksHeld clocks (jobIn mem) (earliesIn rooms k mem) (latesIn rooms k mem) × FreeList rooms free n mem
 
 abbrev μ-loop : tie.MeasureT-loop
-μ-loop mem₀ rooms v delays clocks₀ free₀ n₀ k₀ mem clocks free n k = v - k
+μ-loop mem₀ links rooms v delays clocks₀ free₀ n₀ k₀ mem clocks free n k = v - k
 
 -- Some task is free while lines are left.
 some : (c : tie.In-loop Inv-loop μ-loop) → 0 < c .before .loop .n
@@ -35,6 +36,15 @@ some c = let l = c .before .loop in listed-some (l .inv .3) (omega (arith, c .lo
 -- The last of them is a task of the job.
 last-task : (c : tie.In-loop Inv-loop μ-loop) → nth (c .before .loop .free) (c .before .loop .n - 1) < nth (c .before .loop .mem) 0
 last-task c = let l = c .before .loop in l .inv .6 .tasks .task-of (l .n - 1) (omega (arith, some c))
+
+-- The links are the job's still.
+abbrev start : tie.In-loop Inv-loop μ-loop → tie.Start Inv-loop μ-loop
+start c = c .before .before .before .before .before .before .before .before .before .before .before .before .before .before .before .before
+
+links-here : (c : tie.In-loop Inv-loop μ-loop) → LinksHeld (c .before .loop .mem) (start c .args .links .now)
+links-here c =
+    let prepare = c .before .before .before .before .before .before .before .before .before .before .before .before .prepare in
+    links-kept (start c .pre .0) (kept-then (prepare .ensures .0) (c .before .loop .inv .2)) (omega arith) (start c .pre .1)
 
 list-free-requires : tie.Need-list-free-requires Inv-loop μ-loop
 list-free-requires c κs =
@@ -58,8 +68,7 @@ place-task-requires : tie.Need-place-task-requires Inv-loop μ-loop
 place-task-requires c κs =
     let prepare = c .before .before .before .before .before .before .before .before .before .before .before .before .before .before .prepare in
     let delay-table = c .before .before .before .before .before .before .before .before .before .delay-table in
-    let loop = c .before .before .before .loop in
-    let l = loop in (
+    let l = c .before .before .before .loop in (
       delays-kept (prepare .ensures .1 .standing .job) (same-before 0 (jobSize _) (l .inv .2) (omega arith)) (delay-table .ensures),
       l .inv .3,
       l .inv .4,
@@ -67,6 +76,7 @@ place-task-requires c κs =
           (arith, c .before .before .loop-test .taken, l .inv .1),
       last-best (l .inv .6) (some (c .before .before)),
       l .inv .5,
+      links-here (c .before .before),
     )
 
 release-requires : tie.Need-release-requires Inv-loop μ-loop
@@ -74,7 +84,8 @@ release-requires c κs =
     let l = c .before .before .before .before .before .before .before .before .loop in
     let p = c .before .before .before .before .place-task .ensures in
     let z : nth (c .before .before .before .before .place-task .last .0) 0 ≡ nth (l .mem) 0 = p .0 .before 0 (omega arith) in
-    ((l .k + 1, p .1), p .2, free-out (l .inv .6) (some (c .before .before .before .before .before .before .before)) (p .4) z, rw z (last-task (c .before .before .before .before .before .before .before)))
+    let turn = c .before .before .before .before .before .before .before in
+    ((l .k + 1, p .1), p .2, free-out (l .inv .6) (some turn) (p .4) z, rw z (last-task turn), links-kept (l .inv .3 .standing .job) (p .0) (omega arith) (links-here turn))
 
 add-k : tie.Need-add-k Inv-loop μ-loop
 add-k c =
@@ -89,7 +100,7 @@ loop-again c =
     let q = c .before .before .before .release .ensures in (
       omega (arith, c .before .before .before .before .before .before .before .before .before .before .before .loop-test .taken),
       l .inv .1 ∙ sym (q .0 .before 0 (omega arith) ∙ p .0 .before 0 (omega arith)),
-      kept-then (l .inv .2) (kept-then (kept-wider (inHeadAt _) (memorySize _) (p .0) (omega arith) (omega arith)) (kept-wider (inHeadAt _) (memorySize _) (q .0) (omega arith) (omega arith))),
+      kept-then (l .inv .2) (kept-then (kept-wider (levelAt _) (memorySize _) (p .0) (omega arith) (omega arith)) (kept-wider (levelAt _) (memorySize _) (q .0) (omega arith) (omega arith))),
       drawn-choice (q .0) (p .1) (omega arith) (omega arith),
       q .1,
       clocks-choice (q .0) (p .1) (p .3),
@@ -103,7 +114,8 @@ returns : tie.Need-returns Inv-loop μ-loop
 returns c =
     let l = c .before .loop in
     let k = c .before .before .before .before .before .before .before .before .before .before .before .before .prepare .ensures .0 in
-    let e : l .k ≡ nth (c .before .before .before .before .before .before .before .before .before .before .before .before .before .before .before .args .mem .now) 0 = omega (arith, k .before 0 (omega arith)) in
+    let args = c .before .before .before .before .before .before .before .before .before .before .before .before .before .before .before .before .args in
+    let e : l .k ≡ nth (args .mem .now) 0 = omega (arith, k .before 0 (omega arith)) in
     (kept-then k (l .inv .2), rw (← e) (l .inv .3))
 
 pub draw-plan-spec : {M : Type 1} → statement M

@@ -1,20 +1,20 @@
 -- The line is what the definition places next.
-use mathlib.Core.Path.{_≡_}
-use Prim.Native.Nat.{_+_, _<_, _*_}
+use mathlib.Core.Path.{_≡_, _∙_}
+use Prim.Native.Nat.{_<_, _-_, _+_, _*_}
 use native.Mathlib.Omega.{arith}
-use borrow.Author.Needs.{needs}
-use lib.ListN.{length, length-set, set}
-use Rattle.heads.specs.Layout.{lineAt, rowAt}
+use lib.ListN.{length, set, length-set}
+use Rattle.heads.specs.Layout.{memorySize, lineAt, rowAt}
 use Rattle.jobs.proofs.Held.{sizes}
 use Rattle.rounds.proofs.Placed.{fed-all}
-use Rattle.rounds.proofs.Drawing.{clocks-short, fed-short, task-below, task-fed}
+use Rattle.rounds.proofs.Drawing.{task-below, task-fed}
 use Rattle.rounds.proofs.ClockLaws.{line-timed, clocks-line}
 use Rattle.rounds.proofs.NextLine.{laid, laid-kept, tried, taken, drawn-next, ranked-next, clocks-kept}
+use Rattle.rounds.proofs.Outcomes.{clocks-short, fed-short}
 use Rattle.rounds.proofs.planner.place_task.Statement.{statement}
 use Rattle.rounds.proofs.planner.place_task.Tie as tie
 
 -- The line and the task are within their tables.
-small : (c : tie.Start) → (c .args .k < 8 * c .args .rooms) × (c .args .t < 8 * c .args .rooms) × (length (c .args .mem .now) ≡ 505 * c .args .rooms)
+small : (c : tie.Start) → (c .args .k < 8 * c .args .rooms) × (c .args .t < 8 * c .args .rooms) × (length (c .args .mem .now) ≡ memorySize (c .args .rooms))
 small c =
     let p = c .pre in
     let w = sizes (p .1 .standing .job) in
@@ -22,60 +22,74 @@ small c =
 
 finishes-requires : tie.Need-finishes-requires
 finishes-requires c κs =
-    let s = c .before .before in
-    let p = s .pre in
-    let t = s .args .t in (
-      (s .args .k, p .1 .standing),
+    let args = c .before .before .before .args in
+    let p = c .before .before .before .pre in let t = args .t in (
+      (args .k, p .1 .standing),
       p .0,
       task-below (p .1) (p .3) (p .2) t (p .4),
-      fed-short (p .1 .standing) (omega arith) (p .1 .ticks) t
-          (fed-all (p .1 .standing) t (task-fed (p .1) (p .3) (p .2) t (p .4))),
+      fed-short (p .1 .standing) (omega arith) (p .1 .ticks) t (fed-all (p .1 .standing) t (task-fed (p .1) (p .3) (p .2) t (p .4))),
       clocks-short (p .1 .standing) (omega arith) (p .1 .ticks) (p .5),
+      p .6,
     )
 
 fill-line-requires : tie.Need-fill-line-requires
-fill-line-requires c κs = let s = c .before .before .before .before .before .before in let p = s .pre in tried (p .1) (p .3) (p .2) (s .args .t) (p .4) (p .5) (c .before .before .before .finishes .ensures)
+fill-line-requires c κs =
+    let p = c .before .before .before .before .before .before .before .pre in
+    tried (p .1) (p .3) (p .2) (c .before .before .before .before .before .before .before .args .t) (p .4) (p .5) (c .before .before .before .finishes .ensures)
+
+mul-mem : tie.Need-mul-mem
+mul-mem c = omega (arith, small (c .before .before .before .before .before .before .before .before .before .before .before), c .row-at .ensures)
 
 slice-write-mem : tie.Need-slice-write-mem
-slice-write-mem c = omega (arith, small (c .before .before .before .before .before .before .before .before .before), c .before .before .fill-line .ensures .kept .size)
+slice-write-mem c =
+    omega (
+      arith,
+      small (c .before .before .before .before .before .before .before .before .before .before .before),
+      c .row-at .ensures,
+      c .before .before .before .fill-line .ensures .kept .size,
+    )
 
-slice-write-mem-2 : tie.Need-slice-write-mem-2
-slice-write-mem-2 c = simp length-set (omega (arith, small (c .before .before .before .before .before .before .before .before .before), c .before .before .fill-line .ensures .kept .size))
-
-mul-advance-line : tie.Need-mul-advance-line
-mul-advance-line c = omega (arith, small (c .before .before .before .before .before .before .before .before .before .before))
-
-add-advance-line : tie.Need-add-advance-line
-add-advance-line c = omega (arith, small (c .before .before .before .before .before .before .before .before .before .before))
+put-line-requires : tie.Need-put-line-requires
+put-line-requires c κs =
+    simp length-set (omega (
+      arith,
+      small (c .before .before .before .before .before .before .before .before .before .before .before .before),
+      c .before .before .before .before .fill-line .ensures .kept .size,
+    ))
 
 advance-line-requires : tie.Need-advance-line-requires
 advance-line-requires c κs =
-    let p = c .before .before .before .before .before .before .before .before .before .before .pre in
-    let t = c .before .before .before .before .before .before .before .before .before .before .args .t in
-    let n = drawn-next (p .1) (p .3) (p .2) t (p .4) (laid (p .1) (p .3) (p .2) t (p .4) (c .before .before .before .fill-line .last .0) (c .before .before .before .fill-line .ensures)) in
-    line-timed (n .standing) (omega arith) (n .ticks) (c .before .before .before .before .before .before .before .before .before .before .args .k) (omega arith)
+    let args = c .before .before .before .before .before .before .before .before .before .before .before .before .before .before .before .before .args in
+    let fill-line = c .before .before .before .before .before .before .before .before .fill-line in
+    let p = c .before .before .before .before .before .before .before .before .before .before .before .before .before .before .before .before .pre in let t = args .t in
+    let n = drawn-next (p .1) (p .3) (p .2) t (p .4) (laid (p .1) (p .3) (p .2) t (p .4) (fill-line .last .0) (fill-line .ensures)) in
+    rw (c .before .before .before .put-line .ensures, c .before .before .before .before .before .row-at .ensures) (line-timed (n .standing) (omega arith) (n .ticks) (args .k) (omega arith))
+
+same-length : tie.Need-same-length
+same-length c =
+    rw (c .before .before .before .before .put-line .ensures) (simp length-set (c .before .before .before .before .before .before .before .before .before .fill-line .ensures .kept .size))
 
 returns : tie.Need-returns
 returns c =
-    let p = c .before .before .before .before .before .before .before .before .before .before .before .pre in
-    let a = c .before .before .before .before .before .before .before .before .before .before .before .args in
-    let t = c .before .before .before .before .before .before .before .before .before .before .before .args .t in
-    let d = c .before .before .before .before .fill-line .last .0 in
-    let b = c .before .before .before .before .fill-line .ensures in
+    let args = c .before .before .before .before .before .before .before .before .before .before .before .before .before .before .before .before .before .args in
+    let fill-line = c .before .before .before .before .before .before .before .before .before .fill-line in
+    let put-line = c .before .before .before .before .put-line in
+    let row-at = c .before .before .before .before .before .before .row-at in
+    let advance-line = c .advance-line in
+    let p = c .before .before .before .before .before .before .before .before .before .before .before .before .before .before .before .before .before .pre in let a = args in
+    let t = args .t in let d = fill-line .last .0 in let b = fill-line .ensures in
     let x = laid (p .1) (p .3) (p .2) t (p .4) d b in
     let e = set (set d (rowAt (a .rooms) (a .k)) t) (lineAt (a .rooms) + t) (a .k + 1) in
-    let r = clocks-line (a .rooms) (a .k) e (c .advance-line .result) (c .advance-line .ensures _ _ (clocks-kept (p .1) (p .3) (p .2) t (p .4) x (p .5))) in
+    let q : put-line .last .0 ≡ e = put-line .ensures ∙ rw (row-at .ensures) in
+    let v = rw (q, row-at .ensures) at (advance-line .ensures) in
+    let r = clocks-line (a .rooms) (a .k) e (advance-line .result) (v _ _ (clocks-kept (p .1) (p .3) (p .2) t (p .4) x (p .5))) in
+    rw q
     (laid-kept (p .1) (p .3) (p .2) t (p .4) d b, drawn-next (p .1) (p .3) (p .2) t (p .4) x, ranked-next (p .1) (p .3) (p .2) t (p .4) x, r, taken (p .1) (p .3) (p .2) t (p .4) x)
 
 pub place-task-spec : {M : Type 1} → statement M
 place-task-spec =
     tie.close
     (tie.spec
-    (λ c. search needs) (λ c. search needs) finishes-requires fill-line-requires
-    (λ c. omega (arith, small (c .before .before .before .before .before .before .before .before .before)))
-    (λ c. omega (arith, small (c .before .before .before .before .before .before .before .before .before)))
-    (λ c. omega (arith, small (c .before .before .before .before .before .before .before .before .before))) slice-write-mem
-    (λ c. omega (arith, small (c .before .before .before .before .before .before .before .before .before)))
-    (λ c. omega (arith, small (c .before .before .before .before .before .before .before .before .before)))
-    (λ c. omega (arith, small (c .before .before .before .before .before .before .before .before .before))) slice-write-mem-2 mul-advance-line
-    add-advance-line advance-line-requires (λ c. search needs) returns)
+    finishes-requires fill-line-requires
+    (λ c κs. omega (arith, small (c .before .before .before .before .before .before .before .before .before .before))) mul-mem slice-write-mem
+    put-line-requires advance-line-requires same-length returns)

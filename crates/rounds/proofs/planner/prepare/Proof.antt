@@ -1,52 +1,44 @@
 -- Each table is as it was left when the next is filled.
 use native.Mathlib.Omega.{arith}
 use borrow.Author.Needs.{needs}
-use Rattle.jobs.proofs.Held.{held-kept}
-use Rattle.lists.specs.Kept.{KeptOutside}
-use Rattle.lists.proofs.Kept.{kept-all}
-use Rattle.heads.specs.Layout.{inHeadAt, levelAt}
-use Rattle.jobs.specs.Held.{LinkedIn, LinkedOut}
+use Rattle.jobs.proofs.Held.{held-kept, links-kept}
 use Rattle.rounds.proofs.OutsetLaws.{outset-kept, outset, outset-counts}
 use Rattle.rounds.proofs.planner.prepare.Statement.{statement}
 use Rattle.rounds.proofs.planner.prepare.Tie as tie
 
+fill-levels-requires : tie.Need-fill-levels-requires
+fill-levels-requires c κs =
+    let pre = c .before .before .before .pre in
+    (pre .0, pre .1)
+
 fill-far-requires : tie.Need-fill-far-requires
-fill-far-requires c κs = held-kept (c .before .before .before .before .before .before .pre .0) (c .before .before .before .settle-levels .ensures .0) (omega arith)
+fill-far-requires c κs =
+    let pre = c .before .before .before .before .before .before .before .pre in
+    let fill-levels = c .before .before .before .fill-levels in
+    held-kept (pre .0) (fill-levels .ensures .0) (omega arith)
 
 clear-tasks-requires : tie.Need-clear-tasks-requires
 clear-tasks-requires c κs =
-    let pre = c .before .before .before .before .before .before .before .before .before .before .pre in
-    let settle-levels = c .before .before .before .before .before .before .before .settle-levels in
+    let pre = c .before .before .before .before .before .before .before .before .before .before .before .pre in
+    let fill-levels = c .before .before .before .before .before .before .before .fill-levels in
     let fill-far = c .before .before .before .fill-far in
-    held-kept (held-kept (pre .0) (settle-levels .ensures .0) (omega arith)) (fill-far .ensures .0) (omega arith)
-
-count-blocked-requires : tie.Need-count-blocked-requires
-count-blocked-requires c κs =
-    let pre = c .before .before .before .before .before .before .before .before .before .before .before .before .before .before .pre in
-    let settle-levels = c .before .before .before .before .before .before .before .before .before .before .before .settle-levels in
-    let fill-far = c .before .before .before .before .before .before .before .fill-far in
-    let clear-tasks = c .before .before .before .clear-tasks in
-    (held-kept (held-kept (held-kept (pre .0) (settle-levels .ensures .0) (omega arith)) (fill-far .ensures .0) (omega arith)) (clear-tasks .ensures .0) (omega arith), clear-tasks .ensures .1 .blocked)
+    let h = held-kept (pre .0) (fill-levels .ensures .0) (omega arith) in
+    (held-kept h (fill-far .ensures .0) (omega arith), links-kept h (fill-far .ensures .0) (omega arith) (links-kept (pre .0) (fill-levels .ensures .0) (omega arith) (pre .1)))
 
 returns : tie.Need-returns
 returns c =
-    let pre = c .before .before .before .before .before .before .before .before .before .before .before .before .before .before .before .before .before .pre in
-    let args = c .before .before .before .before .before .before .before .before .before .before .before .before .before .before .before .before .before .args in
-    let settle-levels = c .before .before .before .before .before .before .before .before .before .before .before .before .before .before .settle-levels in
-    let fill-far = c .before .before .before .before .before .before .before .before .before .before .fill-far in
-    let clear-tasks = c .before .before .before .before .before .before .clear-tasks in
+    let pre = c .before .before .before .before .before .before .before .before .before .before .before .before .before .before .pre in
+    let fill-levels = c .before .before .before .before .before .before .before .before .before .before .fill-levels in
+    let fill-far = c .before .before .before .before .before .before .fill-far in
+    let clear-tasks = c .before .before .clear-tasks in
     let h = pre .0 in
-    let d = args .mem .now in
-    let a : KeptOutside (inHeadAt (args .rooms)) (levelAt (args .rooms)) d d × LinkedIn (args .rooms) d × LinkedOut (args .rooms) d = (kept-all, pre .1, pre .2) in
-    let b = settle-levels .ensures in
+    let b = fill-levels .ensures in
     let k = fill-far .ensures in
     let e = clear-tasks .ensures in
-    let f = c .before .before .count-blocked .ensures in
-    (outset-kept h a b k e f, outset h a b k e f, outset-counts h a b k e f)
+    (outset-kept h b k e, outset h b k e, outset-counts h b k e)
 
 pub prepare-spec : {M : Type 1} → statement M
 prepare-spec =
     tie.close
     (tie.spec
-    (λ c κs. (c .before .before .pre .0, c .before .before .pre .2)) fill-far-requires clear-tasks-requires count-blocked-requires (λ c. search needs)
-    returns)
+    fill-levels-requires fill-far-requires clear-tasks-requires (λ c. search needs) returns)

@@ -1,67 +1,89 @@
--- The edges from link k on are still counted, and the free tasks are listed.
+-- The edges in the cells before k are still counted, and the free tasks are listed.
 use mathlib.Core.Path.{sym, _∙_}
-use Prim.Native.Nat.{ℕ}
+use Prim.Native.Nat.{ℕ, _≤_, _-_, _+_}
 use native.Mathlib.Omega.{arith}
 use borrow.Author.Needs.{needs}
 use Rattle.definitions.specs.Lists.{nth}
-use Rattle.jobs.proofs.Held.{sizes, held-kept}
+use Rattle.definitions.specs.Job.{outgoing}
+use Rattle.orders.proofs.Walk.{passed, pass-none, Passed, pass-last, pass-back}
+use Rattle.jobs.specs.Held.{edgeAt, jobIn}
+use Rattle.jobs.proofs.Held.{sizes, links-kept}
 use Rattle.rounds.specs.Planning.{FreeList, Drawn, Releasing}
-use Rattle.rounds.proofs.ReleaseLaws.{release-first, release-done, release-falls, release-leaves, release-left}
+use Rattle.rounds.proofs.Walks.{leaves-run}
+use Rattle.rounds.proofs.ReleaseLaws.{release-first, release-done, release-next}
 use Rattle.rounds.proofs.planner.release.Statement.{statement}
 use Rattle.rounds.proofs.planner.release.Tie as tie
 
 abbrev Inv-loop : tie.InvT-loop
-Inv-loop mem₀ rooms t free₀ count g n₀ k₀ mem free n k = ((i : ℕ) × Drawn rooms i mem₀ × Releasing rooms i k mem₀ mem) × FreeList rooms free n mem
+Inv-loop mem₀ links rooms t free₀ count g n₀ start k₀ mem free n k = (Passed (g + start) (g + k₀) mem₀ (outgoing (jobIn mem₀) t) (g + k) × (g + k₀ ≤ edgeAt mem₀ (nth mem₀ 2)))
+    × ((i : ℕ) × Drawn rooms i mem₀ × Releasing rooms i (passed (g + start) (g + k) mem₀) mem₀ mem) × FreeList rooms free n mem
 
 abbrev μ-loop : tie.MeasureT-loop
-μ-loop mem₀ rooms t free₀ count g n₀ k₀ mem free n k = k
+μ-loop mem₀ links rooms t free₀ count g n₀ start k₀ mem free n k = k
 
-slice-read-k : tie.Need-slice-read-k Inv-loop μ-loop
-slice-read-k c = let s = sizes (c .before .before .before .before .before .pre .0 .1 .standing .job) in omega (arith, s .size, s .tasks-most, c .before .before .before .before .before .pre .3)
+slice-read-leaving : tie.Need-slice-read-leaving Inv-loop μ-loop
+slice-read-leaving c = let s = sizes (c .before .before .before .before .before .before .pre .0 .1 .standing .job) in omega arith
 
 loop-holds : tie.Need-loop-holds Inv-loop μ-loop
-loop-holds c = let p = c .before .before .before .before .before .pre in ((p .0 .0, p .0 .1, release-first (p .0 .1) (c .before .before .before .before .before .args .t) (p .3) (p .1)), p .2)
+loop-holds c =
+    let p = c .before .before .before .before .before .before .before .pre in
+    let (r, m) = leaves-run (p .4) (p .3) (c .before .before .edges-at .ensures) (c .leaving .ensures) in
+    ((pass-last r, m), (p .0 .0, p .0 .1, rw (r .edges) (release-first (p .0 .1) (p .1))), p .2)
 
-leaving-requires : tie.Need-leaving-requires Inv-loop μ-loop
-leaving-requires c κs = let (i, s, r) = c .before .before .loop .inv .0 in release-leaves s r (c .before .loop-test .taken) (c .before .before .before .before .edges-at .ensures)
+add-edge-to : tie.Need-add-edge-to Inv-loop μ-loop
+add-edge-to c =
+    let good = c .before .before .before .before .before .before .before .before .before .good in
+    omega (arith, c .before .loop .inv .0 .0 .most, c .before .loop .inv .0 .0 .within, good .0)
+
+mul-edge-to : tie.Need-mul-edge-to Inv-loop μ-loop
+mul-edge-to c =
+    let good = c .before .before .before .before .before .before .before .before .before .good in
+    omega (arith, c .before .loop .inv .0 .0 .most, c .before .loop .inv .0 .0 .within, c .loop-test .taken, good .0)
+
+slice-read-edge-to : tie.Need-slice-read-edge-to Inv-loop μ-loop
+slice-read-edge-to c =
+    let loop = c .before .before .loop in
+    omega (arith, loop .inv .0 .0 .most, loop .inv .0 .0 .within, c .before .loop-test .taken, loop .inv .1 .2 .kept .size)
 
 unblock-requires : tie.Need-unblock-requires Inv-loop μ-loop
 unblock-requires c κs =
-    let args = c .before .before .before .before .before .before .before .before .before .before .before .args in
+    let start = c .before .before .before .before .before .before .before .before .before .before .before .before .before in
+    let edges-at = c .before .before .before .before .before .before .before .before .edges-at in
     let loop = c .before .before .before .before .before .loop in
     let loop-test = c .before .before .before .before .loop-test in
-    let (i, s, r) = loop .inv .0 in
-    let h = loop-test .taken in
-    ((args .mem .now, i, loop .k, record { drawn = s; releasing = r; some = h; enters = release-left s r h (c .before .before .leaving .ensures) .0 }), loop .inv .1)
-
-loop-less : tie.Need-loop-less Inv-loop μ-loop
-loop-less c =
-    let loop = c .before .before .before .before .before .before .before .before .before .before .loop in
-    let loop-test = c .before .before .before .before .before .before .before .before .before .loop-test in
-    let leaving = c .before .before .before .before .before .before .before .leaving in
-    let (i, s, r) = loop .inv .0 in let h = loop-test .taken in omega (arith, release-left s r h (leaving .ensures) .1, release-falls s r h)
+    let edge-to = c .before .before .edge-to in
+    let ((w, m), (i, s, r), l) = loop .inv in
+    let h = loop-test .taken in (
+      (start .args .mem .now, i, _, _, release-next (start .args .t) s w r m (edges-at .result + (loop .k - 1)) (omega (arith, h)) (omega (arith, h)) _ (edge-to .ensures .0)),
+      l,
+      links-kept (s .standing .job) (r .kept) (omega arith) (start .pre .4),
+    )
 
 loop-again : tie.Need-loop-again Inv-loop μ-loop
 loop-again c =
-    let args = c .before .before .before .before .before .before .before .before .before .before .before .before .before .before .before .before .args in
+    let args = c .before .before .before .before .before .before .before .before .before .before .before .before .before .before .before .before .before .before .args in
+    let edges-at = c .before .before .before .before .before .before .before .before .before .before .before .before .before .edges-at in
     let loop = c .before .before .before .before .before .before .before .before .before .before .loop in
     let loop-test = c .before .before .before .before .before .before .before .before .before .loop-test in
-    let leaving = c .before .before .before .before .before .before .before .leaving in
+    let edge-to = c .before .before .before .before .before .before .before .edge-to in
     let unblock = c .before .before .before .before .unblock in
-    let (i, s, r) = loop .inv .0 in
+    let ((w, m), (i, s, r), l) = loop .inv in
     let h = loop-test .taken in
-    let (e, f) = release-left s r h (leaving .ensures) in
-    ((i, s, rw f (unblock .ensures .0 (args .mem .now) i (loop .k) (record { drawn = s; releasing = r; some = h; enters = e }))), unblock .ensures .1)
+    let v = release-next (args .t) s w r m (edges-at .result + (loop .k - 1)) (omega (arith, h)) (omega (arith, h)) _ (edge-to .ensures .0) in
+    ((pass-back w _ (omega (arith, h)) (omega (arith, h)), m), (i, s, unblock .ensures .0 _ i _ _ v), unblock .ensures .1)
 
 same-length-2 : tie.Need-same-length-2 Inv-loop μ-loop
-same-length-2 c = c .before .loop .inv .1 .tasks .size ∙ sym (c .before .before .before .before .before .before .before .pre .2 .tasks .size)
+same-length-2 c =
+    let pre = c .before .before .before .before .before .before .before .before .before .pre in
+    c .before .loop .inv .2 .tasks .size ∙ sym (pre .2 .tasks .size)
 
 returns : tie.Need-returns Inv-loop μ-loop
-returns c = let (i, s, r) = c .before .loop .inv .0 in (r .kept, release-done s r (omega arith), c .before .loop .inv .1)
+returns c = let (i, s, r) = c .before .loop .inv .1 in (r .kept, release-done s r (pass-none _ _ _ (omega (arith, c .loop-test .left))), c .before .loop .inv .2)
 
 pub release-spec : {M : Type 1} → statement M
 release-spec =
     tie.close
     (tie.spec
-    Inv-loop μ-loop (λ c κs. (_, c .before .before .before .pre .0 .1 .standing .job)) (λ c. search needs) (λ c. search needs) (λ c. search needs)
-    slice-read-k loop-holds leaving-requires unblock-requires loop-less loop-again (λ c. c .before .loop .inv .0 .2 .kept .size) same-length-2 returns)
+    Inv-loop μ-loop (λ c κs. (_, c .before .before .before .before .pre .0 .1 .standing .job)) slice-read-leaving (λ c κs. search needs) loop-holds
+    (λ c. search needs) add-edge-to mul-edge-to slice-read-edge-to (λ c κs. search needs) unblock-requires (λ c. search needs) loop-again
+    (λ c. c .before .loop .inv .1 .2 .kept .size) same-length-2 returns)

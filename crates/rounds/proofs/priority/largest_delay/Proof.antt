@@ -1,38 +1,55 @@
--- The greatest is that of the cells passed.
+-- The greatest is that of the processors passed.
 use mathlib.Core.Path.{_≡_, refl, ap, _∙_}
-use Prim.Native.Nat.{ℕ, _≤_, _-_, _+_}
+use mathlib.Core.Logic.{⊎-elim}
+use Prim.Native.Nat.{ℕ, _≤_, _-_}
 use native.Mathlib.Omega.{arith}
 use borrow.Author.Needs.{needs}
 use mathlib.Core.List.{map}
-use mathlib.Core.Logic.{⊎-elim}
-use Rattle.definitions.specs.Lists.{nth, countFrom, below, greatest}
+use Rattle.definitions.specs.Lists.{countFrom, below, greatest}
+use Rattle.definitions.specs.Job.{delay}
+use Rattle.definitions.specs.Planner.{largestDelay}
+use Rattle.jobs.specs.Held.{jobIn}
+use Rattle.jobs.proofs.Held.{sizes, processors-in}
 use Rattle.lists.proofs.Upward.{greatest-more}
 use Rattle.rounds.proofs.priority.largest_delay.Statement.{statement}
 use Rattle.rounds.proofs.priority.largest_delay.Tie as tie
 
 abbrev Inv-loop : tie.InvT-loop
-Inv-loop mem a m x₀ q₀ x q = (q ≤ m) × (x ≡ greatest (map (λ i. nth mem (a + i)) (below q)))
+Inv-loop mem p m x₀ q₀ x q = (q ≤ m) × (m ≤ 16) × (x ≡ greatest (map (delay (jobIn mem) p) (below q)))
 
 abbrev μ-loop : tie.MeasureT-loop
-μ-loop mem a m x₀ q₀ x q = m - q
+μ-loop mem p m x₀ q₀ x q = m - q
 
 loop-holds : tie.Need-loop-holds Inv-loop μ-loop
 unfolding greatest countFrom
-loop-holds c = (search needs, refl)
+loop-holds c = (search needs, sizes (c .before .before .pre .0 .1) .processors-most, refl)
+
+delay-requires : tie.Need-delay-requires Inv-loop μ-loop
+delay-requires c κs =
+    let pre = c .before .before .before .before .pre in
+    (pre .0, pre .1, c .loop-test .taken)
 
 loop-again : tie.Need-loop-again Inv-loop μ-loop
 loop-again c =
-    let a = c .before .before .before .before .args in let l = c .before .before .before .loop in let g = greatest-more (λ i. nth (a .mem .now) (a .a + i)) (l .q) in
-    ⊎-elim (λ w. (search needs, omega (arith, w .1, w .0 .taken))) (λ w. (search needs, omega (arith, w .1, w .0 .left))) (c .if1 .came)
+    let args = c .before .before .before .before .before .before .args in
+    let loop = c .before .before .before .loop in
+    let g = greatest-more (delay (jobIn (args .mem .now)) (args .p)) (loop .q) in
+    let e = c .before .delay .ensures .0 in
+    (search needs, loop .inv .1, ⊎-elim (λ w. omega (arith, w .1, w .0 .taken, e, g)) (λ w. omega (arith, w .1, w .0 .left, e, g)) (c .if1 .came))
 
 returns : tie.Need-returns Inv-loop μ-loop
+unfolding largestDelay
 returns c =
-    let a = c .before .before .args in let l = c .before .loop in
-    let e : l .q ≡ a .m = omega arith in
-    l .inv .1 ∙ ap (λ (k : ℕ). greatest (map (λ i. nth (a .mem .now) (a .a + i)) (below k))) e
+    let args = c .before .before .before .before .args in
+    let loop = c .before .loop in
+    let j = jobIn (args .mem .now) in
+    let e : loop .q ≡ j .processors = omega (arith, processors-in (args .mem .now)) in
+    loop .inv .2 ∙ ap (λ (k : ℕ). greatest (map (delay j (args .p)) (below k))) e
 
 pub largest-delay-spec : {M : Type 1} → statement M
 largest-delay-spec =
     tie.close
     (tie.spec
-    Inv-loop μ-loop loop-holds (λ c. search needs) (λ c. search needs) (λ c. search needs) (λ c. search needs) (λ c. search needs) loop-again returns)
+    Inv-loop μ-loop (λ c. let s = sizes (c .before .before .pre .0 .1) in omega arith) loop-holds delay-requires
+    (λ c. let s = sizes (c .before .before .before .before .before .before .pre .0 .1) in omega arith)
+    (λ c. let s = sizes (c .before .before .before .before .before .before .pre .0 .1) in omega arith) loop-again returns)

@@ -1,9 +1,8 @@
 -- x is the least over the replicas passed.
 use mathlib.Core.Path.{_≡_}
-use Prim.Native.Nat.{_≤_, _-_, _+_}
+use Prim.Native.Nat.{_≤_, _-_, _+_, min}
 use native.Mathlib.Omega.{arith}
 use borrow.Author.Needs.{needs}
-use Prim.Native.Nat.{min}
 use mathlib.Core.Logic.{⊎-elim}
 use Rattle.definitions.specs.Lists.{nth}
 use Rattle.definitions.specs.Times.{tick}

@@ -1,135 +1,93 @@
--- x is the largest over the edges passed; the links lead through the others.
-use mathlib.Core.Path.{sym, ap, _∙_}
-use Prim.Native.Nat.{_≤_}
+-- x is the largest time of the edges passed.
+use mathlib.Core.Path.{_≡_, refl, ap, _∙_}
+use Prim.Native.Nat.{_≤_, _-_, max}
 use native.Mathlib.Omega.{arith}
 use borrow.Author.Needs.{needs}
+use mathlib.Core.Logic.{⊎-elim}
+use Rattle.definitions.specs.Job.{incoming}
 use Rattle.definitions.specs.Times.{Time, later}
+use Rattle.orders.proofs.Walk.{Passed, pass-first, pass-at, pass-on}
 use Rattle.ticks.specs.Cells.{timeIn}
+use Rattle.jobs.specs.Held.{jobIn}
 use Rattle.jobs.proofs.Held.{sizes}
-use Rattle.rounds.specs.Walks.{edgeOf, Feeds}
-use Rattle.rounds.proofs.TimeLaws.{Gathering, gather-first, gather-edge, gather-falls, gather-next}
+use Rattle.rounds.proofs.Walks.{enters-run}
+use Rattle.rounds.proofs.TimeLaws.{feeds, Gathered, gather-first, gather-next}
 use Rattle.rounds.proofs.TopLaws.{spreads, feeds-sends, top-later, scale-most, top-most, top-one, top-scaled}
 use Rattle.rounds.proofs.priority.top_level.Statement.{statement}
 use Rattle.rounds.proofs.priority.top_level.Tie as tie
 
 abbrev Inv-loop : tie.InvT-loop
-Inv-loop mem rooms t g x₀ k₀ x k = (x ≤ 4296011520) × Gathering rooms (spreads rooms mem) t mem (timeIn x) k
+Inv-loop mem links rooms t x₀ k₀ k-end x k = Passed k₀ k-end links (incoming (jobIn mem) t) k × (x ≤ 4296011520) × Gathered (spreads rooms mem) k₀ links (timeIn x) k
 
 abbrev μ-loop : tie.MeasureT-loop
-μ-loop mem rooms t g x₀ k₀ x k = k
-
-shared-slice-read-k : tie.Need-shared-slice-read-k Inv-loop μ-loop
-shared-slice-read-k c = let s = sizes (c .before .before .before .pre .0 .1 .job) in omega (arith, s .size, s .tasks-most, c .before .before .before .pre .1)
+μ-loop mem links rooms t x₀ k₀ k-end x k = k-end - k
 
 loop-holds : tie.Need-loop-holds Inv-loop μ-loop
 loop-holds c =
-    let args = c .before .before .before .args in
-    let pre = c .before .before .before .pre in
-    (omega arith, gather-first (spreads (args .rooms) (args .mem .now)) (pre .0 .0) (args .t) (args .mem .now) (pre .0 .1) (pre .1))
+    let pre = c .before .before .before .before .pre in
+    (pass-first (enters-run (pre .1) (pre .2) (c .entering .ensures)), omega arith, gather-first)
 
-entering-requires : tie.Need-entering-requires Inv-loop μ-loop
-entering-requires c κs =
-    let pre = c .before .before .before .before .before .pre in
-    let args = c .before .before .before .before .before .args in
-    let edges-at = c .before .before .before .edges-at in
-    let g = c .before .loop .inv .1 in
-    let h = c .loop-test .taken in
-    record {
-      job = pre .0 .1 .job;
-      place = edges-at .ensures;
-      some = h;
-      most = g .most;
-      feeds = gather-edge (spreads (args .rooms) (args .mem .now)) (pre .0 .0) (args .t) (args .mem .now) (pre .0 .1) g h (pre .2);
-    }
+entering-requires-2 : tie.Need-entering-requires-2 Inv-loop μ-loop
+entering-requires-2 c κs =
+    let start = c .before .before .before .before .before .before .before in
+    let loop = c .before .before .loop in
+    (start .pre .0 .1 .job, feeds (start .pre .0 .0) (start .args .t) _ (start .args .mem .now) (start .pre .0 .1) (start .pre .3) (pass-at (loop .inv .0) (c .before .loop-test .taken)))
 
 spread-requires : tie.Need-spread-requires Inv-loop μ-loop
 spread-requires c κs =
-    let args = c .before .before .before .before .before .before .before .args in
-    let pre = c .before .before .before .before .before .before .before .pre in
-    let loop = c .before .before .before .loop in
-    let f = gather-edge (spreads (args .rooms) (args .mem .now)) (pre .0 .0) (args .t) (args .mem .now) (pre .0 .1) (loop .inv .1) (c .before .before .loop-test .taken) (pre .2) in
-    (pre .0 .1 .job, rw (c .before .entering .ensures .row-of, c .before .entering .ensures .volume-of) (feeds-sends (pre .0 .1) (pre .0 .2) (pre .3) f))
-
-loop-less : tie.Need-loop-less Inv-loop μ-loop
-loop-less c =
-    let args = c .before .before .before .before .before .before .before .before .before .args in
-    let pre = c .before .before .before .before .before .before .before .before .before .pre in
-    let loop = c .before .before .before .before .before .loop in
-    let loop-test = c .before .before .before .before .loop-test in
-    let entering = c .before .before .before .entering in
-    rw (entering .ensures .next-of) (gather-falls (spreads (args .rooms) (args .mem .now)) (pre .0 .0) (args .t) (args .mem .now) (pre .0 .1) (loop .inv .1) (loop-test .taken))
+    let start = c .before .before .before .before .before .before .before .before .before in
+    let loop = c .before .before .before .before .loop in
+    let loop-test = c .before .before .before .loop-test in
+    let e = c .before .entering2 .ensures in
+    let f = feeds (start .pre .0 .0) (start .args .t) _ (start .args .mem .now) (start .pre .0 .1) (start .pre .3) (pass-at (loop .inv .0) (loop-test .taken)) in
+    (start .pre .0 .1 .job, rw (e .row-of, e .volume-of) (feeds-sends (start .pre .0 .1) (start .pre .0 .2) (start .pre .4) f))
 
 loop-again : tie.Need-loop-again Inv-loop μ-loop
 loop-again c =
-    let args = c .before .before .before .before .before .before .before .before .before .args in
-    let pre = c .before .before .before .before .before .before .before .before .before .pre in
-    let l = c .before .before .before .before .before .loop in
-    let loop-test = c .before .before .before .before .loop-test in
-    let entering = c .before .before .before .entering in
-    let y = c .before .spread .result in
-    let (f, g, h) = top-later (l .x) y (l .inv .0) (c .before .spread .ensures .1) in (
-      c .before .spread .ensures .1,
-      rw (entering .ensures .next-of) (gather-next (spreads (args .rooms) (args .mem .now)) (pre .0 .0) (args .t) (args .mem .now) (pre .0 .1) (l .inv .1) (loop-test .taken) (timeIn y)
-          (h (omega (arith, c .if1 .taken)) ∙ ap (λ (z : Time). later z (timeIn (l .x))) (sym f ∙ rw (entering .ensures .row-of, entering .ensures .volume-of) at (c .before .spread .ensures .0)))),
-    )
-
-loop-less-2 : tie.Need-loop-less-2 Inv-loop μ-loop
-loop-less-2 c =
-    let args = c .before .before .before .before .before .before .before .before .before .args in
-    let pre = c .before .before .before .before .before .before .before .before .before .pre in
-    let loop = c .before .before .before .before .before .loop in
-    let loop-test = c .before .before .before .before .loop-test in
-    let entering = c .before .before .before .entering in
-    rw (entering .ensures .next-of) (gather-falls (spreads (args .rooms) (args .mem .now)) (pre .0 .0) (args .t) (args .mem .now) (pre .0 .1) (loop .inv .1) (loop-test .taken))
-
-loop-again-2 : tie.Need-loop-again-2 Inv-loop μ-loop
-loop-again-2 c =
-    let args = c .before .before .before .before .before .before .before .before .before .args in
-    let pre = c .before .before .before .before .before .before .before .before .before .pre in
-    let l = c .before .before .before .before .before .loop in
-    let loop-test = c .before .before .before .before .loop-test in
-    let entering = c .before .before .before .entering in
-    let y = c .before .spread .result in
-    let (f, g, h) = top-later (l .x) y (l .inv .0) (c .before .spread .ensures .1) in (
-      l .inv .0,
-      rw (entering .ensures .next-of) (gather-next (spreads (args .rooms) (args .mem .now)) (pre .0 .0) (args .t) (args .mem .now) (pre .0 .1) (l .inv .1) (loop-test .taken) (timeIn (l .x))
-          (g (omega (arith, c .if1 .left)) ∙ ap (λ (z : Time). later z (timeIn (l .x))) (sym f ∙ rw (entering .ensures .row-of, entering .ensures .volume-of) at (c .before .spread .ensures .0)))),
+    let loop-test = c .before .before .before .before .before .loop-test in
+    let entering2 = c .before .before .before .entering2 in
+    let l = c .before .before .before .before .before .before .loop in
+    let e = entering2 .ensures in
+    let z : c .if1 .x ≡ max (c .before .spread .result) (l .x) = ⊎-elim (λ w. omega (arith, w)) (λ w. omega (arith, w)) (c .if1 .came) in
+    let (f, m) = top-later (l .x) (c .before .spread .result) (c .if1 .x) (l .inv .1) (c .before .spread .ensures .1) z in (
+      pass-on (l .inv .0) (loop-test .taken) _ refl,
+      m,
+      gather-next (l .inv .2) (timeIn (c .if1 .x)) (f ∙ ap (λ (u : Time). later u (timeIn (l .x))) (rw (e .row-of, e .volume-of) at (c .before .spread .ensures .0))),
     )
 
 shared-slice-read-m : tie.Need-shared-slice-read-m Inv-loop μ-loop
-shared-slice-read-m c = let s = sizes (c .before .before .before .before .before .before .pre .0 .1 .job) in omega (arith, s .size, s .tasks-most, c .before .before .before .before .before .before .pre .1)
+shared-slice-read-m c = let s = sizes (c .before .before .before .before .before .before .before .pre .0 .1 .job) in omega arith
 
 returns : tie.Need-returns Inv-loop μ-loop
 returns c =
-    let pre = c .before .before .before .before .before .before .before .pre in
+    let start = c .before .before .before .before .before .before .before .before in
     let loop = c .before .before .before .loop in
-    let l = loop in (top-one (pre .0 .0) (pre .0 .1) (l .inv .1) (omega arith) (l .inv .0) (c .if2 .taken), omega (arith, l .inv .0))
+    let loop-test = c .before .before .loop-test in
+    let (w, m, g) = loop .inv in (top-one (start .args .t) (start .pre .0 .1 .job) w (loop-test .left) g m (c .if2 .taken), omega (arith, m))
 
 sub-result : tie.Need-sub-result Inv-loop μ-loop
-sub-result c = omega (arith, sizes (c .before .before .before .before .before .before .before .pre .0 .1 .job) .some-processor)
+sub-result c = omega (arith, sizes (c .before .before .before .before .before .before .before .before .pre .0 .1 .job) .some-processor)
 
 mul-result : tie.Need-mul-result Inv-loop μ-loop
-mul-result c =
-    let pre = c .before .before .before .before .before .before .before .pre in
-    let loop = c .before .before .before .loop in
-    let l = loop in omega (arith, scale-most (pre .0 .0) (pre .0 .1) (l .inv .1) (omega arith) (l .inv .0))
+mul-result c = omega (arith, scale-most (c .before .before .before .before .before .before .before .before .pre .0 .1 .job))
 
 mul-result-2 : tie.Need-mul-result-2 Inv-loop μ-loop
 mul-result-2 c =
-    let pre = c .before .before .before .before .before .before .before .pre in
+    let pre = c .before .before .before .before .before .before .before .before .pre in
     let loop = c .before .before .before .loop in
-    let l = loop in omega (arith, top-most (pre .0 .0) (pre .0 .1) (l .inv .1) (omega arith) (l .inv .0))
+    omega (arith, top-most (pre .0 .1 .job) (loop .x) (loop .inv .1))
 
 returns-2 : tie.Need-returns-2 Inv-loop μ-loop
 returns-2 c =
-    let pre = c .before .before .before .before .before .before .before .pre in
+    let start = c .before .before .before .before .before .before .before .before in
     let loop = c .before .before .before .loop in
-    let l = loop in (top-scaled (pre .0 .0) (pre .0 .1) (l .inv .1) (omega arith) (l .inv .0) (c .if2 .left), top-most (pre .0 .0) (pre .0 .1) (l .inv .1) (omega arith) (l .inv .0))
+    let loop-test = c .before .before .loop-test in
+    let (w, m, g) = loop .inv in (top-scaled (start .args .t) (start .pre .0 .1 .job) w (loop-test .left) g m (c .if2 .left), top-most (start .pre .0 .1 .job) (loop .x) m)
 
 pub top-level-spec : {M : Type 1} → statement M
 top-level-spec =
     tie.close
     (tie.spec
-    Inv-loop μ-loop (λ c κs. (_, c .before .pre .0 .1 .job)) (λ c. search needs) (λ c. search needs) (λ c. search needs) shared-slice-read-k
-    loop-holds entering-requires (λ c. search needs) spread-requires loop-less loop-again loop-less-2 loop-again-2 shared-slice-read-m returns
-    sub-result mul-result mul-result-2 returns-2)
+    Inv-loop μ-loop (λ c. let s = sizes (c .before .before .before .pre .0 .1 .job) in omega arith) (λ c κs. search needs) loop-holds
+    (λ c. search needs) (λ c. search needs) entering-requires-2 (λ c. search needs) spread-requires (λ c. search needs) (λ c. search needs) loop-again
+    shared-slice-read-m returns sub-result mul-result mul-result-2 returns-2)

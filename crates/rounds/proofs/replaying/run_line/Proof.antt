@@ -1,148 +1,144 @@
 -- Replica by replica the outcomes are those of the walk.
-use Prim.Native.Nat.{_≤_, _<_, _-_, _+_, _*_}
+use mathlib.Core.Path.{_≡_}
+use Prim.Native.Nat.{ℕ, _≤_, _<_, _-_}
 use native.Mathlib.Omega.{arith}
 use borrow.Author.Needs.{needs}
-use borrow.Author.Tests.{lt-ltb}
+use lib.ListN.{length}
 use Rattle.definitions.specs.Lists.{nth}
-use Rattle.heads.specs.Layout.{jobSize, rowAt}
-use Rattle.jobs.proofs.Held.{Sizes, sizes, row-below}
+use borrow.Author.Tests.{lt-ltb}
+use Rattle.heads.specs.Layout.{rowAt, processorAt, replicaEnd}
+use Rattle.jobs.proofs.Held.{sizes}
 use Rattle.rounds.proofs.RunLaws.{LineRuns, LineStep, line-fed-short, line-first, line-step, line-next, line-done}
 use Rattle.rounds.proofs.replaying.run_line.Statement.{statement}
 use Rattle.rounds.proofs.replaying.run_line.Tie as tie
 
 abbrev Inv-loop : tie.InvT-loop
-Inv-loop mem₀ rooms delays k stops rows w a t b supplied after₀ c₀ mem after c = (c ≤ w) × LineRuns rooms k c stops (after .at) mem₀ mem
+Inv-loop mem₀ links rooms delays k stops w a t supplied runs after₀ c₀ mem after c =
+    (c ≤ w) × (w ≤ 8) × (a ≡ rowAt rooms k) × LineRuns rooms k c stops (after .at) mem₀ mem
 
 abbrev μ-loop : tie.MeasureT-loop
-μ-loop mem₀ rooms delays k stops rows w a t b supplied after₀ c₀ mem after c = w - c
+μ-loop mem₀ links rooms delays k stops w a t supplied runs after₀ c₀ mem after c = w - c
 
-held : (c : tie.Start Inv-loop μ-loop) → Sizes (c .args .rooms) (c .args .mem .now)
-held c = sizes (c .pre .1 .standing .job)
+-- Replica c of the line is in the memory.
+room : (c : tie.In-loop Inv-loop μ-loop) → replicaEnd (c .before .before .before .before .before .before .before .row-at .result) (c .before .loop .c) ≤ length (c .before .loop .mem)
+room c =
+    let p = c .before .before .before .before .before .before .before .before .before .before .before .before .pre in let i = c .before .loop .inv in
+    omega (arith, sizes (p .1 .standing .job), p .2, i .3 .retimed .outside .size, i .2, c .loop-test .taken)
 
--- The row of the task's run times is in the job.
-runs : (c : tie.Start Inv-loop μ-loop) → 4 + nth (c .args .mem .now) (rowAt (c .args .rooms) (c .args .k)) * (nth (c .args .mem .now) 1 + 1) + (0 + 1) < jobSize (c .args .rooms)
-runs c = let z = held c in row-below z (nth (c .args .mem .now) (rowAt (c .args .rooms) (c .args .k))) 0 (omega (arith, c .pre .1 .standing .task-of (c .args .k) (c .pre .2))) (omega arith)
+-- Its processor, and what is known of it.
+abbrev its : tie.After-replica-at Inv-loop μ-loop → ℕ
+its c =
+    let a = c .before .before .before .before .before .before .before .before .before .before .before .before .before .before .args in
+    nth (c .before .before .before .loop .mem) (processorAt (rowAt (a .rooms) (a .k)) (c .before .before .before .loop .c))
 
-abbrev start : tie.In-loop Inv-loop μ-loop → tie.Start Inv-loop μ-loop
-start c = c .before .before .before .before .before .before .before .before .before
+step : (c : tie.After-replica-at Inv-loop μ-loop) → LineStep (its c) (c .before .before .before .loop .after .at)
+    (c .before .before .before .before .before .before .before .before .before .before .before .before .before .before .args .mem .now)
+step c = let p = c .before .before .before .before .before .before .before .before .before .before .before .before .before .before .pre in
+    let l = c .before .before .before .loop in
+    line-step (c .before .before .before .before .before .before .before .before .before .before .before .before .before .before .args .k) (l .c) (l .inv .3) (p .1 .standing) (p .2)
+    (p .3) (c .before .before .loop-test .taken)
 
-step : (c : tie.In-loop Inv-loop μ-loop) → LineStep (start c .args .rooms) (nth (start c .args .mem .now) (rowAt (start c .args .rooms) (start c .args .k)))
-    (nth (c .before .loop .mem) (rowAt (start c .args .rooms) (start c .args .k) + (1 + 3 * c .before .loop .c))) (c .before .loop .after .at) (start c .args .mem .now) (c .before .loop .mem)
-step c = line-step (start c .args .k) (c .before .loop .c) (c .before .loop .inv .1) (start c .pre .1 .standing) (start c .pre .2) (start c .pre .3) (c .loop-test .taken)
+on : (c : tie.After-replica-at Inv-loop μ-loop) → c .replica-at .result .processor ≡ its c
+on c = rw (c .before .before .before .loop .inv .2) at (c .replica-at .ensures .0)
 
-add-b : tie.Need-add-b Inv-loop μ-loop
-add-b c = let z = held (c .before .before .before .before .before) in omega (arith, runs (c .before .before .before .before .before))
+below : (c : tie.After-replica-at Inv-loop μ-loop) → c .replica-at .result .processor < 16
+below c = rw (on c) (step c .below)
 
-mul-b : tie.Need-mul-b Inv-loop μ-loop
-mul-b c = let z = held (c .before .before .before .before .before) in omega (arith, runs (c .before .before .before .before .before))
+row-at-requires : tie.Need-row-at-requires Inv-loop μ-loop
+row-at-requires c κs =
+    let pre = c .before .before .before .before .pre in
+    omega (arith, sizes (pre .1 .standing .job), pre .2)
 
-add-b-2 : tie.Need-add-b-2 Inv-loop μ-loop
-add-b-2 c = let z = held (c .before .before .before .before .before) in omega (arith, runs (c .before .before .before .before .before))
+mul-t : tie.Need-mul-t Inv-loop μ-loop
+mul-t c =
+    let pre = c .before .before .before .before .before .pre in
+    omega (arith, sizes (pre .1 .standing .job), pre .2, c .row-at .ensures)
 
-add-b-3 : tie.Need-add-b-3 Inv-loop μ-loop
-add-b-3 c = let z = held (c .before .before .before .before .before) in omega (arith, runs (c .before .before .before .before .before))
+slice-read-t : tie.Need-slice-read-t Inv-loop μ-loop
+slice-read-t c =
+    let pre = c .before .before .before .before .before .before .pre in
+    omega (arith, sizes (pre .1 .standing .job), pre .2, c .before .row-at .ensures)
 
 first-data-requires : tie.Need-first-data-requires Inv-loop μ-loop
 first-data-requires c κs =
-    let a = c .before .before .before .before .before .before .args in
-    let p = c .before .before .before .before .before .before .pre in
-    ((_, p .1 .standing), p .0, p .1 .standing .task-of (a .k) (p .2), line-fed-short (a .k) (p .1) (p .2) (p .3))
+    let args = c .before .before .before .before .before .before .before .args in
+    let p = c .before .before .before .before .before .before .before .pre in
+    rw (c .before .before .row-at .ensures) ((_, p .1 .standing), p .5, p .0, p .1 .standing .task-of (args .k) (p .2), line-fed-short (args .k) (p .1) (p .2) (p .3))
+
+run-times-requires : tie.Need-run-times-requires Inv-loop μ-loop
+run-times-requires c κs =
+    let pre = c .before .before .before .before .before .before .before .before .before .pre in
+    rw (c .before .before .before .before .row-at .ensures) (
+      (_, pre .1 .standing .job),
+      pre .1 .standing .task-of
+          (c .before .before .before .before .before .before .before .before .before .args .k) (pre .2),
+    )
 
 loop-holds : tie.Need-loop-holds Inv-loop μ-loop
 loop-holds c =
-    let args = c .before .before .before .before .before .before .before .args in
-    let pre = c .before .before .before .before .before .before .before .pre in
-    (search needs, line-first (args .k) (args .stops .now) (pre .1))
-
-mul-p : tie.Need-mul-p Inv-loop μ-loop
-mul-p c = omega (arith, c .loop-test .taken, held (c .before .before .before .before .before .before .before .before .before) .losses-most)
-
-add-p : tie.Need-add-p Inv-loop μ-loop
-add-p c = omega (arith, c .loop-test .taken, held (c .before .before .before .before .before .before .before .before .before) .losses-most)
-
-add-p-2 : tie.Need-add-p-2 Inv-loop μ-loop
-add-p-2 c = let z = held (c .before .before .before .before .before .before .before .before .before) in omega arith
-
-mul-p-2 : tie.Need-mul-p-2 Inv-loop μ-loop
-mul-p-2 c = let z = held (c .before .before .before .before .before .before .before .before .before) in omega arith
-
-slice-read-p : tie.Need-slice-read-p Inv-loop μ-loop
-slice-read-p c = let z = held (c .before .before .before .before .before .before .before .before .before .before) in let y = c .before .before .loop .inv .1 .retimed .outside .size in omega arith
-
-slice-read-finish-of : tie.Need-slice-read-finish-of Inv-loop μ-loop
-slice-read-finish-of c =
-    let loop = c .before .before .before .before .loop in
-    let z = held (c .before .before .before .before .before .before .before .before .before .before .before .before) in
-    let y = loop .inv .1 .retimed .outside .size in
-    omega (arith, step (c .before .before .before) .run-below)
+    let pre = c .before .before .before .before .before .before .before .before .before .before .pre in
+    let args = c .before .before .before .before .before .before .before .before .before .before .args in
+    let z = sizes (pre .1 .standing .job) in (search needs, omega arith, c .before .before .before .before .before .row-at .ensures, line-first (args .k) (args .stops .now) (pre .1))
 
 finish-of-requires : tie.Need-finish-of-requires Inv-loop μ-loop
 finish-of-requires c κs =
-    let s = step (c .before .before .before) in
-    (s .ready-small, c .before .before .before .before .before .first-data .ensures .1 _ (s .processor) .1, s .run-most)
+    let s = step (c .before) in
+    rw (on (c .before)) (
+      s .ready-small,
+      c .before .before .before .before .before .before .before .first-data .ensures .1 _ (s .processor) .1,
+      c .before .before .before .before .before .run-times .ensures .most _ (s .processor),
+    )
 
-mul-mem : tie.Need-mul-mem Inv-loop μ-loop
-mul-mem c =
-    let loop-test = c .before .before .before .before .before .before .loop-test in
-    omega (arith, loop-test .taken, held (c .before .before .before .before .before .before .before .before .before .before .before .before .before .before .before) .losses-most)
-
-add-mem : tie.Need-add-mem Inv-loop μ-loop
-add-mem c =
-    let loop-test = c .before .before .before .before .before .before .loop-test in
-    omega (arith, loop-test .taken, held (c .before .before .before .before .before .before .before .before .before .before .before .before .before .before .before) .losses-most)
-
-add-mem-2 : tie.Need-add-mem-2 Inv-loop μ-loop
-add-mem-2 c = let z = held (c .before .before .before .before .before .before .before .before .before .before .before .before .before .before .before) in omega arith
-
-mul-mem-2 : tie.Need-mul-mem-2 Inv-loop μ-loop
-mul-mem-2 c = let z = held (c .before .before .before .before .before .before .before .before .before .before .before .before .before .before .before) in omega arith
-
-slice-write-mem : tie.Need-slice-write-mem Inv-loop μ-loop
-slice-write-mem c =
-    let loop = c .before .before .before .before .before .before .before .loop in
-    let z = held (c .before .before .before .before .before .before .before .before .before .before .before .before .before .before .before) in let y = loop .inv .1 .retimed .outside .size in omega arith
+shared-slice-read-unless-stopped : tie.Need-shared-slice-read-unless-stopped Inv-loop μ-loop
+shared-slice-read-unless-stopped c =
+    omega (arith, below (c .before .before .before), c .before .before .before .before .before .before .before .before .before .before .before .before .before .before .before .before .before .pre .4)
 
 add-c : tie.Need-add-c Inv-loop μ-loop
 add-c c =
-    let loop-test = c .before .before .before .before .before .before .before .loop-test in
-    omega (arith, loop-test .taken, held (c .before .before .before .before .before .before .before .before .before .before .before .before .before .before .before .before) .losses-most)
+    omega (
+      arith,
+      c .before .before .before .before .before .before .before .before .before .before .before .loop-test .taken,
+      c .before .before .before .before .before .before .before .before .before .before .before .before .loop .inv .1,
+    )
 
 loop-again : tie.Need-loop-again Inv-loop μ-loop
 loop-again c =
-    let p = c .before .before .before .before .before .before .before .before .before .before .before .before .before .before .before .before .pre in
-    let args = c .before .before .before .before .before .before .before .before .before .before .before .before .before .before .before .before .args in
-    let first-data = c .before .before .before .before .before .before .before .before .before .first-data in
-    let l = c .before .before .before .before .before .before .before .before .loop in
-    let loop-test = c .before .before .before .before .before .before .before .loop-test in
-    let finish-of = c .before .before .before .finish-of in
-    let supplied = nth (first-data .result) (nth (l .mem) (rowAt (args .rooms) (args .k) + (1 + 3 * l .c))) in (
+    let here = c .before .before .before .before .before .before .before .before .before in
+    let row-at = here .before .before .before .before .before .before .before .before .before .row-at in
+    let first-data = here .before .before .before .before .before .before .first-data in
+    let run-times = here .before .before .before .before .run-times in
+    let finish-of = c .before .before .before .before .before .before .before .finish-of in
+    let unless-stopped = c .before .before .before .before .before .unless-stopped in
+    let a = here .before .before .before .before .before .before .before .before .before .before .before .before .before .before .args in
+    let l = c .before .before .before .before .before .before .before .before .before .before .before .before .loop in
+    let p = here .before .before .before .before .before .before .before .before .before .before .before .before .before .before .pre in
+    let s = step here in let q = on here in
+    let supplied = rw (row-at .ensures) at (first-data .ensures .1 _ (s .processor) .0) in
+    let run = rw (row-at .ensures) at (run-times .ensures .run _ (s .processor)) in
+    let x = rw q at (finish-of .ensures .0) in let y = rw q at (unless-stopped .ensures .0) in (
       search needs,
-      rw (c .advance .ensures, lt-ltb _ 16 (step (c .before .before .before .before .before .before .before) .below))
-          (line-next (args .k) (l .c) (l .inv .1) (p .1 .standing) (p .2) (p .3) (loop-test .taken) supplied (finish-of .result) (c .before .unless-stopped .result)
-          (first-data .ensures .1 _ (step (c .before .before .before .before .before .before .before) .processor) .0) (finish-of .ensures .0) (c .before .unless-stopped .ensures .0)
-          (c .before .unless-stopped .ensures .1)),
+      l .inv .1,
+      l .inv .2,
+      rw (c .before .before .before .put-early .ensures, c .advance .ensures, q, lt-ltb _ 16 (s .below), l .inv .2)
+          (line-next (a .k) (l .c) (l .inv .3) (p .1 .standing) (p .2) (p .3) (c .before .before .before .before .before .before .before .before .before .before .before .loop-test .taken)
+          (nth (first-data .result) (its here)) (nth (run-times .result) (its here)) (finish-of .result) (unless-stopped .result) supplied run x y (unless-stopped .ensures .1)),
     )
 
 returns : tie.Need-returns Inv-loop μ-loop
 returns c =
-    let pre = c .before .before .before .before .before .before .before .before .before .pre in
-    let args = c .before .before .before .before .before .before .before .before .before .args in
-    let l = c .before .loop in let p = pre in line-done (args .k) (l .c) (l .inv .1) (p .1 .standing) (p .2) (p .3) (omega arith)
+    let loop = c .before .loop in
+    let pre = c .before .before .before .before .before .before .before .before .before .before .before .before .pre in
+    line-done (c .before .before .before .before .before .before .before .before .before .before .before .before .args .k) (loop .c) (loop .inv .3) (pre .1 .standing) (pre .2) (pre .3)
+    (omega arith)
 
 pub run-line-spec : {M : Type 1} → statement M
 run-line-spec =
     tie.close
     (tie.spec
-    Inv-loop μ-loop (λ c. search needs) (λ c. let z = held (c .before .before .before) in omega arith)
-    (λ c. let z = held (c .before .before .before) in omega arith)
-    (λ c. omega (arith, c .before .before .before .pre .2, held (c .before .before .before) .tasks-most .0))
-    (λ c. let z = held (c .before .before .before) in omega arith)
-    (λ c. omega (arith, c .before .before .before .pre .2, held (c .before .before .before) .tasks-most .0))
-    (λ c. let z = held (c .before .before .before .before) in omega arith)
-    (λ c. let z = held (c .before .before .before .before .before) in omega arith) add-b mul-b add-b-2 add-b-3 first-data-requires loop-holds mul-p
-    add-p add-p-2 mul-p-2 slice-read-p (λ c. omega (arith, step (c .before) .below)) (λ c. omega (arith, step (c .before) .below))
-    (λ c. omega (arith, step (c .before .before) .below)) (λ c. omega (arith, step (c .before .before) .below))
-    (λ c. omega (arith, step (c .before .before) .run-below)) (λ c. omega (arith, step (c .before .before) .run-below)) slice-read-finish-of
-    finish-of-requires (λ c. omega (arith, step (c .before .before .before .before) .below))
-    (λ c. omega (arith, step (c .before .before .before .before .before) .below)) (λ c κs. search needs) mul-mem add-mem add-mem-2 mul-mem-2
-    slice-write-mem (λ c κs. search needs) add-c (λ c. search needs) loop-again (λ c. c .before .loop .inv .1 .retimed .outside .size) returns)
+    Inv-loop μ-loop (λ c. let z = sizes (c .before .before .before .before .pre .1 .standing .job) in omega arith)
+    (λ c. let z = sizes (c .before .before .before .before .pre .1 .standing .job) in omega arith) row-at-requires mul-t slice-read-t
+    first-data-requires run-times-requires loop-holds (λ c κs. room (c .before)) (λ c. omega (arith, below (c))) (λ c. below (c))
+    (λ c. omega (arith, below (c .before))) (λ c. omega (arith, below (c .before))) (λ c. omega (arith, below (c .before)))
+    (λ c. omega (arith, below (c .before))) (λ c. search needs) finish-of-requires (λ c. omega (arith, below (c .before .before)))
+    shared-slice-read-unless-stopped (λ c κs. search needs) (λ c κs. room (c .before .before .before .before .before .before .before))
+    (λ c κs. search needs) add-c (λ c. search needs) loop-again (λ c. c .before .loop .inv .3 .retimed .outside .size) returns)

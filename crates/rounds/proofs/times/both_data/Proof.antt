@@ -1,79 +1,57 @@
+-- Each processor has the largest times of the edges passed.
+use mathlib.Core.Path.{refl}
+use Prim.Native.Nat.{_-_}
 use native.Mathlib.Omega.{arith}
 use borrow.Author.Needs.{needs}
+use Rattle.definitions.specs.Job.{incoming}
+use Rattle.orders.proofs.Walk.{Passed, pass-first, pass-at, pass-on}
+use Rattle.jobs.specs.Held.{jobIn}
 use Rattle.jobs.proofs.Held.{sizes}
-use Rattle.rounds.proofs.BothLaws.{BothGathering, both-first, both-edge, both-next, both-falls, both-done}
+use Rattle.rounds.proofs.Walks.{enters-run}
+use Rattle.rounds.proofs.TimeLaws.{feeds}
+use Rattle.rounds.proofs.BothLaws.{BothGathered, both-first, both-next, both-done}
 use Rattle.rounds.proofs.times.both_data.Statement.{statement}
 use Rattle.rounds.proofs.times.both_data.Tie as tie
 
 abbrev Inv-loop : tie.InvT-loop
-Inv-loop mem rooms delays t g early₀ late₀ k₀ early late k = BothGathering rooms t mem early late k
+Inv-loop mem links rooms delays t early₀ late₀ k₀ k-end early late k = Passed k₀ k-end links (incoming (jobIn mem) t) k × BothGathered rooms mem k₀ links early late k
 
 abbrev μ-loop : tie.MeasureT-loop
-μ-loop mem rooms delays t g early₀ late₀ k₀ early late k = k
-
-shared-slice-read-k : tie.Need-shared-slice-read-k Inv-loop μ-loop
-shared-slice-read-k c = let s = sizes (c .before .before .before .pre .0 .1 .job) in omega (arith, s .size, s .tasks-most, c .before .before .before .pre .2)
+μ-loop mem links rooms delays t early₀ late₀ k₀ k-end early late k = k-end - k
 
 loop-holds : tie.Need-loop-holds Inv-loop μ-loop
 loop-holds c =
-    let args = c .before .before .before .args in
-    let pre = c .before .before .before .pre in
-    both-first (pre .0 .0) (args .t) (args .mem .now) (pre .0 .1) (pre .2)
+    let pre = c .before .before .before .before .pre in
+    (pass-first (enters-run (pre .1) (pre .3) (c .entering .ensures)), both-first (sizes (pre .0 .1 .job) .processors-most))
 
-entering-requires : tie.Need-entering-requires Inv-loop μ-loop
-entering-requires c κs =
-    let pre = c .before .before .before .before .before .pre in
-    let args = c .before .before .before .before .before .args in
-    let edges-at = c .before .before .before .edges-at in
-    let g = c .before .loop .inv in
-    let h = c .loop-test .taken in
-    record {
-      job = pre .0 .1 .job;
-      place = edges-at .ensures;
-      some = h;
-      most = g .most;
-      feeds = both-edge (pre .0 .0) (args .t) (args .mem .now) (pre .0 .1) g h (pre .3) .0;
-    }
+entering-requires-2 : tie.Need-entering-requires-2 Inv-loop μ-loop
+entering-requires-2 c κs =
+    let start = c .before .before .before .before .before .before .before in
+    let loop = c .before .before .loop in
+    (start .pre .0 .1 .job, feeds (start .pre .0 .0) (start .args .t) _ (start .args .mem .now) (start .pre .0 .1) (λ e j. start .pre .4 e j .0) (pass-at (loop .inv .0) (c .before .loop-test .taken)))
 
 both-arrivals-requires : tie.Need-both-arrivals-requires Inv-loop μ-loop
 both-arrivals-requires c κs =
-    let pre = c .before .before .before .before .before .before .before .before .pre in
-    let args = c .before .before .before .before .before .before .before .before .args in
-    let loop = c .before .before .before .before .loop in
-    let loop-test = c .before .before .before .loop-test in
-    let g = loop .inv in
-    let e = c .before .before .entering .ensures in
-    let (f, b) = both-edge (pre .0 .0) (args .t) (args .mem .now) (pre .0 .1) g (loop-test .taken) (pre .3) in
-    ((_, pre .0 .1 .job), pre .1, rw (e .row-of) (f .row), omega (arith, e .within, sizes (pre .0 .1 .job) .size), rw (e .volume-of) (f .volume-most), rw (e .row-of) b, g .early-size, g .late-size)
-
-loop-less : tie.Need-loop-less Inv-loop μ-loop
-loop-less c =
-    let pre = c .before .before .before .before .before .before .before .before .before .pre in
-    let args = c .before .before .before .before .before .before .before .before .before .args in
+    let pre = c .before .before .before .before .before .before .before .before .before .before .pre in
     let loop = c .before .before .before .before .before .loop in
     let loop-test = c .before .before .before .before .loop-test in
-    let entering = c .before .before .before .entering in
-    rw (entering .ensures .next-of) (both-falls (pre .0 .0) (args .t) (args .mem .now) (pre .0 .1) (loop .inv) (loop-test .taken))
+    let entering2 = c .before .before .entering2 in
+    let e = entering2 .ensures in
+    let job = pre .0 .1 .job in
+    let (w, g) = loop .inv in
+    ((_, job), pre .2, e .held, omega (arith, e .within, job .size), e .little, rw (e .row-of) (pre .4 _ (pass-at w (loop-test .taken)) .1), g .early-size, g .late-size)
 
 loop-again : tie.Need-loop-again Inv-loop μ-loop
 loop-again c =
-    let pre = c .before .before .before .before .before .before .before .before .before .pre in
-    let args = c .before .before .before .before .before .before .before .before .before .args in
-    let loop = c .before .before .before .before .before .loop in
-    let loop-test = c .before .before .before .before .loop-test in
-    let entering = c .before .before .before .entering in
-    let e = entering .ensures in
-    rw (e .next-of) (both-next (pre .0 .0) (args .t) (args .mem .now) (pre .0 .1) (loop .inv) (loop-test .taken) _ _ (rw (e .row-of, e .volume-of) at (c .both-arrivals .ensures)))
-
-returns : tie.Need-returns Inv-loop μ-loop
-returns c =
-    let pre = c .before .before .before .before .before .pre in
-    let args = c .before .before .before .before .before .args in
-    both-done (pre .0 .0) (args .t) (args .mem .now) (pre .0 .1) (c .before .loop .inv) (omega arith)
+    let loop = c .before .before .before .before .before .before .loop in
+    let loop-test = c .before .before .before .before .before .loop-test in
+    let entering2 = c .before .before .before .entering2 in
+    let e = entering2 .ensures in (pass-on (loop .inv .0) (loop-test .taken) _ refl, both-next (loop .inv .1) (e .row-of) (e .volume-of) (c .both-arrivals .ensures))
 
 pub both-data-spec : {M : Type 1} → statement M
 both-data-spec =
     tie.close
     (tie.spec
-    Inv-loop μ-loop (λ c κs. (_, c .before .pre .0 .1 .job)) (λ c. search needs) (λ c. search needs) (λ c. search needs) shared-slice-read-k
-    loop-holds entering-requires both-arrivals-requires loop-less loop-again returns)
+    Inv-loop μ-loop (λ c. let s = sizes (c .before .before .before .pre .0 .1 .job) in omega arith) (λ c κs. search needs) loop-holds
+    (λ c. search needs) (λ c. search needs) entering-requires-2 both-arrivals-requires (λ c. search needs) (λ c. search needs) loop-again
+    (λ c. both-done (c .before .loop .inv .1) (c .before .loop .inv .0) (c .loop-test .left)))

@@ -1,19 +1,19 @@
 -- The row is read, then its rule is tried.
-use mathlib.Core.Path.{sym, ap, _∙_}
+use mathlib.Core.Path.{sym}
 use native.Mathlib.Omega.{arith}
 use borrow.Author.Needs.{needs}
 use lib.ListN.{take, drop}
 use lib.Seq.{length-take-le}
 use Rattle.definitions.specs.Limits.{document01}
 use Rattle.definitions.specs.Text.{line}
-use Rattle.text.specs.Told.{told}
-use Rattle.lines.proofs.LineLaws.{line-fits, ruled-bad, ruled-no, ruled-yes}
+use Rattle.lines.proofs.LineLaws.{line-told, ruled-bad, ruled-no, ruled-yes}
 use Rattle.rows.specs.Rows.{ruleOf}
 use Rattle.rows.proofs.row.read_row.Statement.{statement}
 use Rattle.rows.proofs.row.read_row.Tie as tie
 
 slice-reshare-prefix-check-row : tie.Need-slice-reshare-prefix-check-row
-slice-reshare-prefix-check-row c = omega (arith, c .before .before .before .before .before .before .before .before .before .before .pre .1, c .before .before .before .before .before .read-line .kept .1 .1 .1 .1 .0)
+slice-reshare-prefix-check-row c =
+    omega (arith, c .before .before .before .before .before .before .before .before .before .before .pre .1, c .before .before .before .before .before .read-line .kept .1 .1 .1 .1 .0)
 
 slice-aggregate-check-row : tie.Need-slice-aggregate-check-row
 slice-aggregate-check-row c =
@@ -35,32 +35,29 @@ returns c =
     let a = c .before .before .before .before .before .before .before .before .before .before .before .before .before .args in
     let pre = c .before .before .before .before .before .before .before .before .before .before .before .before .before .pre in
     let read-line = c .before .before .before .before .before .before .before .before .read-line in
-    let p = c .before .before .before .before .p in
     λ seen l.
     let ys = read-line .last .1 .1 .1 .1 .0 in
-    let e = sym (read-line .ensures .0 ∙ line-fits _ _ _ _ (pre .1)) ∙ ap (told (a .s .now) (take (a .k) ys)) (p .given .1) in
-    ruled-no (line document01 (a .opening .now) (a .k)) (ruleOf (a .kind)) seen (drop (a .at) (a .s .now)) (take (a .k) ys) _ e _ (c .before .check-row .ensures seen l) (c .if1 .taken)
+    let e = line-told _ _ _ _ _ _ ys _ _ (read-line .ensures .0) (pre .1) (c .before .before .before .before .p .given .1) in
+    ruled-no (line document01 (a .opening .now) (a .k)) (ruleOf document01 (a .kind)) seen (drop (a .at) (a .s .now)) (take (a .k) ys) _ e _ (c .before .check-row .ensures seen l) (c .if1 .taken)
 
 returns-2 : tie.Need-returns-2
 returns-2 c =
     let a = c .before .before .before .before .before .before .before .before .before .before .before .before .before .args in
     let pre = c .before .before .before .before .before .before .before .before .before .before .before .before .before .pre in
     let read-line = c .before .before .before .before .before .before .before .before .read-line in
-    let p = c .before .before .before .before .p in
     λ seen l.
     let ys = read-line .last .1 .1 .1 .1 .0 in
-    let e = sym (read-line .ensures .0 ∙ line-fits _ _ _ _ (pre .1)) ∙ ap (told (a .s .now) (take (a .k) ys)) (p .given .1) in
-    ruled-yes (line document01 (a .opening .now) (a .k)) (ruleOf (a .kind)) seen (drop (a .at) (a .s .now)) (take (a .k) ys) _ e _ (c .before .check-row .ensures seen l) (c .if1 .left)
+    let e = line-told _ _ _ _ _ _ ys _ _ (read-line .ensures .0) (pre .1) (c .before .before .before .before .p .given .1) in
+    ruled-yes (line document01 (a .opening .now) (a .k)) (ruleOf document01 (a .kind)) seen (drop (a .at) (a .s .now)) (take (a .k) ys) _ e _ (c .before .check-row .ensures seen l) (c .if1 .left)
 
 returns-3 : tie.Need-returns-3
 returns-3 c =
     let a = c .before .before .before .before .before .before .before .before .before .before .args in
-    let pre = c .before .before .before .before .before .before .before .before .before .before .pre in
     let read-line = c .before .before .before .before .before .read-line in
     λ seen l.
     let ys = read-line .last .1 .1 .1 .1 .0 in
-    let e = sym (read-line .ensures .0 ∙ line-fits _ _ _ _ (pre .1)) ∙ ap (told (a .s .now) (take (a .k) ys)) (c .before .x .given .1) in
-    ruled-bad (line document01 (a .opening .now) (a .k)) (ruleOf (a .kind)) seen (drop (a .at) (a .s .now)) _ e
+    let e = line-told _ _ _ _ _ _ ys _ _ (read-line .ensures .0) (c .before .before .before .before .before .before .before .before .before .before .pre .1) (c .before .x .given .1) in
+    ruled-bad (line document01 (a .opening .now) (a .k)) (ruleOf document01 (a .kind)) seen (drop (a .at) (a .s .now)) _ e
 
 pub read-row-spec : {M : Type 1} → statement M
 read-row-spec =

@@ -18,7 +18,8 @@ abbrev μ-loop : tie.MeasureT-loop
 
 loop-again : tie.Need-loop-again Inv-loop μ-loop
 loop-again c =
-    (omega (arith, c .loop-test .taken, c .before .loop .inv .1), simp length-set (c .before .loop .inv .1), never-more (c .before .loop .stops) (c .before .loop .i) (c .loop-test .taken) (c .before .loop .inv .2))
+    let l = c .before .loop in
+    (omega (arith, c .loop-test .taken, l .inv .1), simp length-set (l .inv .1), never-more (l .stops) (l .i) (c .loop-test .taken) (l .inv .2))
 
 pub clear-spec : {M : Type 1} → statement M
 clear-spec =

@@ -1,41 +1,41 @@
-use mathlib.Core.Path.{_≡_, refl, sym, ap, _∙_}
+use mathlib.Core.Path.{_≡_, refl, sym, _∙_}
 use Prim.Native.Nat.{_-_}
 use native.Mathlib.Omega.{arith}
 use borrow.Author.Needs.{needs}
-use lib.ListN.{length, take, length-set}
-use Rattle.text.specs.Told.{told}
-use Rattle.lines.proofs.LineLaws.{line-fits}
+use lib.ListN.{length, length-set}
+use Rattle.definitions.specs.Limits.{document01}
+use Rattle.text.specs.Suited.{suited}
+use Rattle.lines.proofs.LineLaws.{line-told}
 use Rattle.stops.proofs.StopLaws.{StopsUpTo, stops-none, stops-end, stops-bad, stops-no, stops-shorter, stops-next}
 use Rattle.stops.proofs.stops.read_stop_lines.Statement.{statement}
 use Rattle.stops.proofs.stops.read_stop_lines.Tie as tie
 
 abbrev Inv-loop : tie.InvT-loop
-Inv-loop s m stops₀ line₀ least₀ p₀ t12 stops line least p = (length line ≡ 2) × (length stops ≡ length stops₀) × StopsUpTo s m p least stops
+Inv-loop s m stops₀ line₀ least₀ p₀ t12 stops line least p = (length line ≡ 2) × (length stops ≡ length stops₀) × StopsUpTo document01 s m p least stops
 
 abbrev μ-loop : tie.MeasureT-loop
 μ-loop s m stops₀ line₀ least₀ p₀ t12 stops line least p = length s - p
 
 loop-holds : tie.Need-loop-holds Inv-loop μ-loop
-loop-holds c = (search needs, refl, stops-none (c .before .before .args .s .now) (c .before .before .args .m) (c .before .before .args .stops .now) (c .before .before .pre .0) (c .before .before .pre .1))
+loop-holds c =
+    (search needs, refl, stops-none _ (c .before .before .args .s .now) (c .before .before .args .m) (c .before .before .args .stops .now) (c .before .before .pre .0) (c .before .before .pre .1))
 
 returns : tie.Need-returns Inv-loop μ-loop
 returns c =
-    let args = c .before .before .before .before .before .before .before .before .before .before .before .args in
     let loop = c .before .before .before .before .before .before .before .before .loop in
     let loop-test = c .before .before .before .before .before .before .before .loop-test in
     let read-line = c .before .before .before .before .read-line in
-    stops-bad (loop .inv .2) (loop-test .taken) _ (sym (read-line .ensures .0 ∙ line-fits (length (loop .line)) _ 2 _ (omega (arith, loop .inv .0)))
-    ∙ ap (told (args .s .now) (take 2 (read-line .last .1 .1 .1 .1 .0))) (c .before .x .given .1))
+    stops-bad (loop .inv .2) (loop-test .taken) _ (line-told _ (length (loop .line)) _ 2 _ _ (read-line .last .1 .1 .1 .1 .0) _ _ (read-line .ensures .0) (omega (arith, loop .inv .0))
+    (c .before .x .given .1))
 
 returns-2 : tie.Need-returns-2 Inv-loop μ-loop
 returns-2 c =
-    let args = c .before .before .before .before .before .before .before .before .before .before .before .before .before .args in
     let loop = c .before .before .before .before .before .before .before .before .before .before .loop in
     let loop-test = c .before .before .before .before .before .before .before .before .before .loop-test in
     let read-line = c .before .before .before .before .before .before .read-line in
     let next = c .before .before .before .next in
     let ys = read-line .last .1 .1 .1 .1 .0 in
-    let b = sym (read-line .ensures .0 ∙ line-fits (length (loop .line)) _ 2 _ (omega (arith, loop .inv .0))) ∙ ap (told (args .s .now) (take 2 ys)) (next .given .1) in
+    let b = line-told _ (length (loop .line)) _ 2 _ _ ys _ _ (read-line .ensures .0) (omega (arith, loop .inv .0)) (next .given .1) in
     stops-no (loop .inv .2) (loop-test .taken) ys (next .given .0 .0) b _ (c .if1 .taken) (c .before .check-stop .ensures .0)
 
 mul-stops : tie.Need-mul-stops Inv-loop μ-loop
@@ -44,35 +44,32 @@ mul-stops c = omega (arith, c .before .check-stop .ensures .1 (omega arith), c .
 slice-write-stops : tie.Need-slice-write-stops Inv-loop μ-loop
 slice-write-stops c =
     let pre = c .before .before .before .before .before .before .before .before .before .before .before .before .before .pre in
-    let loop = c .before .before .before .before .before .before .before .before .before .before .loop in
-    omega (arith, c .before .check-stop .ensures .1 (omega arith), pre .0, loop .inv .2 .size)
+    omega (arith, c .before .check-stop .ensures .1 (omega arith), pre .0, c .before .before .before .before .before .before .before .before .before .before .loop .inv .2 .size)
 
 add-least : tie.Need-add-least Inv-loop μ-loop
 add-least c = omega (arith, c .before .check-stop .ensures .1 (omega arith), c .before .before .before .before .before .before .before .before .before .before .before .before .before .pre .0)
 
 loop-less : tie.Need-loop-less Inv-loop μ-loop
 loop-less c =
-    let args = c .before .before .before .before .before .before .before .before .before .before .before .before .before .args in
     let loop = c .before .before .before .before .before .before .before .before .before .before .loop in
-    let loop-test = c .before .before .before .before .before .before .before .before .before .loop-test in
     let read-line = c .before .before .before .before .before .before .read-line in
     let next = c .before .before .before .next in
     let ys = read-line .last .1 .1 .1 .1 .0 in
-    let b = sym (read-line .ensures .0 ∙ line-fits (length (loop .line)) _ 2 _ (omega (arith, loop .inv .0))) ∙ ap (told (args .s .now) (take 2 ys)) (next .given .1) in
-    stops-shorter (loop .inv .2) (loop-test .taken) ys (next .given .0 .0) b
+    let b = line-told _ (length (loop .line)) _ 2 _ _ ys _ _ (read-line .ensures .0) (omega (arith, loop .inv .0)) (next .given .1) in
+    stops-shorter (loop .inv .2) (c .before .before .before .before .before .before .before .before .before .loop-test .taken) ys (next .given .0 .0) b
 
 loop-again : tie.Need-loop-again Inv-loop μ-loop
 loop-again c =
-    let args = c .before .before .before .before .before .before .before .before .before .before .before .before .before .args in
     let loop = c .before .before .before .before .before .before .before .before .before .before .loop in
     let loop-test = c .before .before .before .before .before .before .before .before .before .loop-test in
     let read-line = c .before .before .before .before .before .before .read-line in
     let next = c .before .before .before .next in
     let ys = read-line .last .1 .1 .1 .1 .0 in
-    let b = sym (read-line .ensures .0 ∙ line-fits (length (loop .line)) _ 2 _ (omega (arith, loop .inv .0))) ∙ ap (told (args .s .now) (take 2 ys)) (next .given .1) in
-    let z : c .before .check-stop .result ≡ 0 = omega arith in
-    let k = c .before .check-stop .ensures .1 z in
-    (search needs, simp length-set (loop .inv .1), stops-next (loop .inv .2) (loop-test .taken) ys (next .given .0 .0) b (k .0) (k .1) (k .2) (λ j seen e f. sym z ∙ c .before .check-stop .ensures .0 j seen e f))
+    let b = line-told _ (length (loop .line)) _ 2 _ _ ys _ _ (read-line .ensures .0) (omega (arith, loop .inv .0)) (next .given .1) in
+    let check = c .before .check-stop in
+    let z : check .result ≡ 0 = omega arith in
+    let (k, t, o) = check .ensures .1 z in
+    (search needs, simp length-set (loop .inv .1), stops-next (loop .inv .2) (loop-test .taken) ys (next .given .0 .0) b suited k t o (λ j seen e f. sym z ∙ check .ensures .0 j seen e f))
 
 pub read-stop-lines-spec : {M : Type 1} → statement M
 read-stop-lines-spec =

@@ -1,0 +1,179 @@
+// The working memory for a job, chosen in one place for the three tools.
+ghost use mathlib.Core.Path.{_≡_};
+ghost use lib.ListN.{length, drop};
+ghost use Rattle.definitions.specs.Limits.{document01};
+ghost use Rattle.definitions.specs.Job.{readJob};
+ghost use Rattle.heads.specs.Heads.{headOf};
+ghost use Rattle.jobs.specs.Answers.{resultOf};
+ghost use Rattle.jobs.specs.Loading.{jobFrom};
+ghost use Rattle.rounds.specs.Verdicts.{refusalOf};
+ghost use Rattle.mirguneth.specs.Said.{doneOf, numbersOf, Answers};
+use heads::Head;
+use heads::Opening;
+use jobs::Answer;
+use rounds::Checked;
+
+// The planner, the checker or the replay.
+pub enum Tool {
+    Plan,
+    Check,
+    Replay,
+}
+
+// A tool's answer: so many bytes were written, by the checker none if it accepts the plan; or 12 with a task that has two replicas on
+// one processor; or another number.
+pub enum Said {
+    Done(usize),
+    Doubled(u8),
+    Refused(u64),
+}
+
+// The answer of the planner or the replay, as that of a tool.
+fn written(answer: Answer) -> Said
+    ensures { λ r. ⌜ doneOf r ≡ resultOf answer ⌝ }
+{
+    match answer {
+        Answer::Done(n) => Said::Done(n),
+        Answer::Refusal(x) => Said::Refused(x),
+    }
+}
+
+// The same as `plan` and `replay` give it.
+pub fn answer_of(said: Said) -> Answer
+    ensures { λ r. ⌜ resultOf r ≡ doneOf said ⌝ }
+{
+    match said {
+        Said::Done(n) => Answer::Done(n),
+        Said::Doubled(_) => Answer::Refusal(12),
+        Said::Refused(x) => Answer::Refusal(x),
+    }
+}
+
+// The checker's answer, as that of a tool.
+fn judged(answer: Checked) -> Said
+    ensures { λ r. ⌜ numbersOf r ≡ refusalOf answer ⌝ }
+{
+    match answer {
+        Checked::Accepted => Said::Done(0),
+        Checked::Doubled(t) => Said::Doubled(t),
+        Checked::Refused(x) => Said::Refused(x),
+    }
+}
+
+// The same as `check` gives it.
+pub fn checked_of(said: Said) -> Checked
+    ensures { λ r. ⌜ refusalOf r ≡ numbersOf said ⌝ }
+{
+    match said {
+        Said::Done(_) => Checked::Accepted,
+        Said::Doubled(t) => Checked::Doubled(t),
+        Said::Refused(x) => Checked::Refused(x),
+    }
+}
+
+// A tool's answer to texts, the head of the job's being read up to `at`, in a working memory of so many rooms.
+fn run(
+    tool: Tool,
+    job: &[u8],
+    at: usize,
+    head: Head,
+    plan: &[u8],
+    stops: &[u8],
+    mem: &mut [u64],
+    links: &mut [u64],
+    rooms: usize,
+    out: &mut [u8],
+) -> Said
+    ensures { λ r. ⌜ Answers tool (jobFrom rooms (length (now (mem .entry))) (length (now (links .entry))) (headOf head) (drop at (now (job .entry)))) (now (plan .entry))
+        (now (stops .entry)) (now (out .entry)) (now (out .exit)) r ⌝ }
+{
+    match tool {
+        Tool::Plan => written(rounds::plan_in(job, at, head, mem, links, rooms, out)),
+        Tool::Check => judged(rounds::check_in(job, at, head, plan, mem, links, rooms)),
+        Tool::Replay => written(rounds::replay_in(
+            job,
+            at,
+            head,
+            plan,
+            stops,
+            mem,
+            links,
+            rooms,
+            out,
+        )),
+    }
+}
+
+// A tool's answer to texts, in the smallest working memory that the job fits: 1, 2, 8 or 32 rooms, of 425 cells and 68 for links each.
+pub fn answer(tool: Tool, job: &[u8], plan: &[u8], stops: &[u8], out: &mut [u8]) -> Said
+    ensures { λ r. ⌜ Answers tool (readJob document01 (now (job .entry))) (now (plan .entry)) (now (stops .entry)) (now (out .entry)) (now (out .exit)) r ⌝ }
+{
+    match heads::read_head(job) {
+        Opening::Opened(head, at) => {
+            let rooms = heads::rooms_for(head);
+            if rooms == 1 {
+                let mut mem = [0u64; 425];
+                let mut links = [0u64; 68];
+                return run(
+                    tool,
+                    job,
+                    at,
+                    head,
+                    plan,
+                    stops,
+                    &mut mem,
+                    &mut links,
+                    1,
+                    out,
+                );
+            }
+            if rooms == 2 {
+                let mut mem = [0u64; 850];
+                let mut links = [0u64; 136];
+                return run(
+                    tool,
+                    job,
+                    at,
+                    head,
+                    plan,
+                    stops,
+                    &mut mem,
+                    &mut links,
+                    2,
+                    out,
+                );
+            }
+            if rooms == 8 {
+                let mut mem = [0u64; 3400];
+                let mut links = [0u64; 544];
+                return run(
+                    tool,
+                    job,
+                    at,
+                    head,
+                    plan,
+                    stops,
+                    &mut mem,
+                    &mut links,
+                    8,
+                    out,
+                );
+            }
+            let mut mem = [0u64; 13600];
+            let mut links = [0u64; 2176];
+            run(
+                tool,
+                job,
+                at,
+                head,
+                plan,
+                stops,
+                &mut mem,
+                &mut links,
+                32,
+                out,
+            )
+        }
+        Opening::Refused(x) => Said::Refused(x),
+    }
+}

@@ -1,0 +1,219 @@
+-- The replicas of a line in memory: their outcomes, the ticks by which they come, and the finishes after them.
+use mathlib.Core.Path.{_≡_, refl, ap, _∙_, sym}
+use mathlib.Core.Logic.{inl, inr, ⊎-elim}
+use mathlib.Core.List.{List, [], _∷_, _++_, map, map-append, reverse, reverseAux-append, append-nil, append-assoc}
+use mathlib.Core.Bool.{Bool, true, false}
+use Prim.Native.Nat.{ℕ, zero, suc, _+_, _*_, _-_, _<_, _≤_, max, min}
+use native.Mathlib.Omega.{arith}
+use borrow.Author.Tests.{eqb-true, eqb-false, ne-eqb}
+use lib.Dec.{eqb}
+use lib.ListN.{length}
+use Rattle.definitions.specs.Lists.{if_then_else_, In, nth, keep, distinct}
+use Rattle.definitions.specs.Job.{Edge, Job, runTime, incoming}
+use Rattle.definitions.specs.Plan.{Replica, Line, processorsOf}
+use Rattle.definitions.specs.Times.{tick, later, after, Outcome, ready, arrival, dataReady, start, stopTime, finish, Time, sooner, least, largest, outcome, ofTask, walk, copiesOf, copies, copyOf}
+use Rattle.definitions.specs.Planner.{tickOf}
+use Rattle.definitions.proofs.Ready.{first-ready}
+use Rattle.definitions.proofs.Lists.{map-same, in-append, append-left, append-right, apart-head}
+use Rattle.heads.specs.Layout.{lineAt, rowAt, processorAt, timeAt}
+use Rattle.jobs.specs.Held.{jobIn}
+use Rattle.ticks.specs.Cells.{neverCell, timeIn}
+use Rattle.plans.specs.Lines.{replicaIn, rowOutcomes, placedIn, rowReplicas, Standing}
+use Rattle.rounds.specs.Schedule.{choiceOf, dataIn, lineTicks, ShortTo}
+use Rattle.rounds.specs.Arrivals.{lastShort, BothFed, ShortClocks}
+use Rattle.ticks.specs.declared.clocks.Clocks.{Clocks}
+use Rattle.rounds.specs.Clocks.{earliesIn, latesIn, finishOn, ClocksHeld}
+use Rattle.jobs.proofs.Held.{processors-in, sizes}
+use Rattle.rounds.proofs.TimeLaws.{time-tick}
+use Rattle.rounds.proofs.Placed.{start-placed, FedBy}
+
+-- Replicas and their outcomes ---------------------------------------------------------------------------------------
+
+pub copies-more : (j : Job) (ns : List Line) (n : Line) → copies j (ns ++ n ∷ []) ≡ copies j ns ++ copiesOf j (n .task) (processorsOf n)
+unfolding copies
+copies-more j [] n = append-nil (copiesOf j (n .task) (processorsOf n))
+copies-more j (m ∷ ns) n =
+    rw (copies-more j ns n) (sym (append-assoc (copiesOf j (m .task) (processorsOf m)) (copies j ns) (copiesOf j (n .task) (processorsOf n))))
+
+other-task : (u : ℕ) (d : Outcome) (ds : List Outcome) → (d .task ≡ u → ⊥) → ofTask u (d ∷ ds) ≡ ofTask u ds
+unfolding ofTask keep
+other-task u d ds h = rw (ne-eqb (d .task) u h)
+
+module _ (j : Job) (choose : List Time → Time) where
+  -- The outcome of t on p after what is placed.
+  abbrev pub outcomeOn : List Outcome → ℕ → ℕ → Outcome
+  outcomeOn placed t p = outcome (copyOf j t p) (finish j choose [] placed (copyOf j t p))
+
+  -- A replica that does not feed t, on another processor, changes nothing for t on p.
+  finish-other : (placed : List Outcome) (d : Outcome) (t p : ℕ) → ((e : Edge) → In e (incoming j t) → d .task ≡ e .from → ⊥) → (d .processor ≡ p → ⊥)
+      → finish j choose [] (d ∷ placed) (copyOf j t p) ≡ finish j choose [] placed (copyOf j t p)
+  unfolding finish start dataReady arrival ready
+  finish-other placed d t p h n =
+      let a : map (arrival j choose (d ∷ placed) p) (incoming j t) ≡ map (arrival j choose placed p) (incoming j t) =
+      map-same (arrival j choose (d ∷ placed) p) (arrival j choose placed p) (incoming j t) (λ e i. rw (other-task (e .from) d placed (h e i))) in
+      rw (ne-eqb (d .processor) p n, a)
+
+  -- The copies of a task that does not feed itself, on different processors: each as if it were alone.
+  pub walk-apart : (t : ℕ) → ((e : Edge) → In e (incoming j t) → t ≡ e .from → ⊥) → (ps : List ℕ) → distinct ps ≡ true → (placed : List Outcome)
+      → walk j choose [] placed (copiesOf j t ps) ≡ map (outcomeOn placed t) ps
+  unfolding walk
+  walk-apart t h [] d placed = refl
+  walk-apart t h (p ∷ ps) d placed =
+      let (new, apart) = apart-head p ps d in
+      ap (outcomeOn placed t p ∷_)
+      (walk-apart t h ps apart (outcomeOn placed t p ∷ placed)
+      ∙ map-same (outcomeOn (outcomeOn placed t p ∷ placed) t) (outcomeOn placed t) ps
+      (λ q i. ap (outcome (copyOf j t q)) (finish-other placed (outcomeOn placed t p) t q h (λ e. new (rw (← e) at i)))))
+
+-- Times that come by a tick -----------------------------------------------------------------------------------------
+
+-- x is a tick that does not pass b.
+abbrev pub Comes : ℕ → Time → Type 0
+Comes b x = (y : ℕ) × (x ≡ tick y) × (y ≤ b)
+
+pub comes-wider : {b c : ℕ} {x : Time} → b ≤ c → Comes b x → Comes c x
+comes-wider h (y, e, l) = (y, e, omega arith)
+
+pub comes-after : {b : ℕ} {x : Time} (m n : ℕ) → n ≤ m → Comes b x → Comes (b + m) (after n x)
+comes-after m n h (y, e, l) = (y + n, rw e, omega arith)
+
+pub comes-later : {b : ℕ} {x y : Time} → Comes b x → Comes b y → Comes b (later x y)
+comes-later (x, e, l) (y, f, m) = (max x y, rw (e, f), omega arith)
+
+comes-sooner : {b : ℕ} {x y : Time} → Comes b x → Comes b y → Comes b (sooner x y)
+comes-sooner (x, e, l) (y, f, m) = (min x y, rw (e, f), omega arith)
+
+pub comes-largest : {A : Type 0} {b : ℕ} (f : A → Time) (xs : List A) → ((x : A) → In x xs → Comes b (f x)) → Comes b (largest (map f xs))
+unfolding largest
+comes-largest f [] h = (0, refl, omega arith)
+comes-largest f (x ∷ xs) h = comes-later (h x (inl refl)) (comes-largest f xs (λ y i. h y (inr i)))
+
+comes-least : {A : Type 0} {b : ℕ} (f : A → Time) (x : A) (xs : List A) → ((y : A) → In y (x ∷ xs) → Comes b (f y)) → Comes b (least (map f (x ∷ xs)))
+unfolding least
+comes-least f x [] h = let (y, e, l) = h x (inl refl) in (y, rw e, l)
+comes-least f x (z ∷ xs) h = comes-sooner (h x (inl refl)) (comes-least f z xs (λ y i. h y (inr i)))
+
+pub comes-choice : {A : Type 0} {b : ℕ} (late : Bool) (f : A → Time) (xs : List A) → 0 < length xs → ((x : A) → In x xs → Comes b (f x)) → Comes b (choiceOf late (map f xs))
+comes-choice late f [] h g = absurd (omega arith)
+comes-choice true f (x ∷ xs) h g = comes-largest f (x ∷ xs) g
+comes-choice false f (x ∷ xs) h g = comes-least f x xs g
+
+pub tick-back : {b : ℕ} {x : Time} → Comes b x → tick (tickOf x) ≡ x
+tick-back (y, e, l) = rw e
+
+pub tick-most : {b : ℕ} {x : Time} → Comes b x → tickOf x ≤ b
+tick-most (y, e, l) = rw e l
+
+pub in-replicas : (a n c : ℕ) (mem : List ℕ) → c < n → In (replicaIn a c mem) (rowReplicas a n mem)
+unfolding rowReplicas
+in-replicas a zero c mem h = absurd (omega arith)
+in-replicas a (suc n) c mem h = by (eqb c n) refl (in-replicas a n c mem)
+  where
+    by : (b : Bool) → eqb c n ≡ b → (c < n → In (replicaIn a c mem) (rowReplicas a n mem)) → In (replicaIn a c mem) (rowReplicas a n mem ++ replicaIn a n mem ∷ [])
+    by true e r = append-right (replicaIn a c mem) (rowReplicas a n mem) (replicaIn a n mem ∷ []) (rw (eqb-true c n e) (inl refl))
+    by false e r = let q = eqb-false c n e in append-left (replicaIn a c mem) (rowReplicas a n mem) (replicaIn a n mem ∷ []) (r (omega arith))
+
+-- The outcome of a line's replica, early or late.
+abbrev pub outcomeOf : Bool → ℕ → Replica → Outcome
+outcomeOf late t r = record { task = t; processor = r .processor; time = timeIn (if late then r .late else r .early) }
+
+pub outcomes-row : (late : Bool) (a c : ℕ) (mem : List ℕ) → rowOutcomes late a c mem ≡ reverse (map (outcomeOf late (nth mem a)) (rowReplicas a c mem))
+unfolding rowOutcomes rowReplicas
+outcomes-row late a zero mem = refl
+outcomes-row late a (suc c) mem =
+    let f = outcomeOf late (nth mem a) in
+    let xs = rowReplicas a c mem in
+    let r = replicaIn a c mem in
+    let back : reverse (map f (xs ++ r ∷ [])) ≡ f r ∷ reverse (map f xs) = rw (map-append f xs (r ∷ [])) (reverseAux-append (map f xs) (f r ∷ []) []) in
+    rw (back, outcomes-row late a c mem) (by late)
+  where
+    by : (late : Bool)
+        → _≡_ {A = List Outcome} (record { task = nth mem a; processor = nth mem (processorAt a c); time = timeIn (nth mem (timeAt late a c)) }
+        ∷ reverse (map (outcomeOf late (nth mem a)) (rowReplicas a c mem)))
+        (outcomeOf late (nth mem a) (replicaIn a c mem) ∷ reverse (map (outcomeOf late (nth mem a)) (rowReplicas a c mem)))
+    by true = refl
+    by false = refl
+
+-- The ticks of lines ------------------------------------------------------------------------------------------------
+
+-- Every outcome comes by a tick that does not pass b.
+abbrev pub AllCome : ℕ → List Outcome → Type 0
+AllCome b ds = (d : Outcome) → In d ds → Comes b (d .time)
+
+time-back : (x b : ℕ) → x ≤ b → b < neverCell → Comes b (timeIn x)
+time-back x b h g = (x, time-tick x (λ e. omega arith), h)
+
+pub row-come : (late : Bool) (a c b : ℕ) (mem : List ℕ) → b < neverCell → ((i : ℕ) → i < c → nth mem (timeAt late a i) ≤ b) → AllCome b (rowOutcomes late a c mem)
+unfolding rowOutcomes
+row-come late a (suc c) b mem g h d (inl e) = rw (← e) (time-back (nth mem (timeAt late a c)) b (h c (omega arith)) g)
+row-come late a (suc c) b mem g h d (inr i) = row-come late a c b mem g (λ i l. h i (omega arith)) d i
+
+pub placed-come : (rooms : ℕ) (late : Bool) (w k b : ℕ) (mem : List ℕ) → b < neverCell → ((i c : ℕ) → i < k → c < w → nth mem (timeAt late (rowAt rooms i) c) ≤ b)
+    → AllCome b (placedIn rooms late w k mem)
+unfolding placedIn
+placed-come rooms late w (suc k) b mem g h d i =
+    ⊎-elim (row-come late (rowAt rooms k) w b mem g (λ c l. h k c (omega arith) l) d) (placed-come rooms late w k b mem g (λ i c l m. h i c (omega arith) m) d)
+    (in-append d (rowOutcomes late (rowAt rooms k) w mem) (placedIn rooms late w k mem) i)
+
+pub ready-comes : (j : Job) (p b : ℕ) (ds : List Outcome) → AllCome b ds → Comes b (ready j p ds)
+unfolding ready
+ready-comes j p b [] h = (0, first-ready j p, omega arith)
+ready-comes j p b (d ∷ ds) h = by (eqb (d .processor) p) (ready-comes j p b ds (λ x i. h x (inr i)))
+  where
+    by : (a : Bool) → Comes b (ready j p ds) → Comes b (if a then d .time else ready j p ds)
+    by true r = h d (inl refl)
+    by false r = r
+
+pub row-length : (late : Bool) (a c : ℕ) (mem : List ℕ) → length (rowOutcomes late a c mem) ≡ c
+unfolding rowOutcomes
+row-length late a zero mem = refl
+row-length late a (suc c) mem = ap suc (row-length late a c mem)
+
+pub row-on : (late : Bool) (a c m : ℕ) (mem : List ℕ) → ((i : ℕ) → i < c → nth mem (processorAt a i) < m) → (d : Outcome) → In d (rowOutcomes late a c mem) → d .processor < m
+unfolding rowOutcomes
+row-on late a (suc c) m mem h d (inl e) = rw (← e) (h c (omega arith))
+row-on late a (suc c) m mem h d (inr i) = row-on late a c m mem (λ i l. h i (omega arith)) d i
+
+-- From the tick at which p is ready: the finish of t on p is that of the definition.
+pub finish-at : {rooms n k : ℕ} {mem : List ℕ} → Standing rooms n mem → k ≤ n → (late : Bool) (t p x : ℕ) → FedBy rooms k t mem
+    → tick x ≡ ready (jobIn mem) p (placedIn rooms late (nth mem 3 + 1) k mem)
+    → after (runTime (jobIn mem) t p) (later (tick x) (dataIn rooms late t p mem)) ≡ finishOn rooms late k mem t p
+unfolding finishOn finish stopTime
+finish-at {k = k} s l late t p x f e = rw (e, start-placed s k t l f late p)
+
+-- The first k lines have ticks that do not pass k times those of a line.
+module _ {rooms n k : ℕ} {mem : List ℕ} (s : Standing rooms n mem) (l : k ≤ n) (h : ShortTo rooms k mem) where
+  -- So they are short.
+  pub short-most : k * lineTicks ≤ lastShort
+  short-most = let w = sizes (s .job) in let c = s .count in omega arith
+
+  pub cells-most : (late : Bool) (i c : ℕ) → i < k → c < nth mem 3 + 1 → nth mem (timeAt late (rowAt rooms i) c) ≤ k * lineTicks
+  cells-most true i c g m = h i c g m .1
+  cells-most false i c g m = h i c g m .0
+
+  pub all-come : (late : Bool) → AllCome (k * lineTicks) (placedIn rooms late (nth mem 3 + 1) k mem)
+  all-come late = let f = short-most in placed-come rooms late (nth mem 3 + 1) k (k * lineTicks) mem (omega arith) (cells-most late)
+
+  -- A processor's ready tick.
+  clock-most : (late : Bool) (p x : ℕ) → tick x ≡ ready (jobIn mem) p (placedIn rooms late (nth mem 3 + 1) k mem) → x ≤ lastShort
+  clock-most late p x e =
+      let (y, f, m) = ready-comes (jobIn mem) p (k * lineTicks) (placedIn rooms late (nth mem 3 + 1) k mem) (all-come late) in
+      let q : x ≡ y = ap tickOf (e ∙ f) in
+      omega (arith, short-most)
+
+  -- The clocks have short ticks.
+  pub clocks-short : {clocks : Clocks} → ClocksHeld clocks (jobIn mem) (earliesIn rooms k mem) (latesIn rooms k mem) → ShortClocks clocks mem
+  clocks-short {clocks} c =
+      record {
+        early-size = c .early-size;
+        late-size = c .late-size;
+        early-short = λ p l. clock-most false p (nth (clocks .early) p) (c .early-ready p (rw (processors-in mem) l));
+        late-short = λ p l. clock-most true p (nth (clocks .late) p) (c .late-ready p (rw (processors-in mem) l));
+      }
+
+  -- The lines of a task's predecessors have short ticks.
+  pub fed-short : (t : ℕ) → FedBy rooms k t mem → BothFed rooms t mem
+  fed-short t f e i =
+      let (g, m) = f e i in
+      let b = short-most in
+      (g, λ c o. let (x, y) = h (nth mem (lineAt rooms + e .from) - 1) c (omega arith) o in (omega arith, omega arith))

@@ -1,0 +1,91 @@
+// The planner and the replay over a job in memory: what was found is rendered into an output, if it fits.
+ghost use mathlib.Core.Path.{_≡_};
+ghost use Prim.Native.Nat.{_≤_};
+ghost use lib.Dec.{leb};
+ghost use lib.ListN.{length};
+ghost use Rattle.definitions.specs.Lists.{nth};
+ghost use Rattle.definitions.specs.Limits.{document01};
+ghost use Rattle.definitions.specs.Plan.{planText};
+ghost use Rattle.definitions.specs.Replay.{replayText};
+ghost use Rattle.definitions.specs.Tools.{fitting, planned};
+ghost use Rattle.jobs.specs.Held.{jobIn, JobHeld, LinksHeld};
+ghost use Rattle.jobs.specs.Answers.{Answered};
+ghost use Rattle.plans.specs.Lines.{Standing};
+ghost use Rattle.plans.specs.Loading.{planIn, PlanHeld};
+ghost use Rattle.rounds.specs.Replaying.{outcomesIn, RisingIn, replayIn};
+use crate::ends;
+use crate::plan_text;
+use crate::planner;
+use crate::replaying;
+use crate::results;
+use heads::layout::BEST;
+use heads::layout::WORST;
+use jobs::Answer;
+use text::Step;
+
+// The plan in memory, which fits a text, fits an output of this size.
+fn plan_fits(mem: &[u64], rooms: usize, room: usize) -> bool
+    requires { ⌜ JobHeld rooms (now mem) × (length (planText document01 (jobIn (now mem)) (planIn rooms (now mem))) ≤ 65536) ⌝ }
+    ensures { λ r. ⌜ r ≡ leb (length (planText document01 (jobIn (now (mem .entry))) (planIn rooms (now (mem .entry))))) room ⌝ }
+{
+    if room >= 65536 {
+        return true;
+    }
+    let mut none = [0u8; 0];
+    plan_text::render(&mut none, mem, rooms) <= room
+}
+
+// Draws up the plan of the job in memory, and writes it into `out`, if it fits.
+pub fn put_plan(mem: &mut [u64], links: &[u64], rooms: usize, out: &mut [u8]) -> Answer
+    requires { ⌜ JobHeld rooms (now mem) × LinksHeld (now mem) (now links) ⌝ }
+    ensures { λ r. do ⌜ Answered (fitting (← ⟦out.len()⟧ .entry) (planned document01 (jobIn (now (mem .entry))))) (now (out .entry)) (now (out .exit)) r ⌝ }
+{
+    let best_at = BEST * rooms;
+    let worst_at = WORST * rooms;
+    planner::draw_plan(mem, links, rooms);
+    let best = ends::end_of(&mem[..], links, rooms, false);
+    let worst = ends::end_of(&mem[..], links, rooms, true);
+    mem[best_at] = best;
+    mem[worst_at] = worst;
+    if plan_fits(&mem[..], rooms, out.len()) {
+        return Answer::Done(plan_text::render(out, &mem[..], rooms));
+    }
+    Answer::Refusal(8)
+}
+
+// The replay's answer fits an output of this size; the longest has 5,113 bytes.
+fn replay_fits(mem: &[u64], links: &[u64], rooms: usize, room: usize) -> bool
+    requires { ⌜ Standing rooms (nth (now mem) 0) (now mem) × RisingIn rooms (now mem) × LinksHeld (now mem) (now links) ⌝ }
+    ensures { λ r. ⌜ r ≡ leb (length (replayText document01 (jobIn (now (mem .entry))) (outcomesIn rooms (now (mem .entry))))) room ⌝ }
+{
+    if room >= 5113 {
+        return true;
+    }
+    let mut none = [0u8; 0];
+    results::render(&mut none, mem, links, rooms) <= room
+}
+
+// Replays the plan in memory under the stops of a text, and writes the lines into `out`, if they fit.
+pub fn put_replay(
+    stops: &[u8],
+    mem: &mut [u64],
+    links: &[u64],
+    rooms: usize,
+    out: &mut [u8],
+) -> Answer
+    requires { ⌜ PlanHeld rooms (now mem) × LinksHeld (now mem) (now links) ⌝ }
+    ensures { λ r. do ⌜ Answered (replayIn rooms (now (mem .entry)) (now (stops .entry)) (← ⟦out.len()⟧ .entry)) (now (out .entry)) (now (out .exit)) r ⌝ }
+{
+    let mut cells = [0u64; 16];
+    let m = mem[1];
+    match stops::load_stops(stops, m, &mut cells) {
+        Step::Next(_) => {
+            replaying::run_round(mem, links, rooms, &cells);
+            if replay_fits(&mem[..], links, rooms, out.len()) {
+                return Answer::Done(results::render(out, &mem[..], links, rooms));
+            }
+            Answer::Refusal(8)
+        }
+        Step::Refused(x) => Answer::Refusal(x),
+    }
+}
