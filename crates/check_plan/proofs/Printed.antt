@@ -1,11 +1,6 @@
 -- What the check program prints: `OK`, or a line of at most two numbers.
-use mathlib.Core.Path.{_≡_}
-use mathlib.Core.List.{List, [], _∷_}
-use Prim.Native.Nat.{ℕ, _≤_}
-use native.Mathlib.Omega.{arith}
-use lib.ListN.{length}
-use Rattle.definitions.specs.Limits.{document01}
-use Rattle.definitions.specs.Tools.{Verdict, Says, checkPrinted}
+use Rattle.lists.proofs.Prelude.{_≡_, List, [], _∷_, ℕ, _≤_, arith, length, document01, Verdict, Says}
+use Rattle.definitions.specs.Tools.{checkPrinted}
 use Rattle.lists.specs.Over.{over}
 use Rattle.text.specs.Told.{written}
 use Rattle.console.proofs.Shown.{refusal-most, written-front}

@@ -1,13 +1,5 @@
 -- What a program prints stands at the front of its output, and the output's part that is printed holds it.
-use mathlib.Core.Path.{_≡_, ap, _∙_}
-use mathlib.Core.List.{List, [], _∷_}
-use Prim.Native.Nat.{ℕ, _+_, _*_, _%_, _^_, _≤_}
-use native.Mathlib.Omega.{arith}
-use lib.ListN.{length}
-use Rattle.definitions.specs.Lists.{bytes}
-use Rattle.definitions.specs.Limits.{document01}
-use Rattle.definitions.specs.Text.{Result, lineText}
-use Rattle.definitions.specs.Tools.{printed}
+use Rattle.lists.proofs.Prelude.{_≡_, ap, _∙_, List, [], _∷_, ℕ, _+_, _*_, _%_, _^_, _≤_, arith, length, bytes, document01, Result, lineText, printed}
 use Rattle.lists.specs.Over.{over}
 use Rattle.lists.proofs.Over.{length-over}
 use Rattle.text.specs.Told.{written}

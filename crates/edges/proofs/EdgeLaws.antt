@@ -1,20 +1,7 @@
 -- Edges in cells, their order, and the rule of an edge.
-use mathlib.Core.Path.{_≡_, refl, sym, _∙_}
-use mathlib.Core.List.{List, [], _∷_, _++_, map, map-append, getLast?}
-use mathlib.Core.Option.{none, some}
-use mathlib.Core.Bool.{Bool, true, false, not, _||_}
-use Prim.Native.Nat.{ℕ, _+_, _*_, _-_, _/_, _%_, _<_, _≤_}
-use native.Mathlib.Omega.{arith}
-use native.Mathlib.Numerals.{add-one}
+use Rattle.lists.proofs.Prelude.{_≡_, refl, sym, _∙_, List, [], _∷_, _++_, map, map-append, getLast?, none, some, Bool, true, false, not, _||_, ℕ, _+_, _*_, _-_, _/_, _%_, _<_, _≤_, arith, add-one, leb, ltb, length, take, drop, drop-of-length-le, take-suc, drop-cons, getD-take, eq-eqb, ne-eqb, lt-ltb, le-ltb, ltb-true, leb-true, le-leb, not-false, bytes, nth, any, Limits, found, refused, firstOf, line, return, Edge, outside, samePair, edgeOf, edgeLine, edgeRule, Ascends}
 use native.Mathlib.Nat.{div-div-eq-div-mul}
-use lib.Dec.{leb, ltb}
-use lib.ListN.{length, take, drop, drop-of-length-le}
-use lib.Seq.{take-suc, drop-cons, getD-take}
-use borrow.Author.Tests.{eq-eqb, ne-eqb, lt-ltb, le-ltb, ltb-true, leb-true, le-leb, not-false}
-use Rattle.definitions.specs.Lists.{bytes, nth, any}
-use Rattle.definitions.specs.Limits.{Limits}
-use Rattle.definitions.specs.Text.{found, refused, firstOf, line, return}
-use Rattle.definitions.specs.Job.{Edge, outside, samePair, smallerThanLast, edgeOf, edgeLine, edgeRule, edgeOrder, Ascends}
+use Rattle.definitions.specs.Job.{smallerThanLast, edgeOrder}
 use Rattle.definitions.proofs.Lists.{both, both-true, neither, inside, passed, none-in, last-in}
 use Rattle.definitions.proofs.Reading.{rule-found}
 use Rattle.definitions.proofs.EdgeOrder.{else-smaller, order-next, order-smaller, ascends-more}

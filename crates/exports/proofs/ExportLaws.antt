@@ -1,9 +1,5 @@
 -- The library's answers as numbers.
-use mathlib.Core.Path.{refl}
-use mathlib.Core.List.{List}
-use Prim.Native.Nat.{ℕ}
-use Rattle.definitions.specs.Text.{Result}
-use Rattle.definitions.specs.Tools.{Verdict}
+use Rattle.lists.proofs.Prelude.{refl, List, ℕ, Result, Verdict}
 use Rattle.jobs.specs.Answers.{Answered}
 use Rattle.rounds.specs.Verdicts.{Judged}
 use Rattle.jobs.specs.declared.Answer.the-variants.{Done, Refusal}

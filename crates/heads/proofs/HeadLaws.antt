@@ -1,16 +1,6 @@
 -- The rule of a job's head, and the stages from it on are the whole job.
-use mathlib.Core.Path.{_≡_, ap, _∙_, sym}
-use mathlib.Core.List.{List}
-use mathlib.Core.Bool.{Bool, true, false, _||_}
-use Prim.Native.Nat.{ℕ, suc, _+_, _-_, _<_, _≤_}
-use native.Mathlib.Omega.{arith}
-use borrow.Author.Tests.{lt-ltb, le-ltb}
-use lib.ListN.{length, take}
-use lib.Seq.{getD-take}
-use Rattle.definitions.specs.Lists.{bytes}
-use Rattle.definitions.specs.Limits.{Limits}
-use Rattle.definitions.specs.Text.{found, refused, next, due, firstOf, line, bad}
-use Rattle.definitions.specs.Job.{JobHead, jobHeadOf, jobHead, jobHeadRule, outside, jobLines, readJob}
+use Rattle.lists.proofs.Prelude.{_≡_, ap, _∙_, sym, List, Bool, true, false, _||_, ℕ, suc, _+_, _-_, _<_, _≤_, arith, lt-ltb, le-ltb, length, take, getD-take, bytes, Limits, found, refused, next, due, firstOf, line, bad, JobHead, jobHeadOf, jobHeadRule, outside, readJob}
+use Rattle.definitions.specs.Job.{jobHead, jobLines}
 use Rattle.definitions.proofs.Lists.{neither, inside}
 use Rattle.heads.specs.Reading.{fromEdges, fromDelays, fromRuns, fromHead, closed}
 

@@ -1,14 +1,5 @@
 -- How many rooms a job needs.
-use mathlib.Core.Path.{_≡_, refl}
-use mathlib.Core.Bool.{Bool, true, false, _&&_}
-use Prim.Native.Nat.{ℕ, _+_, _*_, _<_, _≤_}
-use native.Mathlib.Omega.{arith}
-use native.Mathlib.Nat.{mul-le-mul}
-use borrow.Author.Tests.{leb-true, le-leb, lt-leb, eqb-true, eq-eqb}
-use lib.Dec.{leb, eqb}
-use Rattle.definitions.specs.Lists.{if_then_else_}
-use Rattle.definitions.specs.Limits.{Limits, document01}
-use Rattle.definitions.specs.Job.{JobHead, jobHeadRule}
+use Rattle.lists.proofs.Prelude.{_≡_, refl, Bool, true, false, _&&_, ℕ, _+_, _*_, _<_, _≤_, arith, mul-le-mul, leb-true, le-leb, lt-leb, eqb-true, eq-eqb, leb, eqb, if_then_else_, Limits, document01, JobHead, jobHeadRule}
 use Rattle.definitions.proofs.Lists.{both, both-true}
 use Rattle.definitions.proofs.Reading.{job-head-parts}
 use Rattle.heads.specs.Layout.{memorySize, linksRoom, jobSize, cellsFor, FitsIn, hasRoom, roomsFor, largest}

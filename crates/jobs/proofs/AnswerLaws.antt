@@ -1,13 +1,5 @@
 -- What the answer of the reader of jobs says, and the public answer that is made of it.
-use mathlib.Core.Path.{_≡_, refl, ap}
-use mathlib.Core.List.{List, map}
-use Prim.Native.Nat.{ℕ, _<_, _≤_}
-use native.Mathlib.Omega.{arith}
-use borrow.Author.Tests.{lt-ltb, le-ltb}
-use lib.ListN.{length, take, length-take}
-use Rattle.definitions.specs.Limits.{document01}
-use Rattle.definitions.specs.Text.{Result, good, bad}
-use Rattle.definitions.specs.Job.{Job, readJob}
+use Rattle.lists.proofs.Prelude.{_≡_, refl, ap, List, map, ℕ, _<_, _≤_, arith, lt-ltb, le-ltb, length, take, length-take, document01, Result, good, bad, Job, readJob}
 use Rattle.lists.specs.Over.{over}
 use Rattle.text.specs.declared.Step.the-variants.{Next, Refused}
 use Rattle.orders.specs.Edges.{edgeCell}

@@ -1,17 +1,6 @@
 -- The cells of a job in memory: rows with their number in front, edges, and the front of a memory whose rest was lent.
-use mathlib.Core.Path.{_≡_, refl, ap, _∙_, sym}
-use mathlib.Core.List.{List, [], _∷_, _++_, map, append-assoc, append-nil}
-use Prim.Native.Nat.{ℕ, zero, suc, _+_, _-_, _*_, _<_, _≤_}
-use native.Mathlib.Omega.{arith}
-use native.Mathlib.Nat.{zero-mul, suc-mul, add-mul, mul-le-mul}
-use borrow.Author.Tests.{eqb-true, not-false, lt-ltb}
+use Rattle.lists.proofs.Prelude.{_≡_, refl, ap, _∙_, sym, List, [], _∷_, _++_, map, append-assoc, append-nil, ℕ, zero, suc, _+_, _-_, _*_, _<_, _≤_, arith, zero-mul, suc-mul, add-mul, mul-le-mul, eqb-true, not-false, lt-ltb, length, take, drop, length-append, length-map, length-take, length-drop, take-add, take-take, length-take-le, getD-take, bytes, nth, document01, found, line, lines, runRule, delayRule, edgeLine, edgeRule, jobHeadOf}
 use borrow.Rule.Slice.PartMut.{midOf, putMid, take-put, mid-len, same-len-mid}
-use lib.ListN.{length, take, drop, length-append, length-map, length-take, length-drop}
-use lib.Seq.{take-add, take-take, length-take-le, getD-take}
-use Rattle.definitions.specs.Lists.{bytes, nth}
-use Rattle.definitions.specs.Limits.{document01}
-use Rattle.definitions.specs.Text.{found, line, lines}
-use Rattle.definitions.specs.Job.{runRule, delayRule, edgeLine, edgeRule, jobHeadOf}
 use Rattle.definitions.proofs.Lists.{passed}
 use Rattle.definitions.proofs.Reading.{Ruled, lines-found, line-found}
 use Rattle.orders.specs.Edges.{edgeCell, edgeIn}

@@ -1,12 +1,5 @@
 -- A job that stands in a memory: where its numbers are, and what a change elsewhere leaves as it was.
-use mathlib.Core.Path.{_≡_, refl, ap, _∙_}
-use mathlib.Core.List.{List, [], map}
-use Prim.Native.Nat.{ℕ, _+_, _*_, _-_, _<_, _≤_}
-use native.Mathlib.Omega.{arith}
-use native.Mathlib.Nat.{mul-le-mul}
-use lib.ListN.{length, length-map}
-use Rattle.definitions.specs.Lists.{if_then_else_, nth, below}
-use Rattle.definitions.specs.Job.{Edge, Job, runTime, delay}
+use Rattle.lists.proofs.Prelude.{_≡_, refl, ap, _∙_, List, [], map, ℕ, _+_, _*_, _-_, _<_, _≤_, arith, mul-le-mul, length, length-map, if_then_else_, nth, below, Edge, Job, runTime, delay}
 use Rattle.definitions.proofs.Lists.{length-count}
 use Rattle.orders.specs.Edges.{edgeIn}
 use Rattle.orders.proofs.RunLaws.{run-same}

@@ -1,18 +1,7 @@
 -- The job that a memory holds is the job that was read into it.
-use mathlib.Core.Path.{_≡_, refl, ap, _∙_, sym}
-use mathlib.Core.Logic.{inl, inr}
-use mathlib.Core.List.{List, [], _∷_, _++_, map, append-assoc, append-nil}
-use Prim.Native.Nat.{ℕ, zero, suc, _+_, _*_, _-_, _<_, _≤_}
-use native.Mathlib.Omega.{arith}
-use native.Mathlib.Nat.{add-mul, suc-mul, zero-mul}
-use lib.ListN.{length, getD, take, length-append, length-take, length-map, List·getD-append, List·getD-map}
-use lib.Seq.{getD-take, getD-append-add, ext-getD}
-use Rattle.definitions.specs.Lists.{nth, In, below}
-use Rattle.definitions.specs.Limits.{document01}
-use Rattle.definitions.specs.Text.{good}
-use Rattle.definitions.specs.Job.{Edge, Job, JobHead, jobHeadRule, outgoing, incoming}
+use Rattle.lists.proofs.Prelude.{_≡_, refl, ap, _∙_, sym, inl, inr, List, [], _∷_, _++_, map, append-assoc, append-nil, ℕ, zero, suc, _+_, _*_, _-_, _<_, _≤_, arith, add-mul, suc-mul, zero-mul, length, getD, take, length-append, length-take, length-map, List·getD-append, List·getD-map, getD-take, ext-getD, nth, In, below, document01, good, Edge, Job, JobHead, jobHeadRule, outgoing, incoming, JobFacts}
+use lib.Seq.{getD-append-add}
 use Rattle.definitions.proofs.Lists.{length-count}
-use Rattle.definitions.specs.Facts.{JobFacts}
 use Rattle.text.specs.declared.Step.the-variants.{Next}
 use Rattle.orders.specs.Edges.{edgeCell, edgeIn}
 use Rattle.orders.specs.Links.{Linked}

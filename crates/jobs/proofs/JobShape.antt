@@ -1,19 +1,8 @@
 -- The shape of a job that was read: a row of run times for each task and a row of delays for each processor, each with a
 -- number for each processor; and how many cells it takes.
-use mathlib.Core.Path.{_≡_, refl, _∙_, sym}
-use mathlib.Core.Logic.{inl, inr}
-use mathlib.Core.List.{List, [], _∷_, map}
-use mathlib.Core.Bool.{false}
-use Prim.Native.Nat.{ℕ, suc, _+_, _*_}
-use native.Mathlib.Omega.{arith}
-use native.Mathlib.Nat.{suc-mul, zero-mul}
-use lib.ListN.{length, drop, length-append, length-drop, length-map}
-use Rattle.definitions.specs.Lists.{bytes, In}
-use Rattle.definitions.specs.Limits.{document01}
-use Rattle.definitions.specs.Text.{found, firstOf, line, unless, ended, good, return}
-use Rattle.definitions.specs.Job.{Job, JobHead, jobHeadRule, runRule, delayRule, edgeLine, edgeRule, circular}
+use Rattle.lists.proofs.Prelude.{_≡_, refl, _∙_, sym, inl, inr, List, [], _∷_, map, false, ℕ, suc, _+_, _*_, arith, suc-mul, zero-mul, length, drop, length-append, length-drop, length-map, bytes, In, document01, found, firstOf, line, ended, good, return, Job, JobHead, jobHeadRule, runRule, delayRule, edgeLine, edgeRule, circular, JobFacts}
+use Rattle.definitions.specs.Text.{unless}
 use Rattle.definitions.proofs.Lists.{in-map, passed}
-use Rattle.definitions.specs.Facts.{JobFacts}
 use Rattle.definitions.proofs.Reading.{Ruled, ended-good, andThen-good, unless-good, lines-then, ruled-in, line-found, runs-found}
 use Rattle.jobs.specs.Memory.{numbered}
 use Rattle.heads.specs.Reading.{jobOf, fromEdges, fromDelays, fromRuns, closed}

@@ -1,15 +1,5 @@
 -- A job that was loaded stands in the memory, and its links in theirs.
-use mathlib.Core.Path.{_≡_, refl, ap, _∙_, sym}
-use mathlib.Core.List.{List}
-use mathlib.Core.Bool.{true, false}
-use Prim.Native.Nat.{ℕ, suc, _-_, _<_, _≤_}
-use native.Mathlib.Omega.{arith}
-use borrow.Author.Tests.{eq-eqb, ne-eqb}
-use lib.ListN.{length, drop}
-use Rattle.definitions.specs.Lists.{nth}
-use Rattle.definitions.specs.Limits.{document01}
-use Rattle.definitions.specs.Text.{Result, good, bad}
-use Rattle.definitions.specs.Job.{Job, JobHead, jobHeadRule, readJob}
+use Rattle.lists.proofs.Prelude.{_≡_, refl, ap, _∙_, sym, List, true, false, ℕ, suc, _-_, _<_, _≤_, arith, eq-eqb, ne-eqb, length, drop, nth, document01, Result, good, bad, Job, JobHead, jobHeadRule, readJob}
 use Rattle.text.specs.declared.Step.{Step}
 use Rattle.text.specs.declared.Step.the-variants.{Next, Refused}
 use Rattle.heads.specs.Layout.{memorySize, linksRoom, FitsIn, roomsFor}

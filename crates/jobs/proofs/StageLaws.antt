@@ -1,17 +1,5 @@
 -- The stages of reading a job follow one another: the head in a memory, the C lines, the D lines, the E lines, the end.
-use mathlib.Core.Path.{_≡_, refl, ap, _∙_, sym, subst}
-use mathlib.Core.List.{List, [], _∷_, _++_, map, append-assoc, append-nil}
-use mathlib.Core.Bool.{Bool, true, false, not, false≢true}
-use Prim.Native.Nat.{ℕ, _+_, _<_, _≤_}
-use native.Mathlib.Omega.{arith}
-use borrow.Author.Tests.{ltb-true, ltb-false, not-false}
-use lib.Dec.{ltb}
-use lib.ListN.{length, take, drop, set, drop-of-length-le}
-use lib.Seq.{drop-cons, length-take-le}
-use Rattle.definitions.specs.Lists.{bytes, nth}
-use Rattle.definitions.specs.Limits.{document01}
-use Rattle.definitions.specs.Text.{found, refused, firstOf, line, lines}
-use Rattle.definitions.specs.Job.{Edge, JobHead, jobHeadOf, jobHeadRule, outside, runRule, delayRule, edgeLine, edgeRule, circular, Ascends}
+use Rattle.lists.proofs.Prelude.{_≡_, refl, ap, _∙_, sym, subst, List, [], _∷_, _++_, map, append-assoc, append-nil, Bool, true, false, not, false≢true, ℕ, _+_, _<_, _≤_, arith, ltb-true, ltb-false, not-false, ltb, length, take, drop, set, drop-of-length-le, drop-cons, length-take-le, bytes, nth, document01, found, refused, firstOf, line, lines, Edge, JobHead, jobHeadOf, jobHeadRule, outside, runRule, delayRule, edgeLine, edgeRule, circular, Ascends}
 use Rattle.definitions.proofs.Lists.{neither, passed}
 use Rattle.definitions.proofs.Reading.{Ruled, lines-found, ruled-in, job-head-parts}
 use Rattle.definitions.proofs.EdgeOrder.{ascends-more}

@@ -1,14 +1,6 @@
 -- The numbers that end a line, and lines, at a place of a text.
-use mathlib.Core.Path.{_≡_, refl, ap, sym, _∙_}
-use mathlib.Core.List.{List, [], _∷_, _++_, append-assoc, append-nil}
-use Prim.Native.Nat.{ℕ, zero, suc, _+_, _-_, _<_, _≤_}
-use native.Mathlib.Omega.{arith}
-use native.Mathlib.Numerals.{add-one}
-use borrow.Author.Tests.{eq-eqb, ne-eqb, lt-ltb, le-ltb}
-use lib.ListN.{length, getD, take, drop, set, drop-of-length-le}
-use lib.Seq.{drop-cons, take-suc-set}
-use Rattle.definitions.specs.Limits.{Limits}
-use Rattle.definitions.specs.Text.{Reading, Reader, found, refused, next, due, number, exactly, numbers, line, lines, mark}
+use Rattle.lists.proofs.Prelude.{_≡_, refl, ap, sym, _∙_, List, [], _∷_, _++_, append-assoc, append-nil, ℕ, zero, suc, _+_, _-_, _<_, _≤_, arith, add-one, eq-eqb, ne-eqb, lt-ltb, le-ltb, length, getD, take, drop, set, drop-of-length-le, drop-cons, Limits, Reading, Reader, found, refused, next, due, number, exactly, numbers, line, lines, mark}
+use lib.Seq.{take-suc-set}
 use Rattle.text.specs.Told.{told, after, lineInto, ruled, PlacedBy}
 use Rattle.text.specs.declared.Step.{Step}
 use Rattle.text.specs.declared.Num.{Num}

@@ -1,11 +1,6 @@
 -- What `line_at`, `line` and `line_of` say of a line, at the reader whose line it is.
-use mathlib.Core.Path.{_≡_}
-use Prim.Native.Nat.{ℕ}
-use mathlib.Core.List.{List}
-use lib.ListN.{take, drop}
+use Rattle.lists.proofs.Prelude.{_≡_, ℕ, List, take, drop, Limits, line}
 use denote.Ref.{RefT, now}
-use Rattle.definitions.specs.Limits.{Limits}
-use Rattle.definitions.specs.Text.{line}
 use Rattle.text.specs.Told.{told}
 use Rattle.text.specs.declared.Step.{Step}
 use Rattle.lines.specs.declared.reader.Reader.{Reader}

@@ -1,13 +1,6 @@
 -- What a caller learns from an answer: each case is that of the definitions, with their number and values.
-use mathlib.Core.Path.{_≡_, refl, ap}
-use mathlib.Core.List.{List, [], _∷_}
-use Prim.Native.Nat.{ℕ}
-use native.Mathlib.Omega.{arith}
-use lib.ListN.{length}
-use Rattle.definitions.specs.Lists.{bytes, In}
-use Rattle.definitions.specs.Limits.{document01}
-use Rattle.definitions.specs.Text.{Result, good, bad, lineText}
-use Rattle.definitions.specs.Tools.{Verdict, accepted, doubled, rejected, printed}
+use Rattle.lists.proofs.Prelude.{_≡_, refl, ap, List, [], _∷_, ℕ, arith, length, bytes, In, document01, Result, good, bad, lineText, Verdict, printed}
+use Rattle.definitions.specs.Tools.{accepted, doubled, rejected}
 use Rattle.lists.specs.Over.{over}
 use Rattle.jobs.specs.Answers.{Answered}
 use Rattle.rounds.specs.Verdicts.{Judged}

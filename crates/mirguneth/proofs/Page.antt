@@ -1,16 +1,6 @@
 -- The public answers, from what the tools answer in the memory that a job's head asks for.
-use mathlib.Core.Path.{_≡_, refl, _∙_}
-use mathlib.Core.List.{List}
-use Prim.Native.Nat.{ℕ}
-use native.Mathlib.Omega.{arith}
-use lib.ListN.{length, drop}
-use Rattle.definitions.specs.Limits.{document01}
-use Rattle.definitions.specs.Text.{Result, good, bad, andThen}
-use Rattle.definitions.specs.Job.{Job, readJob}
-use Rattle.definitions.specs.Plan.{Plan, readPlan}
-use Rattle.definitions.specs.Stops.{Stop, readStops}
-use Rattle.definitions.specs.Replay.{replay, replayText}
-use Rattle.definitions.specs.Tools.{Says, fitting, planAnswer, verdictFor, verdictOn, verdict, replayed, replayAnswer}
+use Rattle.lists.proofs.Prelude.{_≡_, refl, _∙_, List, ℕ, arith, length, drop, document01, Result, good, bad, andThen, Job, readJob, Plan, readPlan, Stop, readStops, replay, replayText, Says, fitting, planAnswer, verdictFor, verdict, replayed, replayAnswer}
+use Rattle.definitions.specs.Tools.{verdictOn}
 use Rattle.heads.specs.Layout.{memorySize, linksRoom, roomsFor}
 use Rattle.jobs.specs.Answers.{resultOf, Answered}
 use Rattle.heads.specs.Heads.{headOf, HeadRead}

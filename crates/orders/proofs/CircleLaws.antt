@@ -1,13 +1,5 @@
 -- The edges form a circle exactly if an order lacks a task.
-use mathlib.Core.Path.{_≡_, refl, sym, _∙_}
-use mathlib.Core.List.{List, [], map}
-use mathlib.Core.Bool.{Bool, true, false, true≢false}
-use Prim.Native.Nat.{ℕ, _≤_}
-use native.Mathlib.Omega.{arith}
-use lib.Dec.{ltb}
-use lib.ListN.{drop}
-use borrow.Author.Tests.{le-ltb, ltb-false}
-use Rattle.definitions.specs.Job.{Edge, Job, circular}
+use Rattle.lists.proofs.Prelude.{_≡_, refl, sym, _∙_, List, [], map, Bool, true, false, true≢false, ℕ, _≤_, arith, ltb, drop, le-ltb, ltb-false, Edge, Job, circular}
 use Rattle.orders.specs.Edges.{edgeIn}
 use Rattle.orders.specs.Order.{Within, Arranged}
 use Rattle.orders.specs.Links.{orderAt, circles, Runs, Linked}

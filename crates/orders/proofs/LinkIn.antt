@@ -1,11 +1,5 @@
 -- What is read from the links.
-use mathlib.Core.Path.{_≡_, refl}
-use mathlib.Core.List.{List}
-use Prim.Native.Nat.{ℕ, _/_, _≤_, _<_}
-use native.Mathlib.Omega.{arith}
-use lib.ListN.{length}
-use borrow.Author.Tests.{lt-ltb, le-ltb}
-use Rattle.definitions.specs.Lists.{nth}
+use Rattle.lists.proofs.Prelude.{_≡_, refl, List, ℕ, _/_, _≤_, _<_, arith, length, lt-ltb, le-ltb, nth}
 use Rattle.orders.specs.Links.{linkIn, linksSize}
 
 module _ (v t i : ℕ) (links : List ℕ) where

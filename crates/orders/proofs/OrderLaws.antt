@@ -1,15 +1,6 @@
 -- An order of the tasks: the places of its tasks, and that it has every task exactly if the edges form no circle.
-use mathlib.Core.Path.{_≡_, refl, ap, _∙_, sym}
-use mathlib.Core.Logic.{_⊎_, inl, inr}
-use mathlib.Core.List.{List}
-use mathlib.Core.Bool.{Bool, true, false, not}
-use Prim.Native.Nat.{ℕ, zero, suc, _<_, _≤_}
-use native.Mathlib.Omega.{arith}
-use lib.Dec.{eqb, ltb}
-use lib.ListN.{length}
-use borrow.Author.Tests.{eqb-true, eqb-false, eq-eqb, ltb-true, ltb-false, not-true}
-use Rattle.definitions.specs.Lists.{nth, below, keep, In, has, distinct}
-use Rattle.definitions.specs.Job.{Edge, Job, incoming, circular, Path, one, more}
+use Rattle.lists.proofs.Prelude.{_≡_, refl, ap, _∙_, sym, _⊎_, inl, inr, List, Bool, true, false, not, ℕ, zero, suc, _<_, _≤_, arith, eqb, ltb, length, eqb-true, eqb-false, eq-eqb, ltb-true, ltb-false, not-true, nth, below, keep, In, has, distinct, Edge, Job, incoming, circular}
+use Rattle.definitions.specs.Job.{Path, one, more}
 use Rattle.definitions.proofs.Lists.{in-keep, keep-in, not-has, has-not, apart-head, fits, spare, length-count, in-below, below-in, distinct-count, full}
 use Rattle.definitions.proofs.Circle.{free-task, circle-found}
 use Rattle.orders.specs.Order.{listed, Arranged}

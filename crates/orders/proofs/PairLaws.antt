@@ -1,17 +1,5 @@
 -- Pairs of tasks as numbers, and edges whose pairs ascend.
-use mathlib.Core.Path.{_≡_, refl, sym, _∙_}
-use mathlib.Core.Logic.{inl, inr, ⊎-elim}
-use mathlib.Core.List.{List, [], _∷_, map}
-use mathlib.Core.Bool.{Bool, true, false, _&&_, _||_}
-use Prim.Native.Nat.{ℕ, _+_, _/_, _%_, _<_, _≤_}
-use native.Mathlib.Omega.{arith}
-use lib.Dec.{leb, eqb, ltb}
-use native.Mathlib.Numerals.{add-one}
-use lib.ListN.{length, drop}
-use lib.Seq.{drop-cons}
-use borrow.Author.Tests.{eqb-true, eqb-false, eq-eqb, lt-ltb, le-ltb, ltb-true, ltb-false, leb-true, le-leb, lt-leb}
-use Rattle.definitions.specs.Lists.{nth, In}
-use Rattle.definitions.specs.Job.{Edge, samePair, smaller, Ascends}
+use Rattle.lists.proofs.Prelude.{_≡_, refl, sym, _∙_, inl, inr, ⊎-elim, List, [], _∷_, map, Bool, true, false, _&&_, _||_, ℕ, _+_, _/_, _%_, _<_, _≤_, arith, leb, eqb, ltb, add-one, length, drop, drop-cons, eqb-true, eqb-false, eq-eqb, lt-ltb, le-ltb, ltb-true, ltb-false, leb-true, le-leb, lt-leb, nth, In, Edge, samePair, smaller, Ascends}
 use Rattle.definitions.proofs.Lists.{both, both-true, refuted, in-map, map-in}
 use Rattle.orders.specs.Edges.{edgeIn, pairIn}
 use Rattle.orders.specs.Order.{Within, inner}

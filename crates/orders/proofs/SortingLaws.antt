@@ -1,18 +1,7 @@
 -- How the order of the tasks is made among the links: counts of the edges that block a task, the tasks listed.
-use mathlib.Core.Path.{_≡_, refl, ap, _∙_, sym}
-use mathlib.Core.Logic.{_⊎_, inl, inr, ⊎-elim}
-use mathlib.Core.List.{List, [], _∷_, map, reverseAux}
-use mathlib.Core.Bool.{Bool, true, false, not, _&&_}
-use Prim.Native.Nat.{ℕ, zero, suc, _+_, _-_, _<_, _≤_}
-use native.Mathlib.Omega.{arith}
-use native.Mathlib.Numerals.{add-one}
-use lib.Dec.{eqb}
-use lib.ListN.{length, drop, set, length-set, length-drop}
-use lib.Seq.{getD-set-same, getD-set-other, drop-set-add, getD-drop}
-use borrow.Author.Tests.{eqb-true, eqb-false, eq-eqb, ne-eqb, not-true}
-use Rattle.definitions.specs.Lists.{if_then_else_, nth, In, any, has, keep, distinct, below}
+use Rattle.lists.proofs.Prelude.{_≡_, refl, ap, _∙_, sym, _⊎_, inl, inr, ⊎-elim, List, [], _∷_, map, reverseAux, Bool, true, false, not, _&&_, ℕ, zero, suc, _+_, _-_, _<_, _≤_, arith, add-one, eqb, length, drop, set, length-set, length-drop, getD-set-same, getD-set-other, getD-drop, eqb-true, eqb-false, eq-eqb, ne-eqb, not-true, if_then_else_, nth, In, any, has, keep, distinct, below, Edge}
+use lib.Seq.{drop-set-add}
 use Rattle.definitions.proofs.Lists.{in-keep, keep-in, keep-every, has-in, has-not, not-has, head-apart, fits, below-in, length-count, map-in, nth-in}
-use Rattle.definitions.specs.Job.{Edge}
 use Rattle.lists.proofs.Counting.{last-or-before, equal-or-not}
 use Rattle.lists.proofs.ListLaws.{keep-keep, keep-same}
 use Rattle.orders.proofs.LinkIn.{link-in}

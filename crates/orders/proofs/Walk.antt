@@ -1,12 +1,5 @@
 -- The way over a run, edge by edge.
-use mathlib.Core.Path.{_≡_, refl, ap}
-use mathlib.Core.Logic.{inl, inr, ⊎-elim}
-use mathlib.Core.List.{List, [], _∷_, reverse, reverseAux}
-use Prim.Native.Nat.{ℕ, zero, suc, _+_, _-_, _<_, _≤_}
-use native.Mathlib.Omega.{arith}
-use lib.ListN.{length}
-use Rattle.definitions.specs.Lists.{nth, In}
-use Rattle.definitions.specs.Job.{Edge}
+use Rattle.lists.proofs.Prelude.{_≡_, refl, ap, inl, inr, ⊎-elim, List, [], _∷_, reverse, reverseAux, ℕ, zero, suc, _+_, _-_, _<_, _≤_, arith, length, nth, In, Edge}
 use Rattle.definitions.proofs.Lists.{in-reverse}
 use Rattle.lists.proofs.Counting.{equal-or-not}
 use Rattle.orders.specs.Edges.{edgeIn}

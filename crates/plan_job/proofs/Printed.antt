@@ -1,14 +1,5 @@
 -- What the plan program prints is no longer than a text.
-use mathlib.Core.Path.{_≡_, refl}
-use mathlib.Core.List.{List, [], _∷_}
-use Prim.Native.Nat.{ℕ, _≤_}
-use native.Mathlib.Omega.{arith}
-use borrow.Author.Tests.{le-ltb}
-use lib.ListN.{length}
-use Rattle.definitions.specs.Limits.{document01}
-use Rattle.definitions.specs.Text.{Result, good, bad, andThen}
-use Rattle.definitions.specs.Job.{Job, readJob}
-use Rattle.definitions.specs.Tools.{fitting, planned, planAnswer, printed, planPrinted}
+use Rattle.lists.proofs.Prelude.{_≡_, refl, List, [], _∷_, ℕ, _≤_, arith, le-ltb, length, document01, Result, good, bad, andThen, Job, readJob, fitting, planned, planAnswer, printed, planPrinted}
 use Rattle.definitions.proofs.Reading.{job-facts}
 use Rattle.definitions.proofs.Claims.{own-fits, roomy01}
 use Rattle.console.proofs.Shown.{refusal-most}

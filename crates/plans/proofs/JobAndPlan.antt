@@ -1,13 +1,5 @@
 -- A job and a plan that were read into one memory, from step to step.
-use mathlib.Core.Path.{_≡_, refl, ap}
-use mathlib.Core.List.{List}
-use Prim.Native.Nat.{ℕ}
-use native.Mathlib.Omega.{arith}
-use Rattle.definitions.specs.Lists.{nth}
-use Rattle.definitions.specs.Limits.{document01}
-use Rattle.definitions.specs.Text.{Result, good, bad, andThen}
-use Rattle.definitions.specs.Job.{Job}
-use Rattle.definitions.specs.Plan.{Plan, readPlan}
+use Rattle.lists.proofs.Prelude.{_≡_, refl, ap, List, ℕ, arith, nth, document01, Result, good, bad, andThen, Job, Plan, readPlan}
 use Rattle.definitions.specs.Facts.{PlanFacts}
 use Rattle.definitions.proofs.Reading.{andThen-good, plan-facts}
 use Rattle.text.specs.declared.Step.{Step}

@@ -1,12 +1,5 @@
 -- The lines of a plan in a memory, after a change elsewhere.
-use mathlib.Core.Path.{_≡_, refl, ap, _∙_}
-use mathlib.Core.Logic.{_⊎_, inl, inr, ⊎-elim}
-use mathlib.Core.List.{List}
-use mathlib.Core.Bool.{Bool, true, false}
-use Prim.Native.Nat.{ℕ, zero, suc, _+_, _*_, _-_, _%_, _<_, _≤_}
-use native.Mathlib.Omega.{arith}
-use lib.ListN.{length}
-use Rattle.definitions.specs.Lists.{nth}
+use Rattle.lists.proofs.Prelude.{_≡_, refl, ap, _∙_, _⊎_, inl, inr, ⊎-elim, List, Bool, true, false, ℕ, zero, suc, _+_, _*_, _-_, _%_, _<_, _≤_, arith, length, nth}
 use Rattle.heads.specs.Layout.{jobSize, levelAt, lineAt, blockedAt, rowAt, processorAt, earlyAt, lateAt, timeAt}
 use Rattle.plans.specs.Lines.{rowEnd, rowOutcomes, placedIn, rowReplicas, linesIn, RowHeld, Standing}
 use Rattle.lists.specs.Kept.{KeptOutside}

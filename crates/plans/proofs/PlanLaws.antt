@@ -1,19 +1,7 @@
 -- The rules of a plan's head and of its lines, with the job and the lines before in a memory.
-use mathlib.Core.Path.{_≡_, refl, ap, sym, _∙_}
-use mathlib.Core.Logic.{_⊎_, inl, inr, ⊎-elim}
-use mathlib.Core.List.{List, [], _∷_, _++_, map, map-append, reverseAux}
-use mathlib.Core.Bool.{Bool, true, false, not, _&&_, _||_, and-true, or-true, or-false, or-assoc}
-use Prim.Native.Nat.{ℕ, zero, suc, _+_, _-_, _<_, _≤_}
-use native.Mathlib.Omega.{arith}
-use native.Mathlib.Numerals.{add-one}
-use borrow.Author.Tests.{ltb-true, lt-ltb, le-ltb, eq-eqb, ne-eqb, not-false}
-use lib.Dec.{eqb, ltb}
-use lib.ListN.{length}
-use Rattle.definitions.specs.Lists.{nth, In, any, all, has}
-use Rattle.definitions.specs.Limits.{document01}
-use Rattle.definitions.specs.Text.{firstOf}
-use Rattle.definitions.specs.Job.{incoming, outside}
-use Rattle.definitions.specs.Plan.{Replica, Line, processorsOf, descends, PlanHead, planHeadRule, strays, planLineRule}
+use Rattle.lists.proofs.Prelude.{_≡_, refl, ap, sym, _∙_, _⊎_, inl, inr, ⊎-elim, List, [], _∷_, _++_, map, map-append, reverseAux, Bool, true, false, not, _&&_, _||_, and-true, or-false, ℕ, zero, suc, _+_, _-_, _<_, _≤_, arith, add-one, ltb-true, lt-ltb, le-ltb, eq-eqb, ne-eqb, not-false, eqb, ltb, length, nth, In, any, all, has, document01, firstOf, incoming, outside, Replica, Line, processorsOf, descends, planHeadRule, planLineRule}
+use mathlib.Core.Bool.{or-true, or-assoc}
+use Rattle.definitions.specs.Plan.{PlanHead, strays}
 use Rattle.definitions.proofs.Lists.{neither, inside, not-outside, either-right, in-append, append-left, append-right, in-has, has-not, in-keep}
 use Rattle.heads.specs.Layout.{lineAt, rowAt, processorAt, earlyAt, lateAt}
 use Rattle.jobs.specs.Held.{jobIn, JobHeld, LinksHeld}

@@ -1,19 +1,7 @@
 -- A plan's lines, read into rows.
-use mathlib.Core.Path.{_≡_, refl, ap, sym, subst, _∙_}
-use mathlib.Core.Logic.{_⊎_, inl, inr, ⊎-elim}
-use mathlib.Core.List.{List, [], _∷_, _++_}
-use Prim.Native.Nat.{ℕ, zero, suc, _+_, _-_, _*_, _<_, _≤_}
-use native.Mathlib.Omega.{arith}
-use native.Mathlib.Nat.{add-zero, sub-zero}
-use native.Mathlib.Numerals.{add-one}
+use Rattle.lists.proofs.Prelude.{_≡_, refl, ap, sym, subst, _∙_, _⊎_, inl, inr, ⊎-elim, List, [], _∷_, _++_, ℕ, zero, suc, _+_, _-_, _*_, _<_, _≤_, arith, add-zero, sub-zero, add-one, length, set, take, drop, length-drop, List·getD-append, drop-at, length-take-le, take-all, take-add, drop-cons, getD-take, getD-drop, getD-set-same, getD-set-other, bytes, nth, document01, Reading, Reader, found, refused, line, lines, Job, Replica, Line, planLineRule}
 use borrow.Rule.Slice.PartMut.{midOf, postOf, putMid, take-put, drop-put, same-len-mid, mid-len}
-use lib.ListN.{length, set, take, drop, length-drop, List·getD-append}
-use lib.Seq.{drop-at, length-take-le, take-all, take-add, drop-cons, getD-take, getD-drop, getD-set-same, getD-set-other}
-use Rattle.definitions.specs.Lists.{bytes, nth}
-use Rattle.definitions.specs.Limits.{document01}
-use Rattle.definitions.specs.Text.{Reading, Reader, found, refused, line, lines}
-use Rattle.definitions.specs.Job.{Job}
-use Rattle.definitions.specs.Plan.{Replica, Line, triples, lineOf, planLine, planLineRule}
+use Rattle.definitions.specs.Plan.{triples, lineOf, planLine}
 use Rattle.heads.specs.Layout.{levelAt, lineAt, blockedAt, rowAt, farAt}
 use Rattle.jobs.specs.Held.{jobIn, JobHeld, LinksHeld}
 use Rattle.plans.specs.Lines.{lineCells, rowEnd, rowReplicas, linesIn, RowHeld, Standing}

@@ -1,15 +1,6 @@
 -- A plan's text as a whole: the head, the lines, and what is left over.
-use mathlib.Core.Path.{_≡_, refl, _∙_}
-use mathlib.Core.List.{List}
-use Prim.Native.Nat.{ℕ, zero, suc, _+_, _*_, _<_, _≤_}
-use native.Mathlib.Omega.{arith}
-use borrow.Author.Tests.{lt-ltb, le-ltb}
-use lib.ListN.{length, set, take, drop, length-set, drop-of-length-le}
-use lib.Seq.{drop-cons, getD-take, getD-set-same, getD-set-other}
-use Rattle.definitions.specs.Lists.{bytes, nth}
-use Rattle.definitions.specs.Limits.{document01}
-use Rattle.definitions.specs.Text.{found, refused, next, return, line, lines, ended}
-use Rattle.definitions.specs.Plan.{Line, planHeadOf, planHead, planHeadRule, planLines, readPlan}
+use Rattle.lists.proofs.Prelude.{_≡_, refl, _∙_, List, ℕ, zero, suc, _+_, _*_, _<_, _≤_, arith, lt-ltb, le-ltb, length, set, take, drop, length-set, drop-of-length-le, drop-cons, getD-take, getD-set-same, getD-set-other, bytes, nth, document01, found, refused, next, return, line, lines, ended, Line, planHeadOf, planHeadRule, readPlan}
+use Rattle.definitions.specs.Plan.{planHead, planLines}
 use Rattle.text.specs.declared.Step.the-variants.{Next, Refused}
 use Rattle.heads.specs.Layout.{lineAt, blockedAt, rowAt, bestAt, worstAt}
 use Rattle.jobs.specs.Held.{jobIn, JobHeld}

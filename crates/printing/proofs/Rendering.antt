@@ -1,13 +1,6 @@
 -- A text that is rendered line by line.
-use mathlib.Core.Path.{_≡_, refl, ap, sym, _∙_}
-use mathlib.Core.List.{List, [], _∷_, _++_}
-use mathlib.Core.Bool.{Bool, true, false}
-use Prim.Native.Nat.{ℕ, _+_, _-_, _<_, _≤_, min}
-use native.Mathlib.Omega.{arith}
-use borrow.Author.Tests.{leb-true, leb-false}
+use Rattle.lists.proofs.Prelude.{_≡_, refl, ap, sym, _∙_, List, [], _∷_, _++_, Bool, true, false, ℕ, _+_, _-_, _<_, _≤_, min, arith, leb-true, leb-false, leb, length, length-append}
 use borrow.Rule.Slice.PartMut.{putMid, midOf, mid-len, put-same}
-use lib.Dec.{leb}
-use lib.ListN.{length, length-append}
 use Rattle.lists.specs.Over.{over}
 use Rattle.lists.proofs.Over.{over-nil, over-over, length-over, lent}
 use Rattle.text.specs.Told.{written}

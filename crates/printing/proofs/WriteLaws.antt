@@ -1,18 +1,6 @@
 -- The numbers that end a line, counted, and written one after another.
-use mathlib.Core.Path.{_≡_, refl, ap, sym, _∙_}
-use mathlib.Core.List.{List, [], _∷_, _++_}
-use mathlib.Core.Bool.{Bool, true, false}
-use Prim.Native.Nat.{ℕ, suc, _+_, _*_, _-_, _%_, _^_, _<_, _≤_}
-use native.Mathlib.Omega.{arith}
+use Rattle.lists.proofs.Prelude.{_≡_, refl, ap, sym, _∙_, List, [], _∷_, _++_, Bool, true, false, ℕ, suc, _+_, _*_, _-_, _%_, _^_, _<_, _≤_, arith, add-one, le-leb, lt-leb, leb-true, leb-false, leb, length, drop, set, length-append, length-drop, drop-of-length-le, drop-cons, nth, Limits, mark, width, decimal, numbersText, lineText}
 use native.Mathlib.Nat.{mul-suc}
-use native.Mathlib.Numerals.{add-one}
-use borrow.Author.Tests.{le-leb, lt-leb, leb-true, leb-false}
-use lib.Dec.{leb}
-use lib.ListN.{length, drop, set, length-append, length-drop, drop-of-length-le}
-use lib.Seq.{drop-cons}
-use Rattle.definitions.specs.Lists.{nth}
-use Rattle.definitions.specs.Limits.{Limits}
-use Rattle.definitions.specs.Text.{mark, width, decimal, numbersText, lineText}
 use Rattle.definitions.proofs.Decimal.{width-powers, length-none, length-numbers, length-line}
 use Rattle.lists.specs.Over.{over}
 use Rattle.lists.proofs.Over.{over-put, over-over, over-then, length-over}

@@ -1,22 +1,6 @@
 -- The program's output holds the longest answer of the replay.
-use mathlib.Core.Path.{_≡_, refl, ap}
-use mathlib.Core.Logic.{inl, inr, ⊎-elim}
-use mathlib.Core.List.{List, [], _∷_}
-use Prim.Native.Nat.{ℕ, _<_, _≤_}
-use native.Mathlib.Omega.{arith}
-use borrow.Author.Tests.{le-ltb}
-use lib.ListN.{length}
-use Rattle.definitions.specs.Lists.{In}
-use Rattle.definitions.specs.Limits.{document01}
-use Rattle.definitions.specs.Text.{Result, good, bad, andThen}
-use Rattle.definitions.specs.Job.{Job, readJob}
-use Rattle.definitions.specs.Plan.{Line, processorsOf, readPlan}
-use Rattle.definitions.specs.Stops.{Stop, readStops}
-use Rattle.definitions.specs.Times.{never, least, Copy, Outcome, walk, copiesOf, copies}
-use Rattle.definitions.specs.Replay.{replay, replayText}
-use Rattle.definitions.specs.Tools.{fitting, replayed, replayAnswer, printed, replayPrinted}
+use Rattle.lists.proofs.Prelude.{_≡_, refl, ap, inl, inr, ⊎-elim, List, [], _∷_, ℕ, _<_, _≤_, arith, le-ltb, length, In, document01, Result, good, bad, andThen, Job, readJob, Line, processorsOf, readPlan, Stop, readStops, never, least, Copy, Outcome, walk, copiesOf, copies, replay, replayText, fitting, replayed, replayAnswer, printed, replayPrinted, Ordered}
 use Rattle.definitions.proofs.Lists.{in-append, in-map}
-use Rattle.definitions.specs.Facts.{Ordered}
 use Rattle.definitions.proofs.Reading.{andThen-good, job-facts, plan-facts}
 use Rattle.console.proofs.Shown.{refusal-most}
 use Rattle.rounds.proofs.Longest.{text-most}

@@ -1,15 +1,5 @@
 -- The R lines and the L line.
-use mathlib.Core.Path.{_≡_, sym, _∙_}
-use mathlib.Core.List.{List, [], _∷_, _++_}
-use Prim.Native.Nat.{ℕ, _+_, _≤_}
-use native.Mathlib.Omega.{arith}
-use lib.ListN.{length, length-append}
-use borrow.Author.Tests.{ne-eqb}
-use Rattle.definitions.specs.Lists.{bytes}
-use Rattle.definitions.specs.Limits.{Limits}
-use Rattle.definitions.specs.Text.{width, decimal, lineText}
-use Rattle.definitions.specs.Times.{never}
-use Rattle.definitions.specs.Replay.{resultLine, endLine}
+use Rattle.lists.proofs.Prelude.{_≡_, sym, _∙_, List, [], _∷_, _++_, ℕ, _+_, _≤_, arith, length, length-append, ne-eqb, bytes, Limits, width, decimal, lineText, never, resultLine, endLine}
 use Rattle.definitions.proofs.Decimal.{length-decimal}
 use Rattle.lists.specs.Over.{over}
 use Rattle.text.specs.Told.{written, placeAfter}

@@ -1,15 +1,5 @@
 -- Lines with two replicas on one processor, and first finishes, replica by replica.
-use mathlib.Core.Path.{_≡_, refl, ap, _∙_, sym}
-use mathlib.Core.Logic.{⊎-elim}
-use mathlib.Core.List.{List, [], _∷_}
-use mathlib.Core.Bool.{Bool, true, false, _&&_, _||_, true≢false}
-use Prim.Native.Nat.{ℕ, zero, suc, _+_, _-_, _<_, _≤_}
-use native.Mathlib.Omega.{arith}
-use native.Mathlib.Numerals.{add-one}
-use borrow.Author.Tests.{eqb-true, eq-eqb, ne-eqb, lt-ltb, le-ltb}
-use lib.Dec.{eqb}
-use lib.ListN.{length, take, drop}
-use Rattle.definitions.specs.Lists.{if_then_else_, nth, empty}
+use Rattle.lists.proofs.Prelude.{_≡_, refl, ap, _∙_, sym, ⊎-elim, List, [], _∷_, Bool, true, false, _&&_, _||_, true≢false, ℕ, zero, suc, _+_, _-_, _<_, _≤_, arith, add-one, eqb-true, eq-eqb, ne-eqb, lt-ltb, le-ltb, eqb, length, take, drop, if_then_else_, nth, empty}
 use Rattle.definitions.proofs.Lists.{either-right}
 use Rattle.lists.proofs.Counting.{last-or-before}
 use Rattle.lists.proofs.ListLaws.{part-length, part-nth}

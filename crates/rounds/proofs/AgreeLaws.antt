@@ -1,21 +1,9 @@
 -- Ticks that are the equations', line by line; the clocks; and the walk over lines whose ticks are.
-use mathlib.Core.Path.{_≡_, refl, ap, _∙_, sym}
-use mathlib.Core.Logic.{inl, inr, ⊎-elim}
-use mathlib.Core.List.{List, [], _∷_, _++_, map, map-append, map-map, append-assoc, append-nil, reverse, reverseAux, reverse-append, reverse-reverse}
-use mathlib.Core.Bool.{Bool, true, false}
-use Prim.Native.Nat.{ℕ, zero, suc, _+_, _*_, _<_, _≤_}
-use native.Mathlib.Omega.{arith}
-use lib.ListN.{length, length-append, length-map, take, drop, replicate}
-use lib.Seq.{take-at, drop-at}
-use Rattle.definitions.specs.Lists.{if_then_else_, nth, In, distinct}
-use Rattle.definitions.specs.Limits.{document01}
-use Rattle.definitions.specs.Job.{Edge, Job, runTime, incoming}
-use Rattle.definitions.specs.Plan.{Replica, Line, processorsOf}
-use Rattle.definitions.specs.Times.{Time, tick, later, after, Copy, Outcome, outcome, times, ready, finish, walk, copiesOf, copies, earlies, lates, copyOf}
-use Rattle.definitions.specs.Planner.{tickOf}
-use Rattle.definitions.specs.Refusals.{doubledTasks, replicasOf, ticksAgree}
+use Rattle.lists.proofs.Prelude.{_≡_, refl, ap, _∙_, sym, inl, inr, ⊎-elim, List, [], _∷_, _++_, map, map-append, map-map, append-assoc, append-nil, reverse, reverseAux, reverse-append, Bool, true, false, ℕ, zero, suc, _+_, _*_, _<_, _≤_, arith, length, length-append, length-map, take, drop, replicate, drop-at, if_then_else_, nth, In, distinct, document01, Edge, Job, runTime, incoming, Replica, Line, processorsOf, Time, tick, later, after, Copy, Outcome, outcome, times, ready, finish, walk, copiesOf, copies, earlies, lates, copyOf, tickOf, doubledTasks, ticksAgree, PlacedWithin}
+use mathlib.Core.List.{reverse-reverse}
+use lib.Seq.{take-at}
+use Rattle.definitions.specs.Refusals.{replicasOf}
 use Rattle.definitions.proofs.Lists.{both, both-true, in-append, map-same}
-use Rattle.definitions.specs.Claims.{PlacedWithin}
 use Rattle.definitions.proofs.Bounds.{Bounded, least-within, largest-within, finish-most}
 use Rattle.definitions.proofs.Guarantee.{same-times, times-same}
 use Rattle.heads.specs.Layout.{lineAt, rowAt, processorAt, earlyAt, lateAt, timeAt}

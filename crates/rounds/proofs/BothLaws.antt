@@ -1,13 +1,5 @@
 -- Data on all processors at once, by the first replicas and by the last.
-use mathlib.Core.Path.{_≡_, ap, _∙_, sym}
-use mathlib.Core.List.{List}
-use mathlib.Core.Bool.{Bool, true, false}
-use Prim.Native.Nat.{ℕ, _+_, _*_, _-_, _<_, _≤_, max, min}
-use native.Mathlib.Omega.{arith}
-use lib.ListN.{length, replicate, length-replicate, getD-replicate}
-use Rattle.definitions.specs.Lists.{nth}
-use Rattle.definitions.specs.Job.{incoming, runTime, delay}
-use Rattle.definitions.specs.Times.{Time, tick, later, after, least, largest}
+use Rattle.lists.proofs.Prelude.{_≡_, ap, _∙_, sym, List, Bool, true, false, ℕ, _+_, _*_, _-_, _<_, _≤_, max, min, arith, length, replicate, length-replicate, getD-replicate, nth, incoming, runTime, delay, Time, tick, later, after, least, largest}
 use Rattle.orders.specs.Edges.{edgeIn}
 use Rattle.orders.proofs.Walk.{Passed}
 use Rattle.heads.specs.Layout.{processorAt, earlyAt, lateAt}

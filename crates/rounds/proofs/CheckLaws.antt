@@ -1,20 +1,7 @@
 -- The checker's tests on a plan that was read.
-use mathlib.Core.Path.{_≡_, refl, ap, _∙_, sym}
-use mathlib.Core.Logic.{_⊎_, inl, inr, ⊎-elim}
-use mathlib.Core.List.{List, [], _∷_, _++_, map, map-append, append-assoc}
-use mathlib.Core.Bool.{Bool, true, false, not}
-use Prim.Native.Nat.{ℕ, zero, suc, _+_, _*_, _-_, _/_, _<_, _≤_}
-use native.Mathlib.Omega.{arith}
-use native.Mathlib.Numerals.{add-one}
-use borrow.Author.Tests.{le-leb, ltb-false, not-false}
-use lib.Dec.{ltb, leb}
-use lib.ListN.{length, take, drop}
-use Rattle.definitions.specs.Lists.{if_then_else_, nth, In, keep, distinct}
-use Rattle.definitions.specs.Job.{Job}
-use Rattle.definitions.specs.Plan.{Line, processorsOf, descends, lineTasks}
-use Rattle.definitions.specs.Refusals.{doubledTasks}
+use Rattle.lists.proofs.Prelude.{_≡_, refl, ap, _∙_, sym, _⊎_, inl, inr, ⊎-elim, List, [], _∷_, _++_, map, map-append, append-assoc, Bool, true, false, not, ℕ, zero, suc, _+_, _*_, _-_, _/_, _<_, _≤_, arith, add-one, le-leb, ltb-false, not-false, ltb, leb, length, take, drop, if_then_else_, nth, In, keep, distinct, Job, Line, processorsOf, descends, doubledTasks, Ordered, LineFacts}
+use Rattle.definitions.specs.Plan.{lineTasks}
 use Rattle.definitions.proofs.Lists.{neither, neither-false, append-left, append-right, in-append, apart-head, head-apart, map-in, keep-in}
-use Rattle.definitions.specs.Facts.{Ordered, LineFacts}
 use Rattle.heads.specs.Layout.{rowAt, processorAt, earlyAt, lateAt, replicaEnd}
 use Rattle.jobs.specs.Held.{jobIn}
 use Rattle.plans.specs.Lines.{rowReplicas, linesIn}

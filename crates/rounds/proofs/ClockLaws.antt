@@ -1,18 +1,6 @@
 -- The clocks, replica by replica and line by line.
-use mathlib.Core.Path.{_≡_, refl, ap, _∙_, sym}
-use mathlib.Core.List.{List, _∷_, _++_, []}
-use mathlib.Core.Bool.{Bool, true, false}
-use Prim.Native.Nat.{ℕ, _+_, _<_, _≤_, _-_}
-use native.Mathlib.Omega.{arith}
-use native.Mathlib.Numerals.{add-one}
-use borrow.Author.Tests.{eqb-true, eqb-false, lt-ltb}
-use lib.Dec.{eqb, ltb}
-use lib.ListN.{length, set, length-set, replicate, length-replicate, getD-replicate}
-use lib.Seq.{getD-set-same, getD-set-other}
+use Rattle.lists.proofs.Prelude.{_≡_, refl, ap, _∙_, sym, List, _∷_, _++_, [], Bool, true, false, ℕ, _+_, _<_, _≤_, _-_, arith, add-one, eqb-true, eqb-false, lt-ltb, eqb, ltb, length, set, length-set, replicate, length-replicate, getD-replicate, getD-set-same, getD-set-other, if_then_else_, nth, Job, tick, Outcome, ready}
 use Rattle.definitions.proofs.Ready.{first-ready}
-use Rattle.definitions.specs.Lists.{if_then_else_, nth}
-use Rattle.definitions.specs.Job.{Job}
-use Rattle.definitions.specs.Times.{tick, Outcome, ready}
 use Rattle.heads.specs.Layout.{rowAt, processorAt, earlyAt, lateAt}
 use Rattle.jobs.specs.Held.{jobIn}
 use Rattle.plans.specs.Lines.{rowOutcomes, placedIn, Standing}

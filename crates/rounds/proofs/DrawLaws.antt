@@ -1,17 +1,6 @@
 -- One turn of the planner: the free tasks, the critical one, its line, and what waits after it.
-use mathlib.Core.Path.{_≡_, refl, ap, ap₂, _∙_, sym}
-use mathlib.Core.Logic.{inl, inr}
-use mathlib.Core.List.{List, [], _∷_, map, map-map, reverseAux}
-use mathlib.Core.Bool.{Bool, true, false, not, _&&_}
-use Prim.Native.Nat.{ℕ, zero, suc, _+_, _-_, _<_, _≤_}
-use native.Mathlib.Omega.{arith}
-use borrow.Author.Tests.{ne-eqb}
-use lib.Dec.{eqb, ltb}
-use lib.ListN.{length}
-use Rattle.definitions.specs.Lists.{if_then_else_, In, nth, keep, all, countFrom, below}
-use Rattle.definitions.specs.Job.{Job}
-use Rattle.definitions.specs.Times.{after, least, largest, Copy, Outcome, finish, walk, copiesOf, copyOf}
-use Rattle.definitions.specs.Planner.{tickOf, Waiting, waitingFrom, freeTasks, ranked, criticalTask, trial, goesBefore, chosen, replicas, place}
+use Rattle.lists.proofs.Prelude.{_≡_, refl, ap, ap₂, _∙_, sym, inl, inr, List, [], _∷_, map, map-map, reverseAux, Bool, true, false, not, _&&_, ℕ, zero, suc, _+_, _-_, _<_, _≤_, arith, ne-eqb, eqb, ltb, length, if_then_else_, In, nth, keep, all, countFrom, below, Job, after, least, largest, Copy, Outcome, finish, walk, copiesOf, copyOf, tickOf, Waiting, waitingFrom, freeTasks, ranked, trial, goesBefore, replicas, place}
+use Rattle.definitions.specs.Planner.{criticalTask, chosen}
 use Rattle.definitions.proofs.Lists.{in-below, nth-below}
 use Rattle.definitions.proofs.Chosen.{chosen-count}
 use Rattle.definitions.proofs.Placing.{greatest-in}

@@ -1,21 +1,5 @@
 -- The memory while a plan is drawn up: its ticks, a line more, and what a change elsewhere leaves as it was.
-use mathlib.Core.Path.{_≡_, refl, ap, _∙_, sym}
-use mathlib.Core.Logic.{⊎-elim}
-use mathlib.Core.List.{List, [], _∷_, _++_, map, map-map, map-append, append-nil}
-use mathlib.Core.Bool.{Bool, true, false, not, _&&_}
-use Prim.Native.Nat.{ℕ, zero, suc, _+_, _*_, _-_, _<_, _≤_}
-use native.Mathlib.Omega.{arith}
-use native.Mathlib.Nat.{mul-le-mul, add-zero}
-use native.Mathlib.Numerals.{add-one}
-use borrow.Author.Tests.{eqb-true, eqb-false, eq-eqb, ne-eqb, lt-ltb, not-true}
-use lib.Dec.{eqb, ltb}
-use lib.ListN.{length, set, length-append, length-map, length-set}
-use lib.Seq.{getD-set-same, getD-set-other}
-use Rattle.definitions.specs.Lists.{In, nth, keep, all, has, below}
-use Rattle.definitions.specs.Limits.{document01}
-use Rattle.definitions.specs.Job.{Edge, runTime, delay, incoming}
-use Rattle.definitions.specs.Times.{tick, after, arrival, dataReady, start, stopTime, finish, copyOf}
-use Rattle.definitions.specs.Planner.{tickOf, Waiting, freeTasks, ranked, scale, topLevel, trial, replicas, place, planFor}
+use Rattle.lists.proofs.Prelude.{_≡_, refl, ap, _∙_, sym, ⊎-elim, List, [], _∷_, _++_, map, map-map, map-append, append-nil, Bool, true, false, not, _&&_, ℕ, zero, suc, _+_, _*_, _-_, _<_, _≤_, arith, mul-le-mul, add-zero, add-one, eqb-true, eqb-false, eq-eqb, ne-eqb, lt-ltb, not-true, eqb, ltb, length, set, length-append, length-map, length-set, getD-set-same, getD-set-other, In, nth, keep, all, has, below, document01, Edge, runTime, delay, incoming, tick, after, arrival, dataReady, start, stopTime, finish, copyOf, tickOf, Waiting, freeTasks, ranked, scale, topLevel, trial, replicas, place, planFor}
 use Rattle.definitions.proofs.Lists.{both, in-map, in-keep, map-same, map-keep, in-below, all-in}
 use Rattle.definitions.proofs.Tasks.{in-incoming}
 use Rattle.definitions.proofs.Placing.{placed-count}

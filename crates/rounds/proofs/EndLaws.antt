@@ -1,17 +1,7 @@
 -- The end of a plan, from the lines in memory.
-use mathlib.Core.Path.{_≡_, refl, ap, _∙_, sym}
-use mathlib.Core.List.{List, [], _∷_, map}
-use mathlib.Core.Bool.{Bool, true, false}
-use Prim.Native.Nat.{ℕ, suc, _+_, _-_, _<_, _≤_}
-use native.Mathlib.Omega.{arith}
-use native.Mathlib.Nat.{sub-zero}
-use native.Mathlib.Numerals.{add-one}
-use lib.ListN.{length, length-map}
-use Rattle.definitions.specs.Lists.{if_then_else_, nth, countFrom, below, keep, empty, In}
-use Rattle.definitions.specs.Job.{Edge, outgoing}
+use Rattle.lists.proofs.Prelude.{_≡_, refl, ap, _∙_, sym, List, [], _∷_, map, Bool, true, false, ℕ, suc, _+_, _-_, _<_, _≤_, arith, sub-zero, add-one, length, length-map, if_then_else_, nth, countFrom, below, keep, empty, In, Edge, outgoing, Time, tick, later, sooner, least, largest, ofTask, times, exits, end}
 use Rattle.orders.specs.Links.{Run}
 use Rattle.orders.proofs.Walk.{pass-length}
-use Rattle.definitions.specs.Times.{Time, tick, later, sooner, least, largest, ofTask, times, exits, end}
 use Rattle.definitions.proofs.Lists.{distinct-map, full, in-map, in-below, distinct-count, length-count}
 use Rattle.jobs.proofs.Held.{sizes}
 use Rattle.heads.specs.Layout.{lineAt, rowAt, timeAt}

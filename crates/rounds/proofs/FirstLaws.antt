@@ -1,16 +1,5 @@
 -- The first finish of a task, and the lowest processor that has it.
-use mathlib.Core.Path.{_≡_, refl, ap, _∙_, sym}
-use mathlib.Core.Logic.{_⊎_, inl, inr, ⊎-elim}
-use mathlib.Core.List.{List, [], _∷_, map}
-use mathlib.Core.Bool.{Bool, true, false, false≢true}
-use Prim.Native.Nat.{ℕ, zero, suc, _+_, _*_, _-_, _<_, _≤_, min}
-use native.Mathlib.Omega.{arith}
-use native.Mathlib.Numerals.{add-one}
-use borrow.Author.Tests.{eqb-true, ltb-true, ltb-false}
-use lib.Dec.{eqb, ltb}
-use Rattle.definitions.specs.Lists.{if_then_else_, nth, In, keep}
-use Rattle.definitions.specs.Times.{Time, tick, never, sooner, same, least, Outcome, ofTask, times}
-use Rattle.definitions.specs.Replay.{firstFinish, lowest, firstBox}
+use Rattle.lists.proofs.Prelude.{_≡_, refl, ap, _∙_, sym, _⊎_, inl, inr, ⊎-elim, List, [], _∷_, map, Bool, true, false, false≢true, ℕ, zero, suc, _+_, _*_, _-_, _<_, _≤_, min, arith, add-one, eqb-true, ltb-true, ltb-false, eqb, ltb, if_then_else_, nth, In, keep, Time, tick, never, sooner, same, least, Outcome, ofTask, times, firstFinish, lowest, firstBox}
 use Rattle.definitions.proofs.Lists.{in-map, map-in, in-keep, keep-in}
 use Rattle.definitions.proofs.Guarantee.{time-same}
 use Rattle.heads.specs.Layout.{lineAt, rowAt, processorAt, earlyAt}

@@ -1,19 +1,7 @@
 -- M* and M of a plan whose ticks are the equations', and the checker's answer.
-use mathlib.Core.Path.{_≡_, refl, ap, _∙_, sym}
-use mathlib.Core.List.{List, [], _∷_, reverse, reverseAux}
-use mathlib.Core.Bool.{Bool, true, false}
-use Prim.Native.Nat.{ℕ, _+_, _<_, min}
-use native.Mathlib.Omega.{arith}
-use borrow.Author.Tests.{eqb-true, eq-eqb, ne-eqb}
-use lib.Dec.{eqb}
-use Rattle.definitions.specs.Lists.{if_then_else_, nth, In, keep}
-use Rattle.definitions.specs.Limits.{document01}
-use Rattle.definitions.specs.Text.{firstOf, good}
-use Rattle.definitions.specs.Job.{Job}
-use Rattle.definitions.specs.Plan.{Plan}
-use Rattle.definitions.specs.Times.{Time, tick, never, later, sooner, same, least, largest, Outcome, ofTask, times, earlies, lates, exits, end, bestEnd, worstEnd}
-use Rattle.definitions.specs.Refusals.{doubledTasks, ticksAgree, endsAgree, planRefusal}
-use Rattle.definitions.specs.Tools.{verdictFor}
+use Rattle.lists.proofs.Prelude.{_≡_, refl, ap, _∙_, sym, List, [], _∷_, reverse, reverseAux, Bool, true, false, ℕ, _+_, _<_, min, arith, eqb-true, eq-eqb, ne-eqb, eqb, if_then_else_, nth, In, keep, document01, firstOf, good, Job, Plan, Time, tick, never, later, sooner, same, least, largest, Outcome, ofTask, times, earlies, lates, exits, end, doubledTasks, ticksAgree, endsAgree, verdictFor}
+use Rattle.definitions.specs.Times.{bestEnd, worstEnd}
+use Rattle.definitions.specs.Refusals.{planRefusal}
 use Rattle.definitions.proofs.Lists.{map-same, in-some}
 use Rattle.heads.specs.Layout.{bestAt, worstAt}
 use Rattle.jobs.specs.Held.{jobIn}

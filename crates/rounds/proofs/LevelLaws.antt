@@ -1,19 +1,6 @@
 -- Bottom levels filled in a memory, from the last task of an order to the first.
-use mathlib.Core.Path.{_≡_, refl, ap, sym, _∙_}
-use mathlib.Core.Logic.{⊎-elim}
-use mathlib.Core.List.{List, [], _∷_, map, reverseAux}
-use mathlib.Core.Bool.{Bool, true, false}
-use Prim.Native.Nat.{ℕ, _+_, _*_, _-_, _<_, _≤_, max}
-use native.Mathlib.Omega.{arith}
-use native.Mathlib.Nat.{mul-le-mul}
-use lib.Dec.{ltb}
-use lib.ListN.{set}
-use lib.Seq.{getD-set-same, getD-set-other}
-use borrow.Author.Tests.{ltb-true, ltb-false}
-use Rattle.definitions.specs.Lists.{In, nth, greatest}
-use Rattle.definitions.specs.Limits.{document01}
-use Rattle.definitions.specs.Job.{Edge, outgoing}
-use Rattle.definitions.specs.Planner.{scaledRun, totalDelay, scaledMessage, bottomLevels}
+use Rattle.lists.proofs.Prelude.{_≡_, refl, ap, sym, _∙_, ⊎-elim, List, [], _∷_, map, reverseAux, Bool, true, false, ℕ, _+_, _*_, _-_, _<_, _≤_, max, arith, mul-le-mul, ltb, set, getD-set-same, getD-set-other, ltb-true, ltb-false, In, nth, greatest, document01, Edge, outgoing, scaledRun, totalDelay, bottomLevels}
+use Rattle.definitions.specs.Planner.{scaledMessage}
 use Rattle.definitions.proofs.Lists.{map-same, full, nth-most}
 use Rattle.definitions.proofs.Tasks.{in-outgoing}
 use Rattle.definitions.proofs.Bounds.{bottom-most}

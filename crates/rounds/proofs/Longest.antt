@@ -1,17 +1,5 @@
 -- The longest answer of the replay: 255 R lines of at most 20 bytes each, and an L line of at most 13.
-use mathlib.Core.Path.{_≡_, refl, ap}
-use mathlib.Core.Logic.{inl, inr, ⊎-elim}
-use mathlib.Core.List.{List, [], _∷_, map}
-use mathlib.Core.Bool.{false}
-use Prim.Native.Nat.{ℕ, zero, suc, _+_, _*_, _<_, _≤_}
-use native.Mathlib.Omega.{arith}
-use lib.ListN.{length, length-append}
-use Rattle.definitions.specs.Lists.{bytes, nth, below, In, keep}
-use Rattle.definitions.specs.Limits.{document01}
-use Rattle.definitions.specs.Text.{widthFrom, width}
-use Rattle.definitions.specs.Job.{Job}
-use Rattle.definitions.specs.Times.{Time, tick, never, same, Outcome, ofTask}
-use Rattle.definitions.specs.Replay.{firstFinish, lowest, firstBox, roundEnd, resultLine, resultLines, endLine, replayText}
+use Rattle.lists.proofs.Prelude.{_≡_, refl, ap, inl, inr, ⊎-elim, List, [], _∷_, map, false, ℕ, zero, suc, _+_, _*_, _<_, _≤_, arith, length, length-append, bytes, nth, below, In, keep, document01, widthFrom, width, Job, Time, tick, never, same, Outcome, ofTask, firstFinish, lowest, firstBox, roundEnd, resultLine, resultLines, endLine, replayText}
 use Rattle.definitions.proofs.Lists.{in-append, in-map, in-keep, in-below, length-count}
 use Rattle.definitions.proofs.Decimal.{width-powers, width-monotone, length-decimal, length-none, length-numbers, length-line}
 use Rattle.definitions.proofs.Tasks.{in-task}

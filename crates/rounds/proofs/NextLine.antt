@@ -1,22 +1,7 @@
 -- A line more in memory: what stands after it, what is still to be placed, and what the free tasks' counts and priorities are.
-use mathlib.Core.Path.{_≡_, refl, ap, _∙_, sym}
-use mathlib.Core.Logic.{_⊎_, inl, inr, ⊎-elim}
-use mathlib.Core.List.{List, [], _∷_, _++_, map, map-map, reverse, reverseAux, reverseAux-eq}
-use mathlib.Core.Bool.{Bool, true, false, not, _&&_}
-use Prim.Native.Nat.{ℕ, zero, suc, _+_, _*_, _-_, _<_, _≤_}
-use native.Mathlib.Omega.{arith}
-use native.Mathlib.Nat.{add-zero}
-use native.Mathlib.Numerals.{add-one}
-use borrow.Author.Tests.{eqb-true, eqb-false, eq-eqb, ne-eqb}
-use lib.Dec.{eqb}
-use lib.ListN.{length, set, length-set}
-use lib.Seq.{getD-set-same, getD-set-other, append-snoc}
-use Rattle.definitions.specs.Lists.{In, nth, keep, below}
-use Rattle.definitions.specs.Limits.{document01}
-use Rattle.definitions.specs.Job.{Edge, incoming, outgoing}
-use Rattle.definitions.specs.Plan.{Line}
-use Rattle.definitions.specs.Times.{Time, tick, after, least, largest, Outcome, ofTask, walk, copiesOf}
-use Rattle.definitions.specs.Planner.{tickOf, largestDelay, scale, topLevel, trial, replicas, place, planFor}
+use Rattle.lists.proofs.Prelude.{_≡_, refl, ap, _∙_, sym, _⊎_, inl, inr, ⊎-elim, List, [], _∷_, _++_, map, map-map, reverse, reverseAux, Bool, true, false, not, _&&_, ℕ, zero, suc, _+_, _*_, _-_, _<_, _≤_, arith, add-zero, add-one, eqb-true, eqb-false, eq-eqb, ne-eqb, eqb, length, set, length-set, getD-set-same, getD-set-other, In, nth, keep, below, document01, Edge, incoming, outgoing, Line, Time, tick, after, least, largest, Outcome, ofTask, walk, copiesOf, tickOf, largestDelay, scale, topLevel, trial, replicas, place, planFor}
+use mathlib.Core.List.{reverseAux-eq}
+use lib.Seq.{append-snoc}
 use Rattle.definitions.proofs.Lists.{both, both-true, in-map, in-keep, map-same, map-keep, in-below}
 use Rattle.definitions.proofs.Tasks.{in-incoming}
 use Rattle.definitions.proofs.Chosen.{chosen-count, chosen-below, chosen-distinct}

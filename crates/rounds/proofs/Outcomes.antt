@@ -1,18 +1,6 @@
 -- The replicas of a line in memory: their outcomes, the ticks by which they come, and the finishes after them.
-use mathlib.Core.Path.{_≡_, refl, ap, _∙_, sym}
-use mathlib.Core.Logic.{inl, inr, ⊎-elim}
-use mathlib.Core.List.{List, [], _∷_, _++_, map, map-append, reverse, reverseAux-append, append-nil, append-assoc}
-use mathlib.Core.Bool.{Bool, true, false}
-use Prim.Native.Nat.{ℕ, zero, suc, _+_, _*_, _-_, _<_, _≤_, max, min}
-use native.Mathlib.Omega.{arith}
-use borrow.Author.Tests.{eqb-true, eqb-false, ne-eqb}
-use lib.Dec.{eqb}
-use lib.ListN.{length}
-use Rattle.definitions.specs.Lists.{if_then_else_, In, nth, keep, distinct}
-use Rattle.definitions.specs.Job.{Edge, Job, runTime, incoming}
-use Rattle.definitions.specs.Plan.{Replica, Line, processorsOf}
-use Rattle.definitions.specs.Times.{tick, later, after, Outcome, ready, arrival, dataReady, start, stopTime, finish, Time, sooner, least, largest, outcome, ofTask, walk, copiesOf, copies, copyOf}
-use Rattle.definitions.specs.Planner.{tickOf}
+use Rattle.lists.proofs.Prelude.{_≡_, refl, ap, _∙_, sym, inl, inr, ⊎-elim, List, [], _∷_, _++_, map, map-append, reverse, append-nil, append-assoc, Bool, true, false, ℕ, zero, suc, _+_, _*_, _-_, _<_, _≤_, max, min, arith, eqb-true, eqb-false, ne-eqb, eqb, length, if_then_else_, In, nth, keep, distinct, Edge, Job, runTime, incoming, Replica, Line, processorsOf, tick, later, after, Outcome, ready, arrival, dataReady, start, stopTime, finish, Time, sooner, least, largest, outcome, ofTask, walk, copiesOf, copies, copyOf, tickOf}
+use mathlib.Core.List.{reverseAux-append}
 use Rattle.definitions.proofs.Ready.{first-ready}
 use Rattle.definitions.proofs.Lists.{map-same, in-append, append-left, append-right, apart-head}
 use Rattle.heads.specs.Layout.{lineAt, rowAt, processorAt, timeAt}

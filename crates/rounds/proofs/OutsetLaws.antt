@@ -1,19 +1,5 @@
 -- The memory before the first task is placed: cleared tables, counted edges, and all of the plan still to be drawn up.
-use mathlib.Core.Path.{_≡_, refl, ap, _∙_, sym}
-use mathlib.Core.Logic.{inl, inr}
-use mathlib.Core.List.{List, [], _∷_, map}
-use Prim.Native.Nat.{ℕ, _+_, _*_, _-_, _<_}
-use native.Mathlib.Omega.{arith}
-use native.Mathlib.Nat.{add-zero}
-use borrow.Author.Tests.{eqb-true, eq-eqb}
-use lib.Dec.{eqb}
-use lib.ListN.{length, set, length-set, length-map}
-use lib.Seq.{getD-set-other, ext-getD}
-use Rattle.definitions.specs.Lists.{nth, keep, below}
-use Rattle.definitions.specs.Limits.{document01}
-use Rattle.definitions.specs.Job.{Job, Edge, incoming}
-use Rattle.definitions.specs.Times.{largest}
-use Rattle.definitions.specs.Planner.{waitingFrom, bottomLevels, planFor}
+use Rattle.lists.proofs.Prelude.{_≡_, refl, ap, _∙_, sym, inl, inr, List, [], _∷_, map, ℕ, _+_, _*_, _-_, _<_, arith, add-zero, eqb-true, eq-eqb, eqb, length, set, length-set, length-map, getD-set-other, ext-getD, nth, keep, below, document01, Job, Edge, incoming, largest, waitingFrom, bottomLevels, planFor}
 use Rattle.definitions.proofs.Lists.{both, keep-every, nth-below, length-count, in-below}
 use Rattle.definitions.proofs.Tasks.{in-incoming}
 use Rattle.definitions.proofs.BottomLevels.{length-bottom-levels}

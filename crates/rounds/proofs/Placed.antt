@@ -1,16 +1,6 @@
 -- What the lines in memory are to the definitions: the placed replicas, the data they send and the levels they give.
-use mathlib.Core.Path.{_≡_, refl, ap, _∙_, sym}
-use mathlib.Core.Logic.{_⊎_, inl, inr, ⊎-elim}
-use mathlib.Core.List.{List, [], _∷_, _++_, map, append-nil, map-append}
-use mathlib.Core.Bool.{Bool, true, false}
-use Prim.Native.Nat.{ℕ, zero, suc, _+_, _*_, _-_, _<_, _≤_}
-use native.Mathlib.Omega.{arith}
-use borrow.Author.Tests.{eq-eqb, ne-eqb, lt-ltb, le-ltb}
-use lib.Dec.{eqb, ltb}
-use Rattle.definitions.specs.Lists.{if_then_else_, nth, keep, has, In}
-use Rattle.definitions.specs.Job.{Edge, Job, incoming}
-use Rattle.definitions.specs.Times.{later, after, least, largest, Outcome, ofTask, ready, feeding, arrival, dataReady, start}
-use Rattle.definitions.specs.Planner.{tickOf, largestDelay, scale, topLevel}
+use Rattle.lists.proofs.Prelude.{_≡_, refl, ap, _∙_, sym, _⊎_, inl, inr, ⊎-elim, List, [], _∷_, _++_, map, append-nil, map-append, Bool, true, false, ℕ, zero, suc, _+_, _*_, _-_, _<_, _≤_, arith, eq-eqb, ne-eqb, lt-ltb, le-ltb, eqb, ltb, if_then_else_, nth, keep, has, In, Edge, Job, incoming, later, after, least, largest, Outcome, ofTask, ready, arrival, dataReady, start, tickOf, largestDelay, scale, topLevel}
+use Rattle.definitions.specs.Times.{feeding}
 use Rattle.definitions.proofs.Lists.{map-same, in-append, append-left, append-right, in-has, has-not}
 use Rattle.definitions.proofs.Tasks.{in-incoming}
 use Rattle.heads.specs.Layout.{lineAt, farAt, rowAt, processorAt}

@@ -1,22 +1,5 @@
 -- The planner's answer: the plan in memory is the one of the definition, and it is written if it fits.
-use mathlib.Core.Path.{_≡_, refl, ap, _∙_, sym}
-use mathlib.Core.Logic.{⊎-elim}
-use mathlib.Core.List.{List, []}
-use mathlib.Core.Bool.{Bool, true, false, true≢false}
-use Prim.Native.Nat.{ℕ, _+_, _<_, _≤_}
-use native.Mathlib.Omega.{arith}
-use borrow.Author.Tests.{lt-ltb, le-ltb, eqb-true}
-use lib.ListN.{length, set, length-set}
-use lib.Seq.{getD-set-same, getD-set-other}
-use Rattle.definitions.specs.Lists.{nth}
-use Rattle.definitions.specs.Limits.{document01}
-use Rattle.definitions.specs.Text.{Result, good}
-use Rattle.definitions.specs.Job.{Job}
-use Rattle.definitions.specs.Plan.{Plan, planText}
-use Rattle.definitions.specs.Times.{end}
-use Rattle.definitions.specs.Refusals.{doubledTasks, ticksAgree, endsAgree}
-use Rattle.definitions.specs.Planner.{planFor}
-use Rattle.definitions.specs.Tools.{fitting, planned}
+use Rattle.lists.proofs.Prelude.{_≡_, refl, ap, _∙_, sym, ⊎-elim, List, [], Bool, true, false, true≢false, ℕ, _+_, _<_, _≤_, arith, lt-ltb, le-ltb, eqb-true, length, set, length-set, getD-set-same, getD-set-other, nth, document01, Result, good, Job, Plan, planText, end, doubledTasks, ticksAgree, endsAgree, planFor, fitting, planned}
 use Rattle.definitions.proofs.Placing.{placed-apart, placed-agrees, placed-ends}
 use Rattle.definitions.proofs.Claims.{own-facts, own-fits, roomy01}
 use Rattle.lists.specs.Over.{over}

@@ -1,15 +1,6 @@
 -- The text of a plan that stands in a memory, line by line.
-use mathlib.Core.Path.{_≡_, refl, ap, sym, _∙_}
-use mathlib.Core.List.{List, [], _∷_, _++_, append-assoc, append-nil}
-use Prim.Native.Nat.{ℕ, zero, suc, _+_, _*_, _-_, _%_, _^_, _<_, _≤_}
-use native.Mathlib.Omega.{arith}
-use native.Mathlib.Numerals.{add-one}
-use lib.ListN.{length, take, drop, length-take, length-drop}
-use lib.Seq.{drop-cons, getD-drop, take-suc}
-use Rattle.definitions.specs.Lists.{bytes, nth}
-use Rattle.definitions.specs.Limits.{document01}
-use Rattle.definitions.specs.Text.{lineText}
-use Rattle.definitions.specs.Plan.{Replica, Line, replicaNumbers, planLinesText, planText}
+use Rattle.lists.proofs.Prelude.{_≡_, refl, ap, sym, _∙_, List, [], _∷_, _++_, append-assoc, append-nil, ℕ, zero, suc, _+_, _*_, _-_, _%_, _^_, _<_, _≤_, arith, add-one, length, take, drop, length-take, length-drop, drop-cons, getD-drop, take-suc, bytes, nth, document01, lineText, Replica, Line, planText}
+use Rattle.definitions.specs.Plan.{replicaNumbers, planLinesText}
 use Rattle.text.specs.Told.{written}
 use Rattle.printing.specs.Rendered.{Rendered}
 use Rattle.printing.proofs.WriteLaws.{few-counted}

@@ -1,17 +1,5 @@
 -- The edges that leave a placed task no longer block, one by one.
-use mathlib.Core.Path.{_≡_, refl, ap, _∙_, sym}
-use mathlib.Core.List.{List, [], _∷_}
-use mathlib.Core.Bool.{Bool, true, false}
-use Prim.Native.Nat.{ℕ, suc, _+_, _*_, _-_, _<_, _≤_}
-use native.Mathlib.Omega.{arith}
-use borrow.Author.Tests.{eqb-true, eqb-false, eq-eqb}
-use lib.Dec.{eqb}
-use lib.ListN.{length, set, length-set}
-use lib.Seq.{getD-set-same, getD-set-other}
-use Rattle.definitions.specs.Lists.{if_then_else_, nth, keep}
-use Rattle.definitions.specs.Limits.{document01}
-use Rattle.definitions.specs.Job.{Edge, incoming, outgoing}
-use Rattle.definitions.specs.Planner.{tickOf, scale, topLevel}
+use Rattle.lists.proofs.Prelude.{_≡_, refl, ap, _∙_, sym, List, [], _∷_, Bool, true, false, ℕ, suc, _+_, _*_, _-_, _<_, _≤_, arith, eqb-true, eqb-false, eq-eqb, eqb, length, set, length-set, getD-set-same, getD-set-other, if_then_else_, nth, keep, document01, Edge, incoming, outgoing, tickOf, scale, topLevel}
 use Rattle.definitions.proofs.Lists.{both, both-true}
 use Rattle.definitions.proofs.Tasks.{in-incoming}
 use Rattle.heads.specs.Layout.{memorySize, levelAt, lineAt, blockedAt, priorityAt, rowAt, earlyAt}

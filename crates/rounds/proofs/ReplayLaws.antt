@@ -1,21 +1,5 @@
 -- The replay's answer: it does not depend on the order of the outcomes, and what the memory gives is what the texts say.
-use mathlib.Core.Path.{_≡_, refl, ap, ap₂}
-use mathlib.Core.Logic.{⊎-elim}
-use mathlib.Core.List.{List, [], _∷_, _++_, map, reverse}
-use mathlib.Core.Bool.{Bool}
-use Prim.Native.Nat.{ℕ, _<_, _≤_}
-use native.Mathlib.Omega.{arith}
-use borrow.Author.Tests.{lt-ltb, le-ltb}
-use lib.Dec.{eqb}
-use lib.ListN.{length}
-use Rattle.definitions.specs.Lists.{nth, below, keep, In}
-use Rattle.definitions.specs.Limits.{Limits, document01}
-use Rattle.definitions.specs.Text.{Result, good, bad}
-use Rattle.definitions.specs.Job.{Job}
-use Rattle.definitions.specs.Plan.{Plan}
-use Rattle.definitions.specs.Stops.{Stop, readStops}
-use Rattle.definitions.specs.Times.{Time, same, largest, Outcome, ofTask, exits, end}
-use Rattle.definitions.specs.Replay.{replay, firstFinish, firstBox, roundEnd, resultLines, endLine, replayText}
+use Rattle.lists.proofs.Prelude.{_≡_, refl, ap, ap₂, ⊎-elim, List, [], _∷_, _++_, map, reverse, Bool, ℕ, _<_, _≤_, arith, lt-ltb, le-ltb, eqb, length, nth, below, keep, In, Limits, document01, Result, good, bad, Job, Plan, Stop, readStops, Time, same, largest, Outcome, ofTask, exits, end, replay, firstFinish, firstBox, roundEnd, resultLines, endLine, replayText}
 use Rattle.definitions.proofs.Lists.{map-same, in-map, map-in, in-keep, keep-in, in-reverse, reverse-left}
 use Rattle.lists.specs.Over.{over}
 use Rattle.text.specs.declared.Step.the-variants.{Next, Refused}

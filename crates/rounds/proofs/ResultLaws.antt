@@ -1,14 +1,6 @@
 -- The R lines and the L line, one after another.
-use mathlib.Core.Path.{_≡_, refl, ap, sym}
-use mathlib.Core.Logic.{⊎-elim}
-use mathlib.Core.List.{List, [], _∷_, _++_, append-assoc, append-nil}
-use Prim.Native.Nat.{ℕ, _+_, _-_, _<_, min}
+use Rattle.lists.proofs.Prelude.{_≡_, refl, ap, sym, ⊎-elim, List, [], _∷_, _++_, append-assoc, append-nil, ℕ, _+_, _-_, _<_, min, length, nth, countFrom, below, document01, Time, least, end, Outcome, firstFinish, firstBox, roundEnd, resultLine, resultLines, endLine, replayText}
 use borrow.Rule.Slice.PartMut.{putMid, midOf}
-use lib.ListN.{length}
-use Rattle.definitions.specs.Lists.{nth, countFrom, below}
-use Rattle.definitions.specs.Limits.{document01}
-use Rattle.definitions.specs.Times.{Time, least, end, Outcome}
-use Rattle.definitions.specs.Replay.{firstFinish, firstBox, roundEnd, resultLine, resultLines, endLine, replayText}
 use Rattle.lists.proofs.Upward.{below-more}
 use Rattle.text.specs.Told.{written}
 use Rattle.printing.specs.Rendered.{Rendered}

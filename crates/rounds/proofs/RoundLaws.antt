@@ -1,21 +1,7 @@
 -- The replay of all lines: what a plan in order gives of its lines in memory, and line after line.
-use mathlib.Core.Path.{_≡_, refl, ap, _∙_, sym}
-use mathlib.Core.Logic.{_⊎_, inl, inr, ⊎-elim}
-use mathlib.Core.List.{List, [], _∷_, _++_, map, map-append}
-use mathlib.Core.Bool.{false}
-use Prim.Native.Nat.{ℕ, zero, suc, _+_, _<_, _≤_}
-use native.Mathlib.Omega.{arith}
-use native.Mathlib.Numerals.{add-one}
-use lib.ListN.{length, length-append, replicate, length-replicate, getD-replicate, List·getD-append}
-use lib.Seq.{getD-at, ext-getD}
-use Rattle.definitions.specs.Lists.{nth, In}
-use Rattle.definitions.specs.Job.{Job}
-use Rattle.definitions.specs.Plan.{Line, descends}
-use Rattle.definitions.specs.Stops.{Stop}
-use Rattle.definitions.specs.Times.{ready, walk, copies}
-use Rattle.definitions.specs.Replay.{replay}
+use Rattle.lists.proofs.Prelude.{_≡_, refl, ap, _∙_, sym, _⊎_, inl, inr, ⊎-elim, List, [], _∷_, _++_, map, map-append, false, ℕ, zero, suc, _+_, _<_, _≤_, arith, add-one, length, length-append, replicate, length-replicate, getD-replicate, List·getD-append, ext-getD, nth, In, Job, Line, descends, Stop, ready, walk, copies, replay, LineFacts, Ordered}
+use lib.Seq.{getD-at}
 use Rattle.definitions.proofs.Lists.{in-append, nth-in}
-use Rattle.definitions.specs.Facts.{LineFacts, Ordered}
 use Rattle.definitions.proofs.Ready.{first-ready}
 use Rattle.definitions.proofs.Doubled.{rising}
 use Rattle.heads.specs.Layout.{jobSize, lineAt, rowAt, farAt, processorAt}

@@ -1,19 +1,7 @@
 -- Run times and delays in their rows, and their sums.
-use mathlib.Core.Path.{_≡_, refl, ap, _∙_, sym}
-use mathlib.Core.List.{List, [], _∷_, map}
-use mathlib.Core.Bool.{Bool, true, false, not}
-use Prim.Native.Nat.{ℕ, _+_, _*_, _-_, _%_, _^_, _<_, _≤_}
-use native.Mathlib.Omega.{arith}
-use native.Mathlib.Nat.{mul-le-mul}
-use borrow.Author.Tests.{eqb-true, eqb-false, ne-eqb, ltb-true, ltb-false}
-use lib.Dec.{eqb, ltb}
-use lib.ListN.{length, take, drop, length-map}
-use lib.Seq.{ext-getD}
+use Rattle.lists.proofs.Prelude.{_≡_, refl, ap, _∙_, sym, List, [], _∷_, map, Bool, true, false, not, ℕ, _+_, _*_, _-_, _%_, _^_, _<_, _≤_, arith, mul-le-mul, eqb-true, eqb-false, ne-eqb, ltb-true, ltb-false, eqb, ltb, length, take, drop, length-map, ext-getD, if_then_else_, nth, countFrom, below, keep, sum, runTime, delay, scaledRun, totalDelay}
 use borrow.Rule.Slice.PartMut.{midOf}
 use Rattle.lists.proofs.ListLaws.{part-length, part-nth}
-use Rattle.definitions.specs.Lists.{if_then_else_, nth, countFrom, below, keep, sum}
-use Rattle.definitions.specs.Job.{runTime, delay}
-use Rattle.definitions.specs.Planner.{scaledRun, totalDelay}
 use Rattle.definitions.proofs.Lists.{length-count, in-below, sum-most}
 use Rattle.heads.specs.Layout.{jobSize}
 use Rattle.jobs.specs.Held.{numberAt, runAt, delayAt, jobIn, JobHeld}

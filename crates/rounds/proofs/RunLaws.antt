@@ -1,22 +1,7 @@
 -- The replay of a plan in memory, replica by replica and line by line.
-use mathlib.Core.Path.{_≡_, refl, ap, _∙_, sym}
-use mathlib.Core.Logic.{inl, inr, ⊎-elim}
-use mathlib.Core.List.{List, [], _∷_, _++_, map, map-append}
-use mathlib.Core.Bool.{Bool, true, false}
-use Prim.Native.Nat.{ℕ, zero, suc, _+_, _*_, _<_, _≤_}
-use native.Mathlib.Omega.{arith}
-use native.Mathlib.Numerals.{add-one}
-use borrow.Author.Tests.{eq-eqb, ne-eqb, lt-leb, le-leb}
-use lib.Dec.{eqb}
-use lib.ListN.{length, set, length-set}
-use lib.Seq.{getD-set-same, getD-set-other}
-use Rattle.definitions.specs.Lists.{if_then_else_, nth, below, In}
-use Rattle.definitions.specs.Limits.{document01}
-use Rattle.definitions.specs.Job.{Job, runTime, incoming}
-use Rattle.definitions.specs.Stops.{Stop}
-use Rattle.definitions.specs.Times.{tick, never, later, after, least, largest, Copy, Outcome, outcome, ofTask, ready, arrival, dataReady, start, stopTime, unlessStopped, finish, walk, copiesOf, copyOf}
-use Rattle.definitions.specs.Planner.{tickOf, trial}
-use Rattle.definitions.specs.Claims.{Within, PlacedWithin}
+use Rattle.lists.proofs.Prelude.{_≡_, refl, ap, _∙_, sym, inl, inr, ⊎-elim, List, [], _∷_, _++_, map, map-append, Bool, true, false, ℕ, zero, suc, _+_, _*_, _<_, _≤_, arith, add-one, eq-eqb, ne-eqb, lt-leb, le-leb, eqb, length, set, length-set, getD-set-same, getD-set-other, if_then_else_, nth, below, In, document01, Job, runTime, incoming, Stop, tick, never, later, after, least, largest, Copy, Outcome, outcome, ofTask, ready, arrival, dataReady, start, stopTime, finish, walk, copiesOf, copyOf, tickOf, trial, PlacedWithin}
+use Rattle.definitions.specs.Times.{unlessStopped}
+use Rattle.definitions.specs.Claims.{Within}
 use Rattle.definitions.proofs.Lists.{map-same, map-in, in-keep, below-in}
 use Rattle.definitions.proofs.Tasks.{in-incoming}
 use Rattle.definitions.proofs.Bounds.{weaker, trial-most}

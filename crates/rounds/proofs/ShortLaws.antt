@@ -1,18 +1,6 @@
 -- Times in cells of 32 bits.
-use mathlib.Core.Path.{_≡_, refl, ap, _∙_, sym}
-use mathlib.Core.Logic.{_⊎_, inl, inr, ⊎-elim}
-use mathlib.Core.List.{List}
-use mathlib.Core.Bool.{Bool, true, false}
-use Prim.Native.Nat.{ℕ, _+_, _-_, _*_, _/_, _%_, _<_, _≤_, max, min}
-use native.Mathlib.Omega.{arith}
-use native.Mathlib.Numerals.{add-one}
-use borrow.Author.Tests.{eq-eqb, ne-eqb, ltb-true, ltb-false}
-use lib.Dec.{ltb}
-use lib.ListN.{length, set, length-set, List·getD-eq-default, replicate, length-replicate, getD-replicate}
-use lib.Seq.{getD-set-same, getD-set-other}
-use Rattle.definitions.specs.Lists.{if_then_else_, nth}
-use Rattle.definitions.specs.Job.{delay}
-use Rattle.definitions.specs.Times.{tick, later, sooner, after, least, largest}
+use Rattle.lists.proofs.Prelude.{_≡_, refl, ap, _∙_, sym, _⊎_, inl, inr, ⊎-elim, List, Bool, true, false, ℕ, _+_, _-_, _*_, _/_, _%_, _<_, _≤_, max, min, arith, add-one, eq-eqb, ne-eqb, ltb-true, ltb-false, ltb, length, set, length-set, replicate, length-replicate, getD-replicate, getD-set-same, getD-set-other, if_then_else_, nth, delay, tick, later, sooner, after, least, largest}
+use lib.ListN.{List·getD-eq-default}
 use Rattle.heads.specs.Layout.{jobSize, processorAt, earlyAt, lateAt}
 use Rattle.ticks.specs.Lanes.{lanes, arrives, shortNever, widenedTick}
 use Rattle.rounds.specs.Arrivals.{shortIn, lastShort, DelayTable}

@@ -1,8 +1,5 @@
 -- The tables beside the lines, after a change elsewhere.
-use mathlib.Core.List.{List}
-use Prim.Native.Nat.{ℕ, _+_, _-_, _<_}
-use native.Mathlib.Omega.{arith}
-use Rattle.definitions.specs.Lists.{nth}
+use Rattle.lists.proofs.Prelude.{List, ℕ, _+_, _-_, _<_, arith, nth}
 use Rattle.heads.specs.Layout.{memorySize, jobSize, levelAt, lineAt, farAt}
 use Rattle.jobs.specs.Held.{JobHeld}
 use Rattle.rounds.specs.Schedule.{LevelsFilled, FarFilled}

@@ -1,15 +1,5 @@
 -- Times in cells: the later and the sooner, what comes after, and when data arrives.
-use mathlib.Core.Path.{_≡_, refl, ap, _∙_, sym}
-use mathlib.Core.Logic.{_⊎_, inl, inr, ⊎-elim}
-use mathlib.Core.List.{List, [], _∷_, map, reverseAux}
-use mathlib.Core.Bool.{Bool, true, false}
-use Prim.Native.Nat.{ℕ, suc, _+_, _*_, _-_, _<_, _≤_, max, min}
-use native.Mathlib.Omega.{arith}
-use native.Mathlib.Nat.{mul-le-mul}
-use borrow.Author.Tests.{ne-eqb}
-use Rattle.definitions.specs.Lists.{nth, In}
-use Rattle.definitions.specs.Job.{Edge, delay, incoming}
-use Rattle.definitions.specs.Times.{Time, tick, never, later, sooner, after, least, largest, arrival}
+use Rattle.lists.proofs.Prelude.{_≡_, refl, ap, _∙_, sym, _⊎_, inl, inr, ⊎-elim, List, [], _∷_, map, reverseAux, Bool, true, false, ℕ, suc, _+_, _*_, _-_, _<_, _≤_, max, min, arith, mul-le-mul, ne-eqb, nth, In, Edge, delay, incoming, Time, tick, never, later, sooner, after, least, largest, arrival}
 use Rattle.definitions.proofs.Tasks.{in-incoming}
 use Rattle.orders.specs.Edges.{edgeIn}
 use Rattle.orders.proofs.Walk.{passed, pass-none, pass-more, Passed, pass-done}

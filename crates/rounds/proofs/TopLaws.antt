@@ -1,17 +1,6 @@
 -- Top levels in memory: when the data of a line is everywhere, and the largest of that over the edges that enter a task.
-use mathlib.Core.Path.{_≡_, ap, _∙_, sym}
-use mathlib.Core.List.{List}
-use Prim.Native.Nat.{ℕ, suc, _+_, _*_, _-_, _<_, _≤_, min, max}
-use native.Mathlib.Omega.{arith}
-use native.Mathlib.Nat.{mul-le-mul}
-use native.Mathlib.Numerals.{add-one}
-use borrow.Author.Tests.{eq-eqb, ne-eqb}
-use Rattle.definitions.specs.Lists.{nth}
-use Rattle.definitions.specs.Limits.{document01}
-use Rattle.definitions.specs.Job.{Edge, incoming}
+use Rattle.lists.proofs.Prelude.{_≡_, ap, _∙_, sym, List, ℕ, suc, _+_, _*_, _-_, _<_, _≤_, min, max, arith, mul-le-mul, add-one, eq-eqb, ne-eqb, nth, document01, Edge, incoming, Time, tick, later, sooner, least, tickOf, scale}
 use Rattle.orders.proofs.Walk.{Passed}
-use Rattle.definitions.specs.Times.{Time, tick, later, sooner, least}
-use Rattle.definitions.specs.Planner.{tickOf, scale}
 use Rattle.definitions.proofs.Bounds.{largestDelay-most}
 use Rattle.heads.specs.Layout.{lineAt, rowAt, farAt, processorAt, earlyAt}
 use Rattle.jobs.specs.Held.{jobIn, JobHeld}

@@ -1,12 +1,5 @@
 -- The checker on two texts: its answer, by what was read of both.
-use mathlib.Core.Path.{refl}
-use mathlib.Core.List.{List}
-use Prim.Native.Nat.{ℕ}
-use Rattle.definitions.specs.Limits.{document01}
-use Rattle.definitions.specs.Text.{Result, good}
-use Rattle.definitions.specs.Job.{Job}
-use Rattle.definitions.specs.Plan.{Plan}
-use Rattle.definitions.specs.Tools.{verdictFor}
+use Rattle.lists.proofs.Prelude.{refl, List, ℕ, document01, Result, good, Job, Plan, verdictFor}
 use Rattle.text.specs.declared.Step.the-variants as Step
 use Rattle.jobs.specs.Held.{jobIn}
 use Rattle.plans.specs.Loading.{planIn, BothLoaded}

@@ -1,12 +1,5 @@
 -- The runs of a task's edges, as they are read from the links.
-use mathlib.Core.Path.{_≡_, refl, _∙_}
-use mathlib.Core.List.{List}
-use Prim.Native.Nat.{ℕ, _+_, _-_, _<_, _≤_}
-use native.Mathlib.Omega.{arith}
-use lib.ListN.{length, drop}
-use lib.Seq.{getD-drop}
-use Rattle.definitions.specs.Lists.{nth}
-use Rattle.definitions.specs.Job.{Edge, incoming, outgoing}
+use Rattle.lists.proofs.Prelude.{_≡_, refl, _∙_, List, ℕ, _+_, _-_, _<_, _≤_, arith, length, drop, getD-drop, nth, Edge, incoming, outgoing}
 use Rattle.orders.specs.Links.{Run, outStartAt, inStartAt, orderAt, linkIn}
 use Rattle.orders.proofs.LinkIn.{link-in}
 use Rattle.heads.specs.Layout.{lineAt}

@@ -1,20 +1,8 @@
 -- Rows of numbers in a memory, and the rules of C and D lines.
-use mathlib.Core.Path.{_≡_, refl, ap, sym, _∙_}
-use mathlib.Core.List.{List, [], _∷_, _++_}
-use mathlib.Core.Bool.{true, false, not}
-use Prim.Native.Nat.{ℕ, zero, suc, _+_, _-_, _*_, _/_, _<_, _≤_}
-use native.Mathlib.Omega.{arith}
-use native.Mathlib.Numerals.{add-one}
-use native.Mathlib.Nat.{zero-add, suc-add, suc-mul, mul-le-mul-right, le-div-iff-mul-le, div-lt-iff-lt-mul}
-use borrow.Author.Tests.{ltb-true, le-leb, lt-leb, eq-eqb, ne-eqb}
+use Rattle.lists.proofs.Prelude.{_≡_, refl, ap, sym, _∙_, List, [], _∷_, _++_, true, false, not, ℕ, zero, suc, _+_, _-_, _*_, _/_, _<_, _≤_, arith, add-one, suc-mul, ltb-true, le-leb, lt-leb, eq-eqb, ne-eqb, eqb, length, getD, take, drop, length-append, drop-of-length-le, drop-cons, take-take, nth, any, Limits, refused, firstOf, outside, runRule, delayRule}
+use native.Mathlib.Nat.{zero-add, suc-add, mul-le-mul-right, le-div-iff-mul-le, div-lt-iff-lt-mul}
 use borrow.Rule.Slice.PartMut.{putMid, take-put}
-use lib.Dec.{eqb}
-use lib.ListN.{length, getD, take, drop, length-append, drop-of-length-le}
-use lib.Seq.{drop-cons, take-take, take-nil}
-use Rattle.definitions.specs.Lists.{nth, any}
-use Rattle.definitions.specs.Limits.{Limits}
-use Rattle.definitions.specs.Text.{refused, firstOf}
-use Rattle.definitions.specs.Job.{outside, runRule, delayRule}
+use lib.Seq.{take-nil}
 use Rattle.lists.proofs.Over.{drop-lent}
 use Rattle.rows.specs.Rows.{rows, ruleOf, strayOf, wide, rowLines, rowsInto}
 use Rattle.rows.specs.declared.Kind.{Kind}

@@ -1,21 +1,8 @@
 -- Stop lists: lines to the end of a text, the rule of a stop line, and stop ticks in cells.
-use mathlib.Core.Path.{_≡_, refl, sym, _∙_}
-use mathlib.Core.Logic.{_⊎_, inl, inr, ⊎-elim}
-use mathlib.Core.List.{List, [], _∷_, _++_, getLast?}
-use mathlib.Core.Option.{Option, none, some}
-use mathlib.Core.Bool.{Bool, true, false}
-use Prim.Native.Nat.{ℕ, zero, suc, _+_, _-_, _*_, _<_, _≤_}
-use native.Mathlib.Omega.{arith}
-use borrow.Author.Tests.{ltb-true, ltb-false, lt-ltb, le-ltb, lt-leb, le-leb, eq-eqb, ne-eqb}
-use lib.Dec.{eqb, ltb, leb}
-use lib.ListN.{length, set, take, drop, length-set, length-drop, drop-of-length-le}
-use lib.Seq.{getD-take, getD-set-same, getD-set-other}
-use Rattle.definitions.specs.Lists.{if_then_else_, bytes, nth}
-use Rattle.definitions.specs.Limits.{Limits}
-use Rattle.definitions.specs.Text.{Reader, found, refused, next, return, due, firstOf, isDigit, digits, number, exactly, mark, numbers, line, linesToEnd, Result, ended}
-use Rattle.definitions.specs.Job.{Job}
-use Rattle.definitions.specs.Stops.{Stop, stopOf, notAfter, stopLine, stopRule, readStops}
-use Rattle.definitions.specs.Times.{tick, never, stopTime}
+use Rattle.lists.proofs.Prelude.{_≡_, refl, sym, _∙_, _⊎_, inl, inr, ⊎-elim, List, [], _∷_, _++_, getLast?, none, some, Bool, true, false, ℕ, zero, suc, _+_, _-_, _*_, _<_, _≤_, arith, ltb-true, ltb-false, lt-ltb, le-ltb, lt-leb, le-leb, eq-eqb, ne-eqb, eqb, ltb, leb, length, set, take, drop, length-set, length-drop, drop-of-length-le, getD-take, getD-set-same, getD-set-other, if_then_else_, bytes, nth, Limits, Reader, found, refused, next, return, due, firstOf, isDigit, digits, number, exactly, mark, numbers, line, Result, ended, Job, Stop, readStops, tick, never, stopTime}
+use mathlib.Core.Option.{Option}
+use Rattle.definitions.specs.Text.{linesToEnd}
+use Rattle.definitions.specs.Stops.{stopOf, notAfter, stopLine, stopRule}
 use Rattle.definitions.specs.Facts.{afterLast}
 use Rattle.definitions.proofs.Lists.{last-of}
 use Rattle.definitions.proofs.Reading.{next-found}

@@ -1,14 +1,6 @@
 -- The table of powers of ten, and the width that it decides.
-use mathlib.Core.Path.{_≡_, ap, _∙_, sym}
-use mathlib.Core.List.{List, [], _∷_}
-use Prim.Native.Nat.{ℕ, zero, suc, _+_, _-_, _*_, _^_, _<_, _≤_}
-use native.Mathlib.Omega.{arith}
+use Rattle.lists.proofs.Prelude.{_≡_, ap, _∙_, sym, List, [], _∷_, ℕ, zero, suc, _+_, _-_, _*_, _^_, _<_, _≤_, arith, lt-ltb, le-ltb, ltb, getD, if_then_else_, widthFrom}
 use native.Mathlib.Nat.{pow-succ', mul-assoc}
-use borrow.Author.Tests.{lt-ltb, le-ltb}
-use lib.Dec.{ltb}
-use lib.ListN.{getD}
-use Rattle.definitions.specs.Lists.{if_then_else_}
-use Rattle.definitions.specs.Text.{widthFrom}
 
 -- k numbers, the first is p, each of the others ten times the one before.
 abbrev pub tenfold : ℕ → ℕ → List ℕ

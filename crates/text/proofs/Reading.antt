@@ -1,17 +1,6 @@
 -- Numbers and fixed bytes at a place of a text.
-use mathlib.Core.Path.{_≡_, refl, _∙_}
-use mathlib.Core.List.{List}
-use mathlib.Core.Bool.{true, false}
-use Prim.Native.Nat.{ℕ, _+_, _-_, _*_, _%_, _^_, _<_, _≤_}
-use mathlib.Core.Logic.{⊎-elim}
-use native.Mathlib.Omega.{arith}
-use native.Mathlib.Numerals.{add-one}
+use Rattle.lists.proofs.Prelude.{_≡_, refl, _∙_, List, true, false, ℕ, _+_, _-_, _*_, _%_, _^_, _<_, _≤_, ⊎-elim, arith, add-one, lt-leb, le-leb, eq-eqb, ne-eqb, length, getD, drop, drop-of-length-le, drop-cons, Limits, found, refused, isDigit, digits, number, exactly}
 use native.Mathlib.Nat.{pow-suc, pow-le-pow-right, eq-zero-or-pos}
-use borrow.Author.Tests.{lt-leb, le-leb, eq-eqb, ne-eqb}
-use lib.ListN.{length, getD, drop, drop-of-length-le}
-use lib.Seq.{drop-cons}
-use Rattle.definitions.specs.Limits.{Limits}
-use Rattle.definitions.specs.Text.{found, refused, isDigit, digits, number, exactly}
 use Rattle.text.specs.Suited.{Suited}
 
 pub digit-yes : (b : ℕ) → 48 ≤ b → b ≤ 57 → isDigit b ≡ true

@@ -1,12 +1,5 @@
 -- Digits and fixed bytes written over a list from a place on.
-use mathlib.Core.Path.{_≡_, refl, ap, _∙_, sym}
-use mathlib.Core.List.{List, [], _∷_, _++_}
-use Prim.Native.Nat.{ℕ, zero, suc, _+_, _-_, _/_, _%_, _<_, _≤_}
-use native.Mathlib.Omega.{arith}
-use native.Mathlib.Numerals.{add-one}
-use borrow.Author.Tests.{le-leb, lt-leb}
-use lib.ListN.{length, getD, drop, set, length-set, length-append, drop-of-length-le}
-use lib.Seq.{drop-cons}
+use Rattle.lists.proofs.Prelude.{_≡_, refl, ap, _∙_, sym, List, [], _∷_, _++_, ℕ, zero, suc, _+_, _-_, _/_, _%_, _<_, _≤_, arith, add-one, le-leb, lt-leb, length, getD, drop, set, length-set, length-append, drop-of-length-le, drop-cons}
 use Rattle.definitions.specs.Text.{lowDigits}
 use Rattle.lists.specs.Over.{over}
 use Rattle.lists.proofs.Over.{over-nil, over-put, over-set-after, over-over, length-over}

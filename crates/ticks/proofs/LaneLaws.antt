@@ -1,14 +1,5 @@
 -- What is done on all processors at once, processor by processor.
-use mathlib.Core.Path.{_≡_, refl, ap, _∙_}
-use mathlib.Core.Logic.{⊎-elim}
-use mathlib.Core.List.{List}
-use Prim.Native.Nat.{ℕ, zero, suc, _+_, _*_, _%_, _^_, _<_, _≤_, max}
-use native.Mathlib.Omega.{arith}
-use native.Mathlib.Nat.{mul-le-mul}
-use native.Mathlib.Numerals.{add-one}
-use lib.ListN.{length, set, take, length-set}
-use lib.Seq.{getD-set-same, getD-set-other, take-suc}
-use Rattle.definitions.specs.Lists.{nth, sum}
+use Rattle.lists.proofs.Prelude.{_≡_, refl, ap, _∙_, ⊎-elim, List, ℕ, zero, suc, _+_, _*_, _%_, _^_, _<_, _≤_, max, arith, mul-le-mul, add-one, length, set, take, length-set, getD-set-same, getD-set-other, take-suc, nth, sum}
 use Rattle.lists.proofs.Counting.{last-or-before}
 use Rattle.lists.proofs.Upward.{sum-last}
 use Rattle.ticks.specs.Lanes.{lanes, arrives, finishes}

@@ -1,12 +1,6 @@
 -- What the checker answers is printed, case by case.
-use mathlib.Core.List.{[], _∷_}
-use native.Mathlib.Omega.{arith}
-use borrow.Author.Needs.{needs}
-use mathlib.Core.Path.{_∙_}
-use Rattle.definitions.specs.Lists.{bytes}
+use Rattle.lists.proofs.Prelude.{[], _∷_, arith, needs, _∙_, bytes, document01, verdict}
 use Rattle.text.proofs.Writing.{place-fits}
-use Rattle.definitions.specs.Limits.{document01}
-use Rattle.definitions.specs.Tools.{verdict}
 use Rattle.check_plan.proofs.Printed.{shown}
 use Rattle.check_plan.proofs.answer.Statement.{statement}
 use Rattle.check_plan.proofs.answer.Tie as tie
@@ -43,8 +37,6 @@ returns-3 c =
     shown (verdict document01 (a .job .now) (a .plan .now)) (x .given .0 .0 ∷ []) (a .out .now) (w .last .0) (w .result) (rw (x .given .1) at (k .ensures .0)) (omega arith) pre (w .ensures .0) (w .ensures .1)
 
 pub answer-spec : {M : Type 1} → statement M
-answer-spec =
-    tie.close
-    (tie.spec
+answer-spec = tie.close (tie.spec
     (λ c κs. search needs) enum-told (λ c. search needs) (λ c κs. search needs) (λ c. search needs) (λ c. search needs) (λ c κs. search needs)
     (λ c. search needs) (λ c κs. search needs) (λ c. search needs) returns (λ c. search needs) returns-2 (λ c. search needs) returns-3)

@@ -1,8 +1,5 @@
 -- The edges are read, if they fit.
-use mathlib.Core.Path.{sym, _∙_}
-use borrow.Author.Needs.{needs}
-use lib.ListN.{length, drop}
-use Rattle.definitions.specs.Limits.{document01}
+use Rattle.lists.proofs.Prelude.{sym, _∙_, needs, length, drop, document01}
 use Rattle.edges.proofs.EdgeLaws.{edges-fit, edges-unfit, edges-room}
 use Rattle.edges.proofs.read_edges.Statement.{statement}
 use Rattle.edges.proofs.read_edges.Tie as tie

@@ -1,7 +1,4 @@
-use Prim.Native.Nat.{_-_}
-use borrow.Author.Needs.{needs}
-use Rattle.definitions.specs.Limits.{document01}
-use Rattle.definitions.specs.Tools.{verdict}
+use Rattle.lists.proofs.Prelude.{_-_, needs, document01, verdict}
 use Rattle.exports.proofs.ExportLaws.{verdict-accepted, verdict-doubled, verdict-refused}
 use Rattle.exports.proofs.mirguneth_check.Statement.{statement}
 use Rattle.exports.proofs.mirguneth_check.Tie as tie
@@ -27,7 +24,5 @@ returns-3 c =
     (verdict-refused (verdict document01 (args .job .now) (args .plan .now)) (args .task .now) (c .before .x .given .0 .0) (rw (c .before .x .given .1) at (check .ensures .0)), check .ensures .1)
 
 pub mirguneth-check-spec : {M : Type 1} → statement M
-mirguneth-check-spec =
-    tie.close
-    (tie.spec
+mirguneth-check-spec = tie.close (tie.spec
     (λ c κs. search needs) (λ c. search needs) (λ c. search needs) (λ c. search needs) (λ c. search needs) returns returns-2 returns-3)

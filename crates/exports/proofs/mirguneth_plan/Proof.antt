@@ -1,8 +1,4 @@
-use Prim.Native.Nat.{_-_}
-use borrow.Author.Needs.{needs}
-use lib.ListN.{length}
-use Rattle.definitions.specs.Limits.{document01}
-use Rattle.definitions.specs.Tools.{planAnswer}
+use Rattle.lists.proofs.Prelude.{_-_, needs, length, document01, planAnswer}
 use Rattle.exports.proofs.ExportLaws.{answer-written, answer-refused}
 use Rattle.exports.proofs.mirguneth_plan.Statement.{statement}
 use Rattle.exports.proofs.mirguneth_plan.Tie as tie
@@ -23,7 +19,5 @@ returns-2 c =
     answer-refused (planAnswer document01 (args .job .now) (length (args .out .now))) (args .out .now) (plan .last .1 .0) (args .written .now) (c .before .x .given .0 .0) (rw (c .before .x .given .1) at (plan .ensures))
 
 pub mirguneth-plan-spec : {M : Type 1} → statement M
-mirguneth-plan-spec =
-    tie.close
-    (tie.spec
+mirguneth-plan-spec = tie.close (tie.spec
     (λ c κs. search needs) (λ c. search needs) (λ c. search needs) (λ c. search needs) returns (λ c. search needs) returns-2)

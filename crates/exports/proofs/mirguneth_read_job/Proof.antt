@@ -1,5 +1,4 @@
-use borrow.Author.Needs.{needs}
-use lib.ListN.{length}
+use Rattle.lists.proofs.Prelude.{needs, length}
 use Rattle.jobs.specs.Answers.{jobAnswer}
 use Rattle.exports.proofs.ExportLaws.{answer-written, answer-refused}
 use Rattle.exports.proofs.mirguneth_read_job.Statement.{statement}
@@ -20,7 +19,5 @@ returns-2 c =
     answer-refused (jobAnswer (args .text .now) (length (args .cells .now))) (args .cells .now) (read-job .last .1 .0) (args .written .now) (z .0 .0) (rw (z .1) at (read-job .ensures))
 
 pub mirguneth-read-job-spec : {M : Type 1} → statement M
-mirguneth-read-job-spec =
-    tie.close
-    (tie.spec
+mirguneth-read-job-spec = tie.close (tie.spec
     (λ c κs. search needs) (λ c. search needs) (λ c. search needs) (λ c. search needs) returns (λ c. search needs) returns-2)

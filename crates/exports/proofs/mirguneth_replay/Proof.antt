@@ -1,8 +1,4 @@
-use Prim.Native.Nat.{_-_}
-use borrow.Author.Needs.{needs}
-use lib.ListN.{length}
-use Rattle.definitions.specs.Limits.{document01}
-use Rattle.definitions.specs.Tools.{replayAnswer}
+use Rattle.lists.proofs.Prelude.{_-_, needs, length, document01, replayAnswer}
 use Rattle.exports.proofs.ExportLaws.{answer-written, answer-refused}
 use Rattle.exports.proofs.mirguneth_replay.Statement.{statement}
 use Rattle.exports.proofs.mirguneth_replay.Tie as tie
@@ -29,7 +25,5 @@ returns-2 c =
     )
 
 pub mirguneth-replay-spec : {M : Type 1} → statement M
-mirguneth-replay-spec =
-    tie.close
-    (tie.spec
+mirguneth-replay-spec = tie.close (tie.spec
     (λ c κs. search needs) (λ c. search needs) (λ c. search needs) (λ c. search needs) returns (λ c. search needs) returns-2)

@@ -1,9 +1,5 @@
 -- The tests of the ranges are the rule's.
-use mathlib.Core.Path.{_≡_}
-use mathlib.Core.Bool.{Bool, _||_}
-use native.Mathlib.Omega.{arith}
-use borrow.Author.Needs.{needs}
-use Rattle.definitions.specs.Limits.{document01}
+use Rattle.lists.proofs.Prelude.{_≡_, Bool, _||_, arith, needs, document01}
 use Rattle.heads.specs.Heads.{headOf}
 use Rattle.heads.proofs.HeadLaws.{astray, head-astray, few-losses, head-few, head-good}
 use Rattle.heads.proofs.head_rule.Statement.{statement}

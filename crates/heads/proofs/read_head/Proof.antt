@@ -1,6 +1,5 @@
 -- The head's four numbers stand in front.
-use native.Mathlib.Omega.{arith}
-use borrow.Author.Needs.{needs}
+use Rattle.lists.proofs.Prelude.{arith, needs}
 use Rattle.lines.proofs.LineLaws.{line-told}
 use Rattle.heads.proofs.HeadLaws.{job-long, job-no, job-refused, job-next}
 use Rattle.heads.proofs.read_head.Statement.{statement}
@@ -32,9 +31,7 @@ returns-4 c =
     job-no _ s (c .before .before .before .before .before .before .before .if1 .left) _ (line-told _ 4 _ 4 _ _ d _ _ (read-line .ensures .0) (omega arith) (c .before .n .given .1))
 
 pub read-head-spec : {M : Type 1} → statement M
-read-head-spec =
-    tie.close
-    (tie.spec
+read-head-spec = tie.close (tie.spec
     (λ c. job-long _ (c .before .before .args .s .now) (c .if1 .taken)) (λ c. search needs) (λ c. search needs) (λ c κs. search needs)
     (λ c. search needs) (λ c. search needs) (λ c. search needs) (λ c. search needs) (λ c. search needs) (λ c κs. search needs) returns-2
     (λ c. search needs) returns-3 returns-4)

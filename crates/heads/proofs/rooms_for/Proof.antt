@@ -1,6 +1,5 @@
 -- The tests are the definition's.
-use mathlib.Core.Path.{sym, _∙_}
-use borrow.Author.Needs.{needs}
+use Rattle.lists.proofs.Prelude.{sym, _∙_, needs}
 use Rattle.heads.specs.Layout.{roomsFor}
 use Rattle.heads.proofs.rooms_for.Statement.{statement}
 use Rattle.heads.proofs.rooms_for.Tie as tie
@@ -28,7 +27,5 @@ returns-4 c =
     rw (sym (c .before .before .before .before .before .fits2 .ensures) ∙ if1 .left, sym (fits3 .ensures) ∙ c .before .before .if2 .left, sym (c .before .fits4 .ensures) ∙ c .if3 .left)
 
 pub rooms-for-spec : {M : Type 1} → statement M
-rooms-for-spec =
-    tie.close
-    (tie.spec
+rooms-for-spec = tie.close (tie.spec
     (λ c κs. search needs) returns (λ c κs. search needs) returns-2 (λ c κs. search needs) returns-3 returns-4)

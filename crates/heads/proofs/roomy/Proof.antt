@@ -1,6 +1,5 @@
 -- Each test is one part of the definition's.
-use mathlib.Core.Path.{refl, _∙_}
-use borrow.Author.Needs.{needs}
+use Rattle.lists.proofs.Prelude.{refl, _∙_, needs}
 use Rattle.heads.proofs.Rooms.{many-rooms, few-rooms}
 use Rattle.heads.proofs.roomy.Statement.{statement}
 use Rattle.heads.proofs.roomy.Tie as tie

@@ -1,10 +1,5 @@
 -- The head's rule, the room and the rest, as in the definition.
-use borrow.Author.Needs.{needs}
-use mathlib.Core.Path.{_≡_, refl, sym, _∙_}
-use native.Mathlib.Omega.{arith}
-use lib.ListN.{length, drop}
-use Rattle.definitions.specs.Limits.{document01}
-use Rattle.definitions.specs.Job.{jobHeadRule}
+use Rattle.lists.proofs.Prelude.{needs, _≡_, refl, sym, _∙_, arith, length, drop, document01, jobHeadRule}
 use Rattle.definitions.proofs.Reading.{job-head-parts}
 use Rattle.heads.specs.Heads.{headOf}
 use Rattle.heads.proofs.Rooms.{roomy-parts}
@@ -50,7 +45,5 @@ returns-3 c =
     (omega (arith, head-rule .ensures, c .before .before .if1 .left)) (sym (c .before .roomy .ensures) ∙ c .if2 .left)) refl
 
 pub load-job-spec : {M : Type 1} → statement M
-load-job-spec =
-    tie.close
-    (tie.spec
+load-job-spec = tie.close (tie.spec
     (λ c κs. search needs) returns (λ c κs. search needs) load-rest-requires (λ c. search needs) (λ c. search needs) returns-2 returns-3)

@@ -1,7 +1,5 @@
 -- What load_text left in the memory is copied, if it fits.
-use borrow.Author.Needs.{needs}
-use Rattle.definitions.specs.Limits.{document01}
-use Rattle.definitions.specs.Job.{readJob}
+use Rattle.lists.proofs.Prelude.{needs, document01, readJob}
 use Rattle.jobs.proofs.AnswerLaws.{loaded-fits, answer-no, answer-short, answer-done}
 use Rattle.jobs.proofs.read_job.Statement.{statement}
 use Rattle.jobs.proofs.read_job.Tie as tie
@@ -34,8 +32,6 @@ returns-3 c =
     answer-no (args .text .now) (args .cells .now) (load .last .1 .0) (load .last .1 .1 .0) _ (rw (c .before .x .given .1) at (load .ensures))
 
 pub read-job-spec : {M : Type 1} → statement M
-read-job-spec =
-    tie.close
-    (tie.spec
+read-job-spec = tie.close (tie.spec
     (λ c. search needs) (λ c. search needs) (λ c κs. search needs) (λ c. search needs) returns (λ c. search needs) copy-cells-requires
     (λ c. search needs) (λ c. search needs) returns-2 returns-3)

@@ -1,9 +1,5 @@
 -- The test says whether the numbers have their cells.
-use mathlib.Core.Path.{refl, sym}
-use native.Mathlib.Omega.{arith}
-use borrow.Author.Needs.{needs}
-use lib.ListN.{length}
-use borrow.Author.Tests.{le-ltb}
+use Rattle.lists.proofs.Prelude.{refl, sym, arith, needs, length, le-ltb}
 use Rattle.lines.proofs.LineLaws.{line-unfit}
 use Rattle.lines.proofs.read_line.Statement.{statement}
 use Rattle.lines.proofs.read_line.Tie as tie

@@ -1,4 +1,4 @@
-use borrow.Author.Needs.{needs}
+use Rattle.lists.proofs.Prelude.{needs}
 use Rattle.definitions.proofs.Claims.{breaks}
 use Rattle.mirguneth.proofs.Page.{check-page}
 use Rattle.mirguneth.proofs.check.Statement.{statement}
@@ -11,7 +11,5 @@ returns c =
     (check-page (args .job .now) (answer .result) (args .plan .now) (c .checked-of .result) (answer .ensures) (c .checked-of .ensures), breaks (args .job .now) (args .plan .now))
 
 pub check-spec : {M : Type 1} → statement M
-check-spec =
-    tie.close
-    (tie.spec
+check-spec = tie.close (tie.spec
     (λ c. search needs) (λ c. search needs) (λ c κs. search needs) (λ c κs. search needs) returns)

@@ -1,4 +1,4 @@
-use borrow.Author.Needs.{needs}
+use Rattle.lists.proofs.Prelude.{needs}
 use Rattle.mirguneth.proofs.Page.{plan-page}
 use Rattle.mirguneth.proofs.plan.Statement.{statement}
 use Rattle.mirguneth.proofs.plan.Tie as tie
@@ -10,7 +10,5 @@ returns c =
     plan-page (args .job .now) (answer .result) (args .out .now) _ (c .answer-of .result) (c .answer-of .ensures) (answer .ensures)
 
 pub plan-spec : {M : Type 1} → statement M
-plan-spec =
-    tie.close
-    (tie.spec
+plan-spec = tie.close (tie.spec
     (λ c. search needs) (λ c. search needs) (λ c κs. search needs) (λ c κs. search needs) (λ c. search needs) returns)

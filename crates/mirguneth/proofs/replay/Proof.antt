@@ -1,4 +1,4 @@
-use borrow.Author.Needs.{needs}
+use Rattle.lists.proofs.Prelude.{needs}
 use Rattle.definitions.proofs.Claims.{bears}
 use Rattle.mirguneth.proofs.Page.{replay-page}
 use Rattle.mirguneth.proofs.replay.Statement.{statement}

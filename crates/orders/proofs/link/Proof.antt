@@ -1,10 +1,4 @@
-use borrow.Author.Needs.{needs}
-use mathlib.Core.Path.{_≡_, refl, sym, _∙_}
-use mathlib.Core.List.{map}
-use mathlib.Core.Bool.{true, false}
-use native.Mathlib.Omega.{arith}
-use lib.ListN.{length}
-use borrow.Author.Tests.{lt-ltb, le-ltb}
+use Rattle.lists.proofs.Prelude.{needs, _≡_, refl, sym, _∙_, map, true, false, arith, length, lt-ltb, le-ltb}
 use Rattle.orders.specs.Edges.{edgeIn}
 use Rattle.orders.specs.Links.{linkable, circles}
 use Rattle.orders.proofs.CircleLaws.{order-short, linked-all}
@@ -81,8 +75,6 @@ returns-5 c =
     (omega (arith, if1 .left, c .before .before .if2 .left)) ∙ (sym (c .before .ascending .ensures) ∙ c .if3 .left)) (refl, refl)
 
 pub link-spec : {M : Type 1} → statement M
-link-spec =
-    tie.close
-    (tie.spec
+link-spec = tie.close (tie.spec
     returns (λ c. search needs) (λ c. search needs) (λ c. search needs) returns-2 (λ c κs. search needs) make-runs-requires arrange-requires
     (λ c. search needs) returns-3 (λ c. search needs) returns-4 returns-5)

@@ -1,8 +1,5 @@
 -- The plan's bytes are printed, or the line of the refusal.
-use native.Mathlib.Omega.{arith}
-use borrow.Author.Needs.{needs}
-use lib.ListN.{length}
-use Rattle.definitions.specs.Tools.{planPrinted}
+use Rattle.lists.proofs.Prelude.{arith, needs, length, planPrinted}
 use Rattle.console.proofs.Shown.{shown-done, shown-refusal}
 use Rattle.plan_job.proofs.Printed.{said, plan-printed, all-fits, printed-most}
 use Rattle.plan_job.proofs.answer.Statement.{statement}
@@ -28,7 +25,5 @@ returns-2 c =
     (omega (arith, printed-most (a .job .now), pre)) (rw (x .given .1, all-fits (a .job .now) (length (a .out .now)) pre) at (w .ensures)) (z .last .0) (z .result) (z .ensures .0) (z .ensures .1)
 
 pub answer-spec : {M : Type 1} → statement M
-answer-spec =
-    tie.close
-    (tie.spec
+answer-spec = tie.close (tie.spec
     (λ c κs. search needs) (λ c. search needs) (λ c. search needs) (λ c κs. search needs) (λ c. search needs) returns (λ c. search needs) returns-2)

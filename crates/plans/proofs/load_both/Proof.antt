@@ -1,6 +1,5 @@
 -- The job is read and its edges linked, and the plan is read for it.
-use borrow.Author.Needs.{needs}
-use lib.ListN.{length, drop}
+use Rattle.lists.proofs.Prelude.{needs, length, drop}
 use Rattle.heads.specs.Heads.{headOf}
 use Rattle.jobs.specs.Loading.{jobFrom}
 use Rattle.plans.proofs.JobAndPlan.{no-job, job-standing, both-loaded}
@@ -33,8 +32,6 @@ returns-2 c =
     (load .last .1 .1 .1 .0) (load .last .1 .1 .1 .1 .0) _ (rw (c .before .x .given .1) at (load .ensures))
 
 pub load-both-spec : {M : Type 1} → statement M
-load-both-spec =
-    tie.close
-    (tie.spec
+load-both-spec = tie.close (tie.spec
     (λ c κs. search needs) (λ c. search needs) load-plan-requires (λ c. search needs) (λ c. search needs) (λ c. search needs) returns
     (λ c. search needs) (λ c. search needs) returns-2)

@@ -1,10 +1,4 @@
-use mathlib.Core.Path.{sym, _∙_}
-use native.Mathlib.Omega.{arith}
-use borrow.Author.Needs.{needs}
-use lib.ListN.{length}
-use borrow.Author.Tests.{leb-true, leb-false}
-use Rattle.definitions.specs.Limits.{document01}
-use Rattle.definitions.specs.Text.{lineText}
+use Rattle.lists.proofs.Prelude.{sym, _∙_, arith, needs, length, leb-true, leb-false, document01, lineText}
 use Rattle.definitions.proofs.Decimal.{length-line}
 use Rattle.text.proofs.Writing.{written-unfit}
 use Rattle.printing.proofs.WriteLaws.{numbers-room, line-written}
@@ -43,8 +37,6 @@ returns-2 c =
     )
 
 pub line-spec : {M : Type 1} → statement M
-line-spec =
-    tie.close
-    (tie.spec
+line-spec = tie.close (tie.spec
     (λ c κs. search needs) (λ c κs. search needs) write-numbers-requires (λ c. search needs) returns (λ c κs. search needs) (λ c κs. search needs)
     returns-2)

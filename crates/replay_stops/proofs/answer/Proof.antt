@@ -1,9 +1,5 @@
 -- The R and L lines are printed, or the line of the refusal.
-use native.Mathlib.Omega.{arith}
-use borrow.Author.Needs.{needs}
-use lib.ListN.{length}
-use Rattle.definitions.specs.Limits.{document01}
-use Rattle.definitions.specs.Tools.{replayed, replayPrinted}
+use Rattle.lists.proofs.Prelude.{arith, needs, length, document01, replayed, replayPrinted}
 use Rattle.console.proofs.Shown.{shown-done, shown-refusal}
 use Rattle.replay_stops.proofs.Longest.{all-fits, replay-printed, printed-most}
 use Rattle.replay_stops.proofs.answer.Statement.{statement}
@@ -31,7 +27,5 @@ returns-2 c =
     (rw (x .given .1, all-fits (a .job .now) (a .plan .now) (a .stops .now) (length (a .out .now)) pre) at (w .ensures .0)) (z .last .0) (z .result) (z .ensures .0) (z .ensures .1)
 
 pub answer-spec : {M : Type 1} → statement M
-answer-spec =
-    tie.close
-    (tie.spec
+answer-spec = tie.close (tie.spec
     (λ c κs. search needs) (λ c. search needs) (λ c. search needs) (λ c κs. search needs) (λ c. search needs) returns (λ c. search needs) returns-2)

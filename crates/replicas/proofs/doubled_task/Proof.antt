@@ -1,6 +1,4 @@
-use borrow.Author.Needs.{needs}
-use mathlib.Core.Path.{_≡_, sym, ap, _∙_}
-use borrow.Author.Tests.{le-leb, lt-leb}
+use Rattle.lists.proofs.Prelude.{needs, _≡_, sym, ap, _∙_, le-leb, lt-leb}
 use Rattle.replicas.proofs.doubled_task.Statement.{statement}
 use Rattle.replicas.proofs.doubled_task.Tie as tie
 

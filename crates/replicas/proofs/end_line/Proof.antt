@@ -1,9 +1,4 @@
-use mathlib.Core.Path.{refl}
-use mathlib.Core.List.{[], _∷_}
-use native.Mathlib.Omega.{arith}
-use borrow.Author.Needs.{needs}
-use Rattle.definitions.specs.Limits.{document01}
-use Rattle.definitions.specs.Lists.{bytes}
+use Rattle.lists.proofs.Prelude.{refl, [], _∷_, arith, needs, document01, bytes}
 use Rattle.printing.proofs.WriteLaws.{few-counted}
 use Rattle.replicas.proofs.ResultLaws.{end-tick, end-never}
 use Rattle.replicas.proofs.end_line.Statement.{statement}
@@ -25,8 +20,6 @@ returns-2 c =
     rw (end-tick document01 x (if1 .left)) (few-counted document01 (omega arith) (bytes "L,") (x ∷ []) 13 (line .result) (omega arith) (omega arith) (line .ensures .0), line .ensures .1)
 
 pub end-line-spec : {M : Type 1} → statement M
-end-line-spec =
-    tie.close
-    (tie.spec
+end-line-spec = tie.close (tie.spec
     (λ c. search needs) (λ c κs. search needs) (λ c. search needs) returns (λ c. search needs) (λ c. search needs) (λ c κs. search needs)
     (λ c. search needs) returns-2)

@@ -1,9 +1,4 @@
-use borrow.Author.Needs.{needs}
-use mathlib.Core.Path.{_≡_, refl, sym, ap, _∙_}
-use mathlib.Core.Logic.{⊎-elim}
-use Prim.Native.Nat.{ℕ, _≤_, _-_}
-use native.Mathlib.Omega.{arith}
-use lib.ListN.{length}
+use Rattle.lists.proofs.Prelude.{needs, _≡_, refl, sym, ap, _∙_, ⊎-elim, ℕ, _≤_, _-_, arith, length}
 use Rattle.replicas.specs.Cells.{replicasOf, leastEarly, leastOn}
 use Rattle.replicas.proofs.TwiceLaws.{least-none, least-sooner, least-stays}
 use Rattle.replicas.proofs.first_finish.Statement.{statement}
@@ -30,9 +25,7 @@ returns c =
     (c .before .loop .inv .1 ∙ ap (λ (i : ℕ). leastEarly i (c .before .before .args .cells .now)) e, c .before .loop .inv .2 ∙ ap (λ (i : ℕ). leastOn i (c .before .before .args .cells .now)) e)
 
 pub first-finish-spec : {M : Type 1} → statement M
-first-finish-spec =
-    tie.close
-    (tie.spec
+first-finish-spec = tie.close (tie.spec
     Inv-loop μ-loop (λ c. let (e, f) = least-none (c .args .cells .now) in (omega arith, sym e, sym f)) (λ c. search needs) (λ c. search needs)
     (λ c. search needs) (λ c. search needs) (λ c. search needs) (λ c. search needs) (λ c. search needs) (λ c. search needs) (λ c. search needs)
     loop-again returns)

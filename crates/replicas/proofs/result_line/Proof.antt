@@ -1,8 +1,4 @@
-use mathlib.Core.List.{[], _∷_}
-use native.Mathlib.Omega.{arith}
-use borrow.Author.Needs.{needs}
-use Rattle.definitions.specs.Limits.{document01}
-use Rattle.definitions.specs.Lists.{bytes}
+use Rattle.lists.proofs.Prelude.{[], _∷_, arith, needs, document01, bytes}
 use Rattle.printing.proofs.WriteLaws.{few-counted}
 use Rattle.replicas.proofs.ResultLaws.{result-tick, result-never}
 use Rattle.replicas.proofs.result_line.Statement.{statement}
@@ -27,7 +23,5 @@ returns-2 c =
     (few-counted document01 (omega arith) (bytes "R,") (t ∷ f .processor ∷ f .time ∷ []) 35 (line .result) (omega arith) (omega arith) (line .ensures .0), line .ensures .1)
 
 pub result-line-spec : {M : Type 1} → statement M
-result-line-spec =
-    tie.close
-    (tie.spec
+result-line-spec = tie.close (tie.spec
     (λ c κs. search needs) (λ c. search needs) returns (λ c. search needs) (λ c. search needs) (λ c κs. search needs) (λ c. search needs) returns-2)

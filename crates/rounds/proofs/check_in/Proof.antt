@@ -1,6 +1,5 @@
 -- What the memories hold after both texts were read is what the judgment asks for.
-use borrow.Author.Needs.{needs}
-use lib.ListN.{length, drop}
+use Rattle.lists.proofs.Prelude.{needs, length, drop}
 use Rattle.heads.specs.Heads.{headOf}
 use Rattle.jobs.specs.Loading.{jobFrom}
 use Rattle.plans.specs.Loading.{withPlan}
@@ -36,8 +35,6 @@ returns-2 c =
     texts-refused (a .rooms) x (l .last .1 .1 .1 .1 .0) (l .last .1 .1 .1 .1 .1 .0) _ (rw (c .before .x .given .1) at (l .ensures))
 
 pub check-in-spec : {M : Type 1} → statement M
-check-in-spec =
-    tie.close
-    (tie.spec
+check-in-spec = tie.close (tie.spec
     (λ c κs. search needs) enum-told judge-requires (λ c. search needs) (λ c. search needs) (λ c. search needs) returns (λ c. search needs)
     (λ c. search needs) returns-2)

@@ -1,6 +1,5 @@
 -- What load_job left in the memories is a job and its links, if it was not refused.
-use borrow.Author.Needs.{needs}
-use lib.ListN.{length, drop}
+use Rattle.lists.proofs.Prelude.{needs, length, drop}
 use Rattle.heads.specs.Heads.{headOf}
 use Rattle.jobs.specs.Loading.{jobFrom}
 use Rattle.jobs.proofs.Loads.{loaded-job}
@@ -36,8 +35,6 @@ returns-2 c =
     plan-no (a .rooms) x (l .last .1 .1 .1 .0) (l .last .1 .1 .1 .1 .0) (a .out .now) _ (rw (c .before .x .given .1) at (l .ensures))
 
 pub plan-in-spec : {M : Type 1} → statement M
-plan-in-spec =
-    tie.close
-    (tie.spec
+plan-in-spec = tie.close (tie.spec
     (λ c κs. search needs) enum-told put-plan-requires (λ c. search needs) (λ c. search needs) (λ c. search needs) (λ c. search needs) returns
     (λ c. search needs) (λ c. search needs) returns-2)

@@ -1,6 +1,5 @@
 -- The plan stands in the memory, if neither it nor the job was refused.
-use borrow.Author.Needs.{needs}
-use lib.ListN.{length, drop}
+use Rattle.lists.proofs.Prelude.{needs, length, drop}
 use Rattle.heads.specs.Heads.{headOf}
 use Rattle.jobs.specs.Loading.{jobFrom}
 use Rattle.plans.specs.Loading.{withPlan}
@@ -38,8 +37,6 @@ returns-2 c =
     replay-refused (a .rooms) x (l .last .1 .1 .1 .1 .0) (l .last .1 .1 .1 .1 .1 .0) (a .stops .now) (a .out .now) _ (rw (c .before .x .given .1) at (l .ensures))
 
 pub replay-in-spec : {M : Type 1} → statement M
-replay-in-spec =
-    tie.close
-    (tie.spec
+replay-in-spec = tie.close (tie.spec
     (λ c κs. search needs) enum-told put-replay-requires (λ c. search needs) (λ c. search needs) (λ c. search needs) (λ c. search needs) returns
     (λ c. search needs) (λ c. search needs) returns-2)

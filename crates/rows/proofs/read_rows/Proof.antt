@@ -1,8 +1,6 @@
 -- The rows are read, if they are wide enough and fit.
-use borrow.Author.Needs.{needs}
-use mathlib.Core.Path.{sym, _∙_}
+use Rattle.lists.proofs.Prelude.{needs, sym, _∙_, length, drop}
 use Rattle.rows.proofs.RowLaws.{some-number, delays-wide, rows-narrow, rows-fit, rows-unfit, rows-within}
-use lib.ListN.{length, drop}
 use Rattle.rows.proofs.read_rows.Statement.{statement}
 use Rattle.rows.proofs.read_rows.Tie as tie
 
@@ -38,7 +36,5 @@ returns-3 c =
     rows-narrow _ (length (a .mem .now)) (a .kind) (a .opening .now) (a .k) (a .n) (drop (a .at) (a .s .now)) (sym (c .before .is-wide .ensures) ∙ c .if1 .left)
 
 pub read-rows-spec : {M : Type 1} → statement M
-read-rows-spec =
-    tie.close
-    (tie.spec
+read-rows-spec = tie.close (tie.spec
     (λ c κs. search needs) div-if2 fill-rows-requires (λ c. search needs) returns returns-2 returns-3)

@@ -1,7 +1,5 @@
 -- The cells are cleared, then the lines are read.
-use native.Mathlib.Omega.{arith}
-use borrow.Author.Needs.{needs}
-use lib.ListN.{length}
+use Rattle.lists.proofs.Prelude.{arith, needs, length}
 use Rattle.stops.proofs.StopLaws.{stops-short, stops-long, stops-whole}
 use Rattle.stops.proofs.load_stops.Statement.{statement}
 use Rattle.stops.proofs.load_stops.Tie as tie
@@ -24,7 +22,5 @@ returns-3 c =
     λ j e. stops-whole _ (length (args .stops .now)) (args .s .now) _ j (omega (arith, e, if1 .left)) _ (if2 .left) (c .before .before .read-stop-lines .ensures j e)
 
 pub load-stops-spec : {M : Type 1} → statement M
-load-stops-spec =
-    tie.close
-    (tie.spec
+load-stops-spec = tie.close (tie.spec
     returns returns-2 (λ c κs. search needs) read-stop-lines-requires (λ c. search needs) returns-3)

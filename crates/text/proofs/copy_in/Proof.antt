@@ -1,10 +1,5 @@
 -- The bytes left to write give the whole answer.
-use mathlib.Core.Path.{_≡_, refl}
-use Prim.Native.Nat.{_≤_, _-_, _+_}
-use native.Mathlib.Omega.{arith}
-use borrow.Author.Needs.{needs}
-use lib.ListN.{length, drop, length-set}
-use native.Mathlib.Nat.{add-zero}
+use Rattle.lists.proofs.Prelude.{_≡_, refl, _≤_, _-_, _+_, arith, needs, length, drop, length-set, add-zero}
 use Rattle.lists.specs.Over.{over}
 use Rattle.text.proofs.Writing.{copy-next, copy-end}
 use Rattle.text.proofs.copy_in.Statement.{statement}
@@ -29,8 +24,6 @@ returns c =
     copy-end (l .out) (a .p .now) _ (a .at + l .i) (l .i) (l .inv .2) (c .loop-test .left)
 
 pub copy-in-spec : {M : Type 1} → statement M
-copy-in-spec =
-    tie.close
-    (tie.spec
+copy-in-spec = tie.close (tie.spec
     Inv-loop μ-loop (λ c. (search needs, refl, rw add-zero)) (λ c. search needs) (λ c. search needs) (λ c. search needs) (λ c. search needs)
     (λ c. search needs) loop-again (λ c. search needs) returns)

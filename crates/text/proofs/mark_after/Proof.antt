@@ -1,4 +1,4 @@
-use borrow.Author.Tests.{eq-eqb, ne-eqb}
+use Rattle.lists.proofs.Prelude.{eq-eqb, ne-eqb}
 use Rattle.text.proofs.mark_after.Statement.{statement}
 use Rattle.text.proofs.mark_after.Tie as tie
 

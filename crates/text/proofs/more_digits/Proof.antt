@@ -1,11 +1,5 @@
 -- The digits left to read, after those that were read, give the whole answer.
-use mathlib.Core.Path.{_≡_, refl, _∙_}
-use Prim.Native.Nat.{_≤_, _<_, _-_, _^_}
-use native.Mathlib.Omega.{arith}
-use borrow.Author.Needs.{needs}
-use lib.ListN.{length, drop}
-use Rattle.definitions.specs.Limits.{document01}
-use Rattle.definitions.specs.Text.{digits}
+use Rattle.lists.proofs.Prelude.{_≡_, refl, _∙_, _≤_, _<_, _-_, _^_, arith, needs, length, drop, document01, digits}
 use Rattle.text.proofs.Reading.{digit-yes, digit-low, digit-high, digits-end, digits-stop, digits-full, digits-next, value-more, value-fits}
 use Rattle.text.specs.Suited.{suited}
 use Rattle.text.proofs.more_digits.Statement.{statement}
@@ -46,9 +40,7 @@ loop-again c =
     )
 
 pub more-digits-spec : {M : Type 1} → statement M
-more-digits-spec =
-    tie.close
-    (tie.spec
+more-digits-spec = tie.close (tie.spec
     Inv-loop μ-loop (λ c. (search needs, search needs, search needs, refl)) (λ c. search needs) returns returns-2 returns-3 (λ c. search needs)
     mul-acc (λ c κs. search needs) add-acc (λ c. search needs) (λ c. search needs) loop-again
     (λ c. (digits-end _ _ _ _ (c .loop-test .left) ∙ c .before .loop .inv .3, c .before .loop .inv .0)))

@@ -1,10 +1,5 @@
 -- The bytes left to compare give the whole answer.
-use mathlib.Core.Path.{_≡_, refl, _∙_}
-use Prim.Native.Nat.{_≤_, _-_, _+_}
-use native.Mathlib.Omega.{arith}
-use borrow.Author.Needs.{needs}
-use lib.ListN.{length, drop}
-use Rattle.definitions.specs.Text.{exactly}
+use Rattle.lists.proofs.Prelude.{_≡_, refl, _∙_, _≤_, _-_, _+_, arith, needs, length, drop, exactly}
 use Rattle.text.proofs.Reading.{fixed-end, fixed-no, fixed-yes, fixed-done}
 use Rattle.text.proofs.read_fixed.Statement.{statement}
 use Rattle.text.proofs.read_fixed.Tie as tie
@@ -31,8 +26,6 @@ returns-3 : tie.Need-returns-3 Inv-loop μ-loop
 returns-3 c = (fixed-done (c .before .before .args .s .now) _ _ (c .before .loop .p) (c .loop-test .left) ∙ c .before .loop .inv .2, omega (arith, c .loop-test .left, c .before .loop .inv))
 
 pub read-fixed-spec : {M : Type 1} → statement M
-read-fixed-spec =
-    tie.close
-    (tie.spec
+read-fixed-spec = tie.close (tie.spec
     Inv-loop μ-loop (λ c. (search needs, omega arith, refl)) returns (λ c. search needs) (λ c. search needs) returns-2 (λ c. search needs)
     (λ c. search needs) (λ c. search needs) loop-again returns-3)

@@ -1,6 +1,5 @@
 -- The first digit decides how many may follow.
-use mathlib.Core.Path.{_∙_}
-use borrow.Author.Needs.{needs}
+use Rattle.lists.proofs.Prelude.{_∙_, needs}
 use Rattle.text.proofs.Reading.{digit-yes, digit-low, digit-high, number-end, number-no, number-zero, number-more}
 use Rattle.text.proofs.read_number.Statement.{statement}
 use Rattle.text.proofs.read_number.Tie as tie
@@ -21,9 +20,7 @@ returns-5 c =
     )
 
 pub read-number-spec : {M : Type 1} → statement M
-read-number-spec =
-    tie.close
-    (tie.spec
+read-number-spec = tie.close (tie.spec
     (λ c. (number-end _ _ _ (c .if1 .taken), tt)) (λ c. search needs)
     (λ c. (number-no _ _ _ (c .before .before .if1 .left) (digit-low _ (c .if2 .taken)), tt))
     (λ c. (number-no _ _ _ (c .before .before .before .if1 .left) (digit-high _ (c .if3 .taken)), tt)) (λ c. search needs) (λ c κs. search needs)

@@ -1,10 +1,5 @@
 -- The search from d on gives the width.
-use mathlib.Core.Path.{_≡_, refl, sym, _∙_}
-use Prim.Native.Nat.{_≤_, _-_}
-use native.Mathlib.Omega.{arith}
-use borrow.Author.Needs.{needs}
-use Rattle.definitions.specs.Limits.{document01}
-use Rattle.definitions.specs.Text.{widthFrom, width}
+use Rattle.lists.proofs.Prelude.{_≡_, refl, sym, _∙_, _≤_, _-_, arith, needs, document01, widthFrom, width}
 use Rattle.text.proofs.Powers.{width-stop, width-next, width-end}
 use Rattle.text.proofs.width_of.Statement.{statement}
 use Rattle.text.proofs.width_of.Tie as tie
@@ -23,9 +18,7 @@ loop-again : tie.Need-loop-again Inv-loop μ-loop
 loop-again c = (search needs, sym (width-next _ _ _ (c .before .loop-test .taken) (c .if1 .left)) ∙ c .before .before .loop .inv .1)
 
 pub width-of-spec : {M : Type 1} → statement M
-width-of-spec =
-    tie.close
-    (tie.spec
+width-of-spec = tie.close (tie.spec
     Inv-loop μ-loop loop-holds (λ c. search needs) (λ c. search needs)
     (λ c. sym (width-stop _ _ _ (c .before .loop-test .taken) (c .if1 .taken)) ∙ c .before .before .loop .inv .1) (λ c. search needs)
     (λ c. search needs) loop-again (λ c. sym (width-end (document01 .powers) _ _ (omega arith)) ∙ c .before .loop .inv .1))

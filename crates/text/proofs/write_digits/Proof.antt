@@ -1,8 +1,5 @@
 -- The digits left to store give the whole answer.
-use mathlib.Core.Path.{_≡_, refl, sym, _∙_}
-use Prim.Native.Nat.{_≤_}
-use borrow.Author.Needs.{needs}
-use lib.ListN.{length, length-set}
+use Rattle.lists.proofs.Prelude.{_≡_, refl, sym, _∙_, _≤_, needs, length, length-set}
 use Rattle.text.proofs.Writing.{stored, stored-end, stored-next, stored-all}
 use Rattle.text.proofs.write_digits.Statement.{statement}
 use Rattle.text.proofs.write_digits.Tie as tie
@@ -20,8 +17,6 @@ returns : tie.Need-returns Inv-loop μ-loop
 returns c = sym (stored-end _ _ _ _ (c .loop-test .left)) ∙ c .before .loop .inv .2 ∙ stored-all _ _ _ _ (search needs)
 
 pub write-digits-spec : {M : Type 1} → statement M
-write-digits-spec =
-    tie.close
-    (tie.spec
+write-digits-spec = tie.close (tie.spec
     Inv-loop μ-loop (λ c. (search needs, refl, refl)) (λ c. search needs) (λ c. search needs) (λ c. search needs) (λ c. search needs)
     (λ c. search needs) (λ c. search needs) loop-again (λ c. search needs) returns)

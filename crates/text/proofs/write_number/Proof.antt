@@ -1,9 +1,5 @@
 -- The test says whether the digits fit: as many as the width.
-use mathlib.Core.Path.{_∙_}
-use native.Mathlib.Omega.{arith}
-use borrow.Author.Needs.{needs}
-use Rattle.definitions.specs.Limits.{document01}
-use Rattle.definitions.specs.Text.{decimal}
+use Rattle.lists.proofs.Prelude.{_∙_, arith, needs, document01, decimal}
 use Rattle.definitions.proofs.Decimal.{length-decimal}
 use Rattle.text.proofs.Writing.{fits, unfit}
 use Rattle.text.proofs.write_number.Statement.{statement}
@@ -24,7 +20,5 @@ returns-3 c =
     (c .before .before .write-digits .ensures ∙ rw (c .before .before .before .before .before .before .width-of .ensures))
 
 pub write-number-spec : {M : Type 1} → statement M
-write-number-spec =
-    tie.close
-    (tie.spec
+write-number-spec = tie.close (tie.spec
     (λ c κs. search needs) returns (λ c. search needs) returns-2 (λ c κs. search needs) (λ c. search needs) (λ c. search needs) returns-3)

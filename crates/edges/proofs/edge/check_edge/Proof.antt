@@ -1,9 +1,5 @@
 -- The ranges are tried, then the order of edges.
-use mathlib.Core.Path.{sym, _∙_}
-use native.Mathlib.Omega.{arith}
-use borrow.Author.Needs.{needs}
-use Rattle.definitions.specs.Limits.{document01}
-use Rattle.definitions.specs.Job.{Edge}
+use Rattle.lists.proofs.Prelude.{sym, _∙_, arith, needs, document01, Edge}
 use Rattle.text.specs.Suited.{suited}
 use Rattle.edges.proofs.EdgeLaws.{edge-astray, edge-within, edge-order, edge-of-cell}
 use Rattle.edges.proofs.edge.check_edge.Statement.{statement}

@@ -1,11 +1,5 @@
 -- Each number by its law.
-use mathlib.Core.Path.{sym, _∙_}
-use Prim.Native.Nat.{_-_}
-use native.Mathlib.Omega.{arith}
-use borrow.Author.Needs.{needs}
-use lib.ListN.{length}
-use mathlib.Core.List.{map}
-use Rattle.definitions.specs.Lists.{nth}
+use Rattle.lists.proofs.Prelude.{sym, _∙_, _-_, arith, needs, length, map, nth}
 use Rattle.orders.specs.Edges.{edgeIn}
 use Rattle.definitions.proofs.EdgeOrder.{order-self, order-repeated, order-first}
 use Rattle.edges.proofs.EdgeLaws.{last-cell, no-cell, order-on, order-back}
@@ -45,8 +39,6 @@ returns-5 c =
     sym (order-back cells (args .cell) (nth cells (length cells - 1)) l (if1 .left) h (sym (c .before .is-repeated .ensures) ∙ c .if4 .left))
 
 pub check-order-spec : {M : Type 1} → statement M
-check-order-spec =
-    tie.close
-    (tie.spec
+check-order-spec = tie.close (tie.spec
     returns returns-2 (λ c. search needs) (λ c. search needs) (λ c. search needs) (λ c κs. search needs) (λ c κs. search needs) returns-3
     (λ c κs. search needs) returns-4 returns-5)

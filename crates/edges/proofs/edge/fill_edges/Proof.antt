@@ -1,15 +1,5 @@
 -- The lines from edge i on, after the edges before it, are all the lines.
-use mathlib.Core.Path.{_≡_, refl, sym, ap, _∙_}
-use mathlib.Core.List.{[], map}
-use Prim.Native.Nat.{ℕ, _≤_, _-_}
-use native.Mathlib.Omega.{arith}
-use borrow.Author.Needs.{needs}
-use lib.ListN.{length, take, drop}
-use native.Mathlib.Nat.{sub-zero}
-use Rattle.definitions.specs.Lists.{nth}
-use Rattle.definitions.specs.Limits.{document01}
-use Rattle.definitions.specs.Text.{found}
-use Rattle.definitions.specs.Job.{edgeLine, edgeRule, Ascends}
+use Rattle.lists.proofs.Prelude.{_≡_, refl, sym, ap, _∙_, [], map, ℕ, _≤_, _-_, arith, needs, length, take, drop, sub-zero, nth, document01, found, edgeLine, edgeRule, Ascends}
 use Rattle.text.specs.Told.{told}
 use Rattle.lines.proofs.LineLaws.{lines-end, lines-no, lines-next}
 use Rattle.orders.specs.Edges.{edgeIn}
@@ -71,8 +61,6 @@ returns-2 c =
     ∙ loop .inv .3
 
 pub fill-edges-spec : {M : Type 1} → statement M
-fill-edges-spec =
-    tie.close
-    (tie.spec
+fill-edges-spec = tie.close (tie.spec
     Inv-loop μ-loop (λ c. (omega arith, refl, tt, rw sub-zero)) read-edge-requires (λ c. search needs) (λ c. search needs) (λ c. search needs) returns
     (λ c. search needs) (λ c. search needs) loop-again (λ c. search needs) returns-2)

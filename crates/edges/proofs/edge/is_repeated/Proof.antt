@@ -1,12 +1,5 @@
 -- Whether an edge from the i-th on has the pair is whether any has it.
-use mathlib.Core.Path.{_≡_, refl, sym, _∙_}
-use Prim.Native.Nat.{_≤_, _-_}
-use native.Mathlib.Omega.{arith}
-use borrow.Author.Needs.{needs}
-use lib.ListN.{length, drop}
-use mathlib.Core.List.{map}
-use Rattle.definitions.specs.Lists.{any}
-use Rattle.definitions.specs.Job.{samePair}
+use Rattle.lists.proofs.Prelude.{_≡_, refl, sym, _∙_, _≤_, _-_, arith, needs, length, drop, map, any, samePair}
 use Rattle.orders.specs.Edges.{edgeIn}
 use Rattle.edges.proofs.EdgeLaws.{repeats-here, repeats-on, repeats-no}
 use Rattle.edges.proofs.edge.is_repeated.Statement.{statement}
@@ -43,8 +36,6 @@ returns-2 c =
     repeats-no (args .cell) (args .before .now) (loop .i) (c .loop-test .left) ∙ loop .inv .1
 
 pub is-repeated-spec : {M : Type 1} → statement M
-is-repeated-spec =
-    tie.close
-    (tie.spec
+is-repeated-spec = tie.close (tie.spec
     Inv-loop μ-loop (λ c κs. search needs) (λ c. (omega arith, refl)) (λ c. search needs) (λ c. search needs) (λ c κs. search needs) returns
     (λ c. search needs) (λ c. search needs) loop-again returns-2)

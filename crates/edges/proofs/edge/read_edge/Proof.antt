@@ -1,11 +1,6 @@
 -- The edge is read, then its rule is tried; its cell is put behind the others.
-use mathlib.Core.Path.{refl, sym}
-use native.Mathlib.Omega.{arith}
-use borrow.Author.Needs.{needs}
-use lib.ListN.{take}
-use lib.Seq.{length-take-le, take-set-le, getD-set-same}
-use mathlib.Core.List.{map}
-use Rattle.definitions.specs.Job.{edgeOf}
+use Rattle.lists.proofs.Prelude.{refl, sym, arith, needs, take, length-take-le, getD-set-same, map, edgeOf}
+use lib.Seq.{take-set-le}
 use Rattle.text.specs.Suited.{suited}
 use Rattle.lines.proofs.LineLaws.{line-told}
 use Rattle.orders.specs.Edges.{edgeIn}
@@ -57,9 +52,7 @@ returns-3 c =
     (refl, edge-bad _ (args .v) (map edgeIn (take (args .i) (args .mem .now))) _ _ e)
 
 pub read-edge-spec : {M : Type 1} → statement M
-read-edge-spec =
-    tie.close
-    (tie.spec
+read-edge-spec = tie.close (tie.spec
     (λ c. search needs) (λ c. search needs) (λ c κs. search needs) (λ c. search needs) (λ c. search needs) (λ c. search needs) (λ c. search needs)
     (λ c. search needs) slice-aggregate-check-edge (λ c κs. search needs) (λ c. search needs) returns cell-of-requires (λ c. search needs)
     (λ c. search needs) (λ c. search needs) (λ c. search needs) returns-2 returns-3)

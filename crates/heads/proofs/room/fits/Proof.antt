@@ -1,8 +1,5 @@
 -- Each test is one part of the definition's.
-use Prim.Native.Nat.{ℕ, _≤_, _+_, _*_}
-use native.Mathlib.Omega.{arith}
-use borrow.Author.Needs.{needs}
-use native.Mathlib.Nat.{mul-le-mul}
+use Rattle.lists.proofs.Prelude.{ℕ, _≤_, _+_, _*_, arith, needs, mul-le-mul}
 use Rattle.heads.proofs.Rooms.{many-tasks, many-edges, many-processors, few-cells}
 use Rattle.heads.proofs.room.fits.Statement.{statement}
 use Rattle.heads.proofs.room.fits.Tie as tie
@@ -24,9 +21,7 @@ add-result-4 : tie.Need-add-result-4
 add-result-4 c = omega (arith, most _ _ _ (c .before .before .if1 .left) (c .before .before .before .pre) (c .if3 .left), c .before .if2 .left, (c .before .before .before .pre))
 
 pub fits-spec : {M : Type 1} → statement M
-fits-spec =
-    tie.close
-    (tie.spec
+fits-spec = tie.close (tie.spec
     (λ c. search needs) (λ c. many-tasks _ _ (c .if1 .taken)) (λ c. search needs) (λ c. many-edges _ _ (c .before .if1 .left) (c .if2 .taken))
     (λ c. search needs) returns-3 (λ c. omega (arith, c .before .before .if1 .left, c .if3 .left, (c .before .before .before .pre)))
     (λ c. omega (arith, c .if3 .left)) mul-result add-result-3 add-result-4 (λ c. search needs)

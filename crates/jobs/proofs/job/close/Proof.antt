@@ -1,11 +1,5 @@
 -- Each test is one of the definition's; no edges that were read are a misfit.
-use borrow.Author.Needs.{needs}
-use mathlib.Core.Path.{_≡_, refl}
-use mathlib.Core.List.{map}
-use Prim.Native.Nat.{ℕ}
-use native.Mathlib.Omega.{arith}
-use lib.ListN.{length}
-use borrow.Author.Tests.{lt-ltb, le-ltb}
+use Rattle.lists.proofs.Prelude.{needs, _≡_, refl, map, ℕ, arith, length, lt-ltb, le-ltb}
 use Rattle.orders.specs.Edges.{edgeIn}
 use Rattle.orders.specs.Links.{linkable, circles}
 use Rattle.jobs.proofs.StageLaws.{as-joined, as-circle, as-misfit}
@@ -41,9 +35,7 @@ returns-4 c =
     (pre) (rw (c .enum-told3 .given .1) at (link .ensures)))
 
 pub close-spec : {M : Type 1} → statement M
-close-spec =
-    tie.close
-    (tie.spec
+close-spec = tie.close (tie.spec
     (λ c. (rw (lt-ltb _ _ (c .if1 .taken)) refl, λ q. absurd (let z : _≡_ {A = ℕ} 0 1 = cc in omega arith))) (λ c κs. search needs)
     (λ c. search needs) (λ c. search needs) (λ c. search needs) (λ c. search needs) returns-2 (λ c. search needs) returns-3 (λ c. search needs)
     returns-4)

@@ -1,10 +1,5 @@
 -- The cells left to copy give the whole answer.
-use mathlib.Core.Path.{_≡_, refl}
-use Prim.Native.Nat.{_≤_, _-_}
-use native.Mathlib.Omega.{arith}
-use borrow.Author.Needs.{needs}
-use lib.ListN.{length, getD, take, drop, length-set}
-use lib.Seq.{getD-take, length-take-le}
+use Rattle.lists.proofs.Prelude.{_≡_, refl, _≤_, _-_, arith, needs, length, getD, take, drop, length-set, getD-take, length-take-le}
 use Rattle.lists.specs.Over.{over}
 use Rattle.text.proofs.Writing.{copy-next, copy-end}
 use Rattle.jobs.proofs.job.copy_cells.Statement.{statement}
@@ -34,8 +29,6 @@ returns c =
     copy-end (l .cells) f _ (l .i) (l .i) (l .inv .2) (omega arith)
 
 pub copy-cells-spec : {M : Type 1} → statement M
-copy-cells-spec =
-    tie.close
-    (tie.spec
+copy-cells-spec = tie.close (tie.spec
     Inv-loop μ-loop (λ c. (search needs, refl, refl)) (λ c. search needs) (λ c. search needs) (λ c. search needs) (λ c. search needs)
     (λ c. search needs) (λ c. search needs) loop-again (λ c. search needs) returns)

@@ -1,13 +1,6 @@
 -- The D lines' cells stand after those of the C lines, and the rest is as load_edges leaves it.
-use borrow.Author.Needs.{needs}
-use mathlib.Core.Path.{refl, sym, ap, _∙_}
-use mathlib.Core.List.{map}
-use Prim.Native.Nat.{_-_, _+_}
-use native.Mathlib.Omega.{arith}
-use lib.ListN.{length, drop}
+use Rattle.lists.proofs.Prelude.{needs, refl, sym, ap, _∙_, map, _-_, _+_, arith, length, drop, bytes, nth, jobHeadOf}
 use borrow.Rule.Slice.PartMut.{putMid}
-use Rattle.definitions.specs.Lists.{bytes, nth}
-use Rattle.definitions.specs.Job.{jobHeadOf}
 use Rattle.text.specs.Told.{told}
 use Rattle.rows.specs.Rows.{rows}
 use Rattle.jobs.specs.Stages.{delaysAt}
@@ -87,9 +80,7 @@ returns-2 c runs q =
     delays-no (jobHeadOf d) runs (drop (args .at) s) _ _ _ (sym (read-rows .ensures ∙ delays-read d (pre) (bytes "D,") (drop (args .at) s)) ∙ ap (told s ds) (c .before .n .given .1))
 
 pub load-delays-spec : {M : Type 1} → statement M
-load-delays-spec =
-    tie.close
-    (tie.spec
+load-delays-spec = tie.close (tie.spec
     (λ c. search needs) (λ c. search needs) (λ c. search needs) mul-a add-a (λ c. search needs) mul-read-rows sub-read-rows part-read-rows-start
     (λ c. search needs) (λ c κs. search needs) (λ c. search needs) load-edges-requires (λ c. search needs) (λ c. search needs) (λ c. search needs)
     returns (λ c. search needs) returns-2)

@@ -1,11 +1,5 @@
 -- The edges' cells stand after those of the C and D lines, and are linked.
-use borrow.Author.Needs.{needs}
-use mathlib.Core.Path.{refl, sym, ap, _∙_}
-use mathlib.Core.List.{map}
-use native.Mathlib.Omega.{arith}
-use lib.ListN.{length, take, drop, length-take}
-use Rattle.definitions.specs.Lists.{nth}
-use Rattle.definitions.specs.Job.{jobHeadOf}
+use Rattle.lists.proofs.Prelude.{needs, refl, sym, ap, _∙_, map, arith, length, take, drop, length-take, nth, jobHeadOf}
 use Rattle.text.specs.Told.{told}
 use Rattle.orders.specs.Edges.{edgeIn}
 use Rattle.orders.proofs.PairLaws.{linkable-made}
@@ -113,9 +107,7 @@ returns-2 c runs delays q =
     edges-no (jobHeadOf d) runs delays (drop (args .at) s) _ _ _ (sym (read .ensures ∙ edges-read d (pre) (drop (args .at) s)) ∙ ap (told s es) (c .before .n .given .1))
 
 pub load-edges-spec : {M : Type 1} → statement M
-load-edges-spec =
-    tie.close
-    (tie.spec
+load-edges-spec = tie.close (tie.spec
     (λ c. omega (arith, c .before .before .before .before .pre .room)) (λ c. omega (arith, c .before .before .before .before .before .pre .room))
     (λ c. omega (arith, c .before .before .before .before .before .before .pre .room)) add-a
     (λ c. omega (arith, c .before .before .before .before .before .before .pre .processors-most)) mul-a add-a-3 mul-read-edges sub-read-edges

@@ -1,7 +1,5 @@
 -- The head is put to the front of the memory, and the rest is as load_runs leaves it.
-use borrow.Author.Needs.{needs}
-use native.Mathlib.Omega.{arith}
-use lib.ListN.{length}
+use Rattle.lists.proofs.Prelude.{needs, arith, length}
 use Rattle.heads.specs.Heads.{headOf}
 use Rattle.jobs.proofs.StageLaws.{headed, runs-as}
 use Rattle.jobs.proofs.job.load_rest.Statement.{statement}

@@ -1,13 +1,6 @@
 -- The C lines' cells stand after the head, and the rest is as load_delays leaves it.
-use borrow.Author.Needs.{needs}
-use mathlib.Core.Path.{refl, sym, ap, _∙_}
-use mathlib.Core.List.{map}
-use Prim.Native.Nat.{_-_, _+_}
-use native.Mathlib.Omega.{arith}
-use lib.ListN.{length, drop}
+use Rattle.lists.proofs.Prelude.{needs, refl, sym, ap, _∙_, map, _-_, _+_, arith, length, drop, bytes, nth, jobHeadOf}
 use borrow.Rule.Slice.PartMut.{putMid}
-use Rattle.definitions.specs.Lists.{bytes, nth}
-use Rattle.definitions.specs.Job.{jobHeadOf}
 use Rattle.text.specs.Told.{told}
 use Rattle.rows.specs.Rows.{rows}
 use Rattle.jobs.proofs.CellLaws.{runs-read, lent-head, lent-headed, runs-in}
@@ -52,9 +45,7 @@ returns-2 c =
     runs-no (jobHeadOf d) (drop (args .at) s) _ _ _ (sym (read-rows .ensures ∙ runs-read d (pre) (bytes "C,") (drop (args .at) s)) ∙ ap (told s rs) (c .before .n .given .1))
 
 pub load-runs-spec : {M : Type 1} → statement M
-load-runs-spec =
-    tie.close
-    (tie.spec
+load-runs-spec = tie.close (tie.spec
     (λ c. search needs) (λ c. search needs) (λ c. search needs) (λ c. search needs) (λ c. search needs) (λ c. search needs) (λ c. search needs)
     (λ c κs. search needs) (λ c. search needs) load-delays-requires (λ c. search needs) (λ c. search needs) (λ c. search needs) returns
     (λ c. search needs) returns-2)

@@ -1,8 +1,6 @@
 -- The head is read, then the rest.
-use mathlib.Core.Path.{refl}
-use native.Mathlib.Omega.{arith}
+use Rattle.lists.proofs.Prelude.{refl, arith, needs}
 use Rattle.heads.proofs.Rooms.{largest-fits, fits-most}
-use borrow.Author.Needs.{needs}
 use Rattle.jobs.proofs.job.load_text.Statement.{statement}
 use Rattle.jobs.proofs.job.load_text.Tie as tie
 
@@ -22,8 +20,6 @@ returns c =
     let h = rw (head .given .1) at (read-head .ensures) in rw (h .1) (load-rest .ensures)
 
 pub load-text-spec : {M : Type 1} → statement M
-load-text-spec =
-    tie.close
-    (tie.spec
+load-text-spec = tie.close (tie.spec
     (λ c κs. search needs) (λ c. search needs) load-rest-requires (λ c. search needs) (λ c. search needs) (λ c. search needs) returns
     (λ c. rw (rw (c .before .x .given .1) at (c .before .before .before .read-head .ensures)) refl))

@@ -1,5 +1,4 @@
-use native.Mathlib.Omega.{arith}
-use borrow.Author.Needs.{needs}
+use Rattle.lists.proofs.Prelude.{arith, needs}
 use Rattle.text.proofs.Reading.{digit-wrapped}
 use Rattle.lines.proofs.inner.digit.Statement.{statement}
 use Rattle.lines.proofs.inner.digit.Tie as tie

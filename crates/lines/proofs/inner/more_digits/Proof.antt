@@ -1,10 +1,4 @@
-use mathlib.Core.Path.{_≡_, refl, _∙_}
-use Prim.Native.Nat.{_≤_, _<_, _-_, _+_, _^_}
-use native.Mathlib.Omega.{arith}
-use borrow.Author.Needs.{needs}
-use lib.ListN.{drop}
-use Rattle.definitions.specs.Limits.{document01}
-use Rattle.definitions.specs.Text.{digits}
+use Rattle.lists.proofs.Prelude.{_≡_, refl, _∙_, _≤_, _<_, _-_, _+_, _^_, arith, needs, drop, document01, digits}
 use Rattle.text.specs.Suited.{suited}
 use Rattle.text.proofs.Reading.{inner-stop, inner-next, inner-full, inner-end, value-ten, value-fits}
 use Rattle.lines.proofs.inner.more_digits.Statement.{statement}
@@ -48,9 +42,7 @@ returns-3 c =
     (inner-end _ _ _ _ _ (pre .0) (l .inv .0) (c .before .before .before .loop-test .left) (c .before .digit2 .ensures .1 (c .if2 .left)) ∙ l .inv .2, search needs)
 
 pub more-digits-spec : {M : Type 1} → statement M
-more-digits-spec =
-    tie.close
-    (tie.spec
+more-digits-spec = tie.close (tie.spec
     Inv-loop μ-loop (λ c. (search needs, search needs, refl)) (λ c. search needs) (λ c. search needs) (λ c κs. search needs) (λ c. search needs)
     returns mul-acc add-acc (λ c. search needs) (λ c. search needs) loop-again (λ c. search needs) (λ c. search needs) (λ c κs. search needs)
     returns-2 (λ c. search needs) returns-3)

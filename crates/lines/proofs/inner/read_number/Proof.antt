@@ -1,5 +1,4 @@
-use mathlib.Core.Path.{_∙_}
-use borrow.Author.Needs.{needs}
+use Rattle.lists.proofs.Prelude.{_∙_, needs}
 use Rattle.text.proofs.Reading.{inner-no, inner-more, inner-zeros, inner-zero}
 use Rattle.lines.proofs.inner.read_number.Statement.{statement}
 use Rattle.lines.proofs.inner.read_number.Tie as tie
@@ -23,8 +22,6 @@ returns-4 c =
     (inner-zero _ _ _ (c .before .before .before .before .before .before .before .before .pre) _ t (c .before .before .before .if2 .left) (c .before .digit2 .ensures .1 (c .if3 .left)), search needs)
 
 pub read-number-spec : {M : Type 1} → statement M
-read-number-spec =
-    tie.close
-    (tie.spec
+read-number-spec = tie.close (tie.spec
     (λ c. search needs) (λ c κs. search needs) returns (λ c κs. search needs) returns-2 (λ c. search needs) (λ c. search needs) (λ c κs. search needs)
     returns-3 (λ c. search needs) returns-4)

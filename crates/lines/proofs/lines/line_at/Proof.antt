@@ -1,5 +1,4 @@
-use mathlib.Core.Path.{refl, sym, ap, _∙_}
-use borrow.Author.Needs.{needs}
+use Rattle.lists.proofs.Prelude.{refl, sym, ap, _∙_, needs}
 use Rattle.text.specs.Told.{told}
 use Rattle.lines.proofs.LineLaws.{line-open, line-no}
 use Rattle.lines.proofs.lines.line_at.Statement.{statement}
@@ -18,7 +17,5 @@ returns-2 c =
     (line-no _ _ _ _ _ (sym (c .before .before .before .read-fixed .ensures .0) ∙ ap (told s tt) (c .before .n .given .1)), refl)
 
 pub line-at-spec : {M : Type 1} → statement M
-line-at-spec =
-    tie.close
-    (tie.spec
+line-at-spec = tie.close (tie.spec
     (λ c κs. search needs) (λ c. search needs) (λ c κs. search needs) (λ c. search needs) (λ c. search needs) returns returns-2)

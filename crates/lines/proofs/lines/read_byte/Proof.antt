@@ -1,4 +1,4 @@
-use borrow.Author.Needs.{needs}
+use Rattle.lists.proofs.Prelude.{needs}
 use Rattle.lines.proofs.LineLaws.{byte-end, byte-no, byte-yes}
 use Rattle.lines.proofs.lines.read_byte.Statement.{statement}
 use Rattle.lines.proofs.lines.read_byte.Tie as tie

@@ -1,11 +1,4 @@
-use mathlib.Core.Path.{_≡_, refl, sym, ap, _∙_}
-use Prim.Native.Nat.{_≤_, _-_}
-use native.Mathlib.Omega.{arith}
-use borrow.Author.Needs.{needs}
-use lib.ListN.{length, take, drop}
-use lib.Seq.{drop-set-lt}
-use Rattle.definitions.specs.Limits.{document01}
-use Rattle.definitions.specs.Text.{found, numbers}
+use Rattle.lists.proofs.Prelude.{_≡_, refl, sym, ap, _∙_, _≤_, _-_, arith, needs, length, take, drop, drop-set-lt, document01, found, numbers}
 use Rattle.text.specs.Told.{numberTold, told, after}
 use Rattle.lines.proofs.LineLaws.{numbers-bad, numbers-no, numbers-next, numbers-end, take-more}
 use Rattle.lines.proofs.lines.read_last.Statement.{statement}
@@ -58,9 +51,7 @@ returns-3 c =
     (ap (λ j. found (take j (l .vals)) (drop (l .p) s)) k ∙ numbers-end document01 s (take (l .i) (l .vals)) _ (l .i) (l .p) (c .loop-test .left) ∙ l .inv .2, l .inv .3)
 
 pub read-last-spec : {M : Type 1} → statement M
-read-last-spec =
-    tie.close
-    (tie.spec
+read-last-spec = tie.close (tie.spec
     Inv-loop μ-loop (λ c. (search needs, refl, refl, refl)) (λ c κs. search needs) (λ c. search needs) (λ c. search needs) (λ c. search needs) returns
     (λ c. search needs) (λ c. search needs) (λ c. search needs) (λ c. search needs) (λ c κs. search needs) (λ c κs. search needs) (λ c. search needs)
     (λ c. search needs) loop-again (λ c. search needs) (λ c. search needs) returns-2 (λ c. search needs) returns-3)

@@ -1,13 +1,4 @@
-use mathlib.Core.Path.{_≡_, refl, sym, ap, _∙_}
-use mathlib.Core.List.{List}
-use Prim.Native.Nat.{ℕ, _≤_, _<_, _-_, _+_}
-use native.Mathlib.Omega.{arith}
-use borrow.Author.Needs.{needs}
-use lib.ListN.{length, take, drop}
-use lib.Seq.{drop-set-lt}
-use native.Mathlib.Nat.{sub-zero}
-use Rattle.definitions.specs.Limits.{document01}
-use Rattle.definitions.specs.Text.{found, number, numbers}
+use Rattle.lists.proofs.Prelude.{_≡_, refl, sym, ap, _∙_, List, ℕ, _≤_, _<_, _-_, _+_, arith, needs, length, take, drop, drop-set-lt, sub-zero, document01, found, number, numbers}
 use Rattle.text.specs.Told.{numberTold, after}
 use Rattle.lines.proofs.LineLaws.{after-none, byte-no, byte-yes, inner-place, numbers-bad, numbers-no, numbers-next, numbers-end, take-more}
 use Rattle.lines.proofs.lines.read_numbers.Statement.{statement}
@@ -76,9 +67,7 @@ returns-4 c =
     (ap (λ j. found (take j (l .vals)) (drop (l .p) s)) k ∙ numbers-end document01 s (take (l .i) (l .vals)) _ (l .i) (l .p) (c .loop-test .left) ∙ l .inv .2, l .inv .3)
 
 pub read-numbers-spec : {M : Type 1} → statement M
-read-numbers-spec =
-    tie.close
-    (tie.spec
+read-numbers-spec = tie.close (tie.spec
     Inv-loop μ-loop (λ c κs. search needs) (λ c. (search needs, refl, rw sub-zero (after-none _), refl)) (λ c κs. search needs) (λ c. search needs)
     returns (λ c κs. search needs) (λ c. search needs) (λ c. search needs) (λ c. search needs) returns-2 (λ c. search needs) (λ c. search needs)
     (λ c. search needs) (λ c. place (c .before .before)) (λ c. search needs) (λ c κs. search needs) (λ c. search needs) returns-3

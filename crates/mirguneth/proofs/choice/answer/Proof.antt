@@ -1,10 +1,4 @@
-use mathlib.Core.Path.{refl, sym, _∙_}
-use mathlib.Core.List.{List}
-use Prim.Native.Nat.{ℕ, _-_}
-use borrow.Author.Needs.{needs}
-use lib.ListN.{length-replicate}
-use Rattle.definitions.specs.Limits.{document01}
-use Rattle.definitions.specs.Job.{readJob}
+use Rattle.lists.proofs.Prelude.{refl, sym, _∙_, List, ℕ, _-_, needs, length-replicate, document01, readJob}
 use Rattle.heads.proofs.Rooms.{rooms-last}
 use Rattle.mirguneth.proofs.Page.{tool-page, tool-refused}
 use Rattle.mirguneth.proofs.choice.answer.Statement.{statement}
@@ -73,9 +67,7 @@ returns-5 c =
     tool-refused (args .tool) (readJob document01 (args .job .now)) _ (rw (c .before .x .given .1) at (read-head .ensures)) (args .plan .now) (args .stops .now) (args .out .now)
 
 pub answer-spec : {M : Type 1} → statement M
-answer-spec =
-    tie.close
-    (tie.spec
+answer-spec = tie.close (tie.spec
     (λ c κs. search needs) (λ c. search needs) (λ c κs. search needs) (λ c. search needs) (λ c. search needs) (λ c κs. search needs)
     (λ c. search needs) returns (λ c. search needs) (λ c. search needs) (λ c κs. search needs) (λ c. search needs) returns-2 (λ c. search needs)
     (λ c. search needs) (λ c κs. search needs) (λ c. search needs) returns-3 (λ c. search needs) (λ c. search needs) (λ c κs. search needs)

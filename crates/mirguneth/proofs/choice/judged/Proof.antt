@@ -1,4 +1,4 @@
-use borrow.Author.Needs.{needs}
+use Rattle.lists.proofs.Prelude.{needs}
 use Rattle.mirguneth.proofs.choice.judged.Statement.{statement}
 use Rattle.mirguneth.proofs.choice.judged.Tie as tie
 
@@ -11,7 +11,5 @@ returns-3 c =
     rw (c .before .answer2 .given .1)
 
 pub judged-spec : {M : Type 1} → statement M
-judged-spec =
-    tie.close
-    (tie.spec
+judged-spec = tie.close (tie.spec
     (λ c. search needs) (λ c. search needs) (λ c. search needs) (λ c. search needs) returns-2 returns-3)

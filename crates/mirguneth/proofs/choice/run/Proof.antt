@@ -1,8 +1,4 @@
-use mathlib.Core.Path.{refl}
-use mathlib.Core.List.{List}
-use Prim.Native.Nat.{ℕ, _-_}
-use borrow.Author.Needs.{needs}
-use lib.ListN.{length, drop}
+use Rattle.lists.proofs.Prelude.{refl, List, ℕ, _-_, needs, length, drop}
 use Rattle.heads.specs.Heads.{headOf}
 use Rattle.jobs.specs.Loading.{jobFrom}
 use Rattle.plans.specs.Loading.{bothFrom}
@@ -45,9 +41,7 @@ returns-3 c =
     (answered-wrote (replayBoth x (args .stops .now) (length (args .out .now))) _ _ (replay-in .result) (c .written2 .result) (replay-in .ensures) (c .written2 .ensures))
 
 pub run-spec : {M : Type 1} → statement M
-run-spec =
-    tie.close
-    (tie.spec
+run-spec = tie.close (tie.spec
     enum-told (λ c κs. search needs) (λ c κs. search needs) (λ c. search needs) (λ c κs. search needs) (λ c κs. search needs) (λ c. search needs)
     (λ c κs. search needs) (λ c κs. search needs) (λ c. search needs) (λ c. search needs) (λ c. search needs) returns (λ c. search needs)
     (λ c. search needs) returns-2 (λ c. search needs) (λ c. search needs) (λ c. search needs) returns-3)

@@ -1,4 +1,4 @@
-use borrow.Author.Needs.{needs}
+use Rattle.lists.proofs.Prelude.{needs}
 use Rattle.mirguneth.proofs.choice.written.Statement.{statement}
 use Rattle.mirguneth.proofs.choice.written.Tie as tie
 

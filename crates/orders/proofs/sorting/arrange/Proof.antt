@@ -1,8 +1,4 @@
-use mathlib.Core.Path.{_≡_, refl, _∙_}
-use mathlib.Core.List.{[]}
-use Prim.Native.Nat.{_-_}
-use native.Mathlib.Omega.{arith}
-use lib.ListN.{length}
+use Rattle.lists.proofs.Prelude.{_≡_, refl, _∙_, [], _-_, arith, length}
 use Rattle.orders.specs.Sorting.{Sorting}
 use Rattle.orders.proofs.SortingLaws.{sorting-most, sorting-done}
 use Rattle.orders.proofs.sorting.arrange.Statement.{statement}
@@ -35,9 +31,7 @@ returns c =
     (s .runs, sorting-done (rw e at s))
 
 pub arrange-spec : {M : Type 1} → statement M
-arrange-spec =
-    tie.close
-    (tie.spec
+arrange-spec = tie.close (tie.spec
     Inv-loop μ-loop (λ c κs. (c .before .before .before .pre .0, c .before .before .before .pre .1))
     (λ c. (refl, c .before .before .list-entries .ensures)) unblock-requires add-i loop-less loop-again
     (λ c. c .before .loop .inv .0 ∙ c .before .before .before .links .given) returns)

@@ -1,6 +1,4 @@
-use mathlib.Core.Path.{_≡_, refl}
-use borrow.Author.Needs.{needs}
-use borrow.Author.Tests.{eq-eqb, ne-eqb}
+use Rattle.lists.proofs.Prelude.{_≡_, refl, needs, eq-eqb, ne-eqb}
 use Rattle.orders.specs.Sorting.{pending}
 use Rattle.orders.proofs.sorting.join.Statement.{statement}
 use Rattle.orders.proofs.sorting.join.Tie as tie
@@ -18,8 +16,6 @@ returns-2 c =
     rw (ne-eqb (pending (a .v) (a .links .now) (a .t)) 0 d) (refl, refl)
 
 pub join-spec : {M : Type 1} → statement M
-join-spec =
-    tie.close
-    (tie.spec
+join-spec = tie.close (tie.spec
     (λ c κs. search needs) (λ c. search needs) (λ c. search needs) (λ c κs. search needs) (λ c. search needs) (λ c. search needs) (λ c. search needs)
     (λ c. search needs) returns returns-2)

@@ -1,11 +1,6 @@
-use mathlib.Core.Path.{_≡_, refl, _∙_}
-use Prim.Native.Nat.{_≤_, _-_}
-use native.Mathlib.Omega.{arith}
-use borrow.Author.Needs.{needs}
-use lib.ListN.{length}
+use Rattle.lists.proofs.Prelude.{_≡_, refl, _∙_, _≤_, _-_, arith, needs, length, []}
 use Rattle.orders.proofs.SortingLaws.{sorting-none, sorting-most, sorting-entry}
 use Rattle.orders.specs.Sorting.{Sorting}
-use mathlib.Core.List.{[]}
 use Rattle.orders.proofs.sorting.list_entries.Statement.{statement}
 use Rattle.orders.proofs.sorting.list_entries.Tie as tie
 
@@ -31,8 +26,6 @@ returns : tie.Need-returns Inv-loop μ-loop
 returns c = let e : c .before .loop .t ≡ c .before .before .before .before .args .v = omega (arith, c .before .loop .inv .0, c .loop-test .left) in rw e at (c .before .loop .inv .2)
 
 pub list-entries-spec : {M : Type 1} → statement M
-list-entries-spec =
-    tie.close
-    (tie.spec
+list-entries-spec = tie.close (tie.spec
     Inv-loop μ-loop (λ c. (omega arith, refl, sorting-none (c .before .before .pre .0) (c .before .before .pre .1))) join-requires (λ c. search needs)
     (λ c. search needs) loop-again (λ c. search needs) returns)

@@ -1,8 +1,4 @@
-use mathlib.Core.Path.{_≡_, refl, _∙_}
-use Prim.Native.Nat.{_≤_, _-_, _+_}
-use native.Mathlib.Omega.{arith}
-use borrow.Author.Needs.{needs}
-use lib.ListN.{length}
+use Rattle.lists.proofs.Prelude.{_≡_, refl, _∙_, _≤_, _-_, _+_, arith, needs, length}
 use Rattle.orders.specs.Links.{run}
 use Rattle.orders.specs.Sorting.{Sorting}
 use Rattle.orders.proofs.SortingLaws.{sorting-most, sorting-begin, sorting-last, sorting-end, sorting-least, sorting-next}
@@ -48,8 +44,6 @@ returns : tie.Need-returns Inv-loop μ-loop
 returns c = sorting-end (c .before .before .leaving .result .start) (c .before .loop .k) (c .loop-test .left) (c .before .loop .inv .3)
 
 pub unblock-spec : {M : Type 1} → statement M
-unblock-spec =
-    tie.close
-    (tie.spec
+unblock-spec = tie.close (tie.spec
     Inv-loop μ-loop (λ c κs. search needs) (λ c κs. search needs) loop-holds (λ c. search needs) (λ c. search needs) (λ c. search needs)
     (λ c κs. search needs) release-requires (λ c. search needs) loop-again (λ c. c .before .loop .inv .2) returns)

@@ -1,7 +1,4 @@
-use mathlib.Core.Path.{sym, _∙_}
-use Prim.Native.Nat.{_-_}
-use borrow.Author.Needs.{needs}
-use Rattle.definitions.specs.Plan.{planHeadOf}
+use Rattle.lists.proofs.Prelude.{sym, _∙_, _-_, needs, planHeadOf}
 use Rattle.plans.proofs.PlanLaws.{head-range, head-tasks, head-processors, head-others, head-good}
 use Rattle.plans.proofs.plans.check_head.Statement.{statement}
 use Rattle.plans.proofs.plans.check_head.Tie as tie
@@ -44,8 +41,6 @@ returns-5 c =
     head-good (args .mem .now) (planHeadOf (args .head .now)) (sym (if1 .left) ∙ head-strays .ensures) (if2 .left) (c .before .before .if3 .left) (c .if4 .left)
 
 pub check-head-spec : {M : Type 1} → statement M
-check-head-spec =
-    tie.close
-    (tie.spec
+check-head-spec = tie.close (tie.spec
     (λ c. search needs) (λ c. search needs) (λ c. search needs) (λ c. search needs) (λ c. search needs) (λ c κs. search needs) returns
     (λ c. search needs) returns-2 (λ c. search needs) returns-3 (λ c. search needs) returns-4 returns-5)

@@ -1,7 +1,4 @@
-use mathlib.Core.Path.{sym, _∙_}
-use Prim.Native.Nat.{_-_}
-use native.Mathlib.Omega.{arith}
-use borrow.Author.Needs.{needs}
+use Rattle.lists.proofs.Prelude.{sym, _∙_, _-_, arith, needs}
 use Rattle.jobs.proofs.Held.{sizes}
 use Rattle.plans.proofs.PlanLaws.{strays-not, line-strays, line-descends, line-again, line-unfed, line-good}
 use Rattle.plans.proofs.plans.check_line.Statement.{statement}
@@ -65,8 +62,6 @@ returns-5 c =
     (λ k s. line-unfed (args .mem .now) (args .a) k s f g z (sym (c .if4 .left) ∙ c .before .fed .ensures), λ z. absurd (omega arith))
 
 pub check-line-spec : {M : Type 1} → statement M
-check-line-spec =
-    tie.close
-    (tie.spec
+check-line-spec = tie.close (tie.spec
     (λ c κs. ((_, c .before .before .pre .0), c .before .before .pre .2)) returns descends-requires returns-2 (λ c. search needs) (λ c. search needs) line-of-requires
     returns-3 fed-requires returns-4 returns-5)

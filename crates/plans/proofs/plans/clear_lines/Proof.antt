@@ -1,9 +1,4 @@
-use mathlib.Core.Path.{_≡_, refl}
-use Prim.Native.Nat.{ℕ, _≤_, _<_, _-_, _+_, _*_}
-use native.Mathlib.Omega.{arith}
-use borrow.Author.Needs.{needs}
-use lib.ListN.{length}
-use Rattle.definitions.specs.Lists.{nth}
+use Rattle.lists.proofs.Prelude.{_≡_, refl, ℕ, _≤_, _<_, _-_, _+_, _*_, arith, needs, length, nth}
 use Rattle.heads.specs.Layout.{lineAt, blockedAt}
 use Rattle.lists.specs.Kept.{KeptOutside}
 use Rattle.lists.proofs.Kept.{kept-all, kept-set}
@@ -25,9 +20,7 @@ loop-again c =
     (search needs, search needs, kept-set (lineAt _ + l .t) 0 (l .inv .2) (omega arith) (omega arith), cleared-more _ (l .mem) (l .t) (omega arith) (l .inv .3))
 
 pub clear-lines-spec : {M : Type 1} → statement M
-clear-lines-spec =
-    tie.close
-    (tie.spec
+clear-lines-spec = tie.close (tie.spec
     Inv-loop μ-loop (λ c. search needs) (λ c. search needs) (λ c. (search needs, refl, kept-all, λ u h. absurd (omega arith))) (λ c. search needs)
     (λ c. search needs) (λ c. search needs) (λ c. search needs) (λ c. search needs) loop-again (λ c. search needs)
     (λ c. let l = c .before .loop in (l .inv .2, λ u h. l .inv .3 u (omega arith))))

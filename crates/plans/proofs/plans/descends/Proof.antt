@@ -1,8 +1,4 @@
-use mathlib.Core.Path.{_≡_, refl, _∙_}
-use Prim.Native.Nat.{_≤_, _-_, _+_}
-use native.Mathlib.Omega.{arith}
-use borrow.Author.Needs.{needs}
-use Rattle.definitions.specs.Lists.{nth}
+use Rattle.lists.proofs.Prelude.{_≡_, refl, _∙_, _≤_, _-_, _+_, arith, needs, nth}
 use Rattle.jobs.proofs.Held.{sizes}
 use Rattle.plans.proofs.PlanLaws.{rowDescends, descends-here, descends-not, descends-one, descends-row}
 use Rattle.plans.proofs.plans.descends.Statement.{statement}
@@ -41,8 +37,6 @@ returns-2 c =
     descends-one mem (args .a) ∙ rw z at (loop .inv .1) ∙ descends-row mem (args .a)
 
 pub descends-spec : {M : Type 1} → statement M
-descends-spec =
-    tie.close
-    (tie.spec
+descends-spec = tie.close (tie.spec
     Inv-loop μ-loop (λ c. search needs) (λ c. let s = sizes (c .before .before .pre .0 .1) in (omega arith, refl)) (λ c κs. search needs)
     (λ c. search needs) (λ c κs. search needs) returns (λ c. search needs) (λ c. search needs) loop-again returns-2)

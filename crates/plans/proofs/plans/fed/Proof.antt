@@ -1,11 +1,5 @@
 -- The edges of the run that are left to see give the whole answer.
-use borrow.Author.Needs.{needs}
-use Prim.Native.Nat.{_≤_, _<_, _-_}
-use lib.ListN.{length}
-use mathlib.Core.Path.{_≡_, _∙_}
-use native.Mathlib.Omega.{arith}
-use Rattle.definitions.specs.Lists.{all}
-use Rattle.definitions.specs.Job.{incoming}
+use Rattle.lists.proofs.Prelude.{needs, _≤_, _<_, _-_, length, _≡_, _∙_, arith, all, incoming}
 use Rattle.orders.specs.Links.{Run}
 use Rattle.jobs.specs.Held.{jobIn}
 use Rattle.jobs.proofs.Held.{sizes}
@@ -98,9 +92,7 @@ returns-2 c =
     lined-end (a .rooms) (a .mem .now) (a .links .now) _ (c .before .loop .k) (c .loop-test .left) ∙ c .before .loop .inv .2
 
 pub fed-spec : {M : Type 1} → statement M
-fed-spec =
-    tie.close
-    (tie.spec
+fed-spec = tie.close (tie.spec
     Inv-loop μ-loop (λ c. omega (arith, sizes (c .before .before .pre .0) .size)) shared-slice-read-entering (λ c κs. search needs) loop-holds
     (λ c. omega (arith, c .loop-test .taken)) mul-edge-from shared-slice-read-edge-from (λ c κs. search needs) add-if1 mul-if1 shared-slice-read-if1
     returns (λ c. omega (arith, c .before .before .before .before .loop-test .taken)) loop-again returns-2)

@@ -1,5 +1,4 @@
-use Prim.Native.Nat.{_-_}
-use native.Mathlib.Omega.{arith}
+use Rattle.lists.proofs.Prelude.{_-_, arith}
 use Rattle.plans.proofs.PlanLaws.{head-tasks-low, head-tasks-high, head-processors-low, head-processors-high, head-losses, head-best, head-worst}
 use Rattle.plans.proofs.plans.head_strays.Statement.{statement}
 use Rattle.plans.proofs.plans.head_strays.Tie as tie

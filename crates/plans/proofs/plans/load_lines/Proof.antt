@@ -1,10 +1,5 @@
 -- The table of lines is cleared, the lines are read, and then M* and M are stored.
-use mathlib.Core.Path.{sym, ap, _∙_}
-use Prim.Native.Nat.{_+_}
-use native.Mathlib.Omega.{arith}
-use borrow.Author.Needs.{needs}
-use lib.ListN.{length-set}
-use Rattle.definitions.specs.Lists.{nth}
+use Rattle.lists.proofs.Prelude.{sym, ap, _∙_, _+_, arith, needs, length-set, nth}
 use Rattle.text.specs.Told.{told}
 use Rattle.heads.specs.Layout.{lineAt, farAt}
 use Rattle.jobs.proofs.Held.{sizes, links-kept}
@@ -90,9 +85,7 @@ returns-3 c =
     )
 
 pub load-lines-spec : {M : Type 1} → statement M
-load-lines-spec =
-    tie.close
-    (tie.spec
+load-lines-spec = tie.close (tie.spec
     (λ c κs. c .before .before .before .before .pre .0 .size) read-plan-lines-requires (λ c. search needs) (λ c. search needs) returns (λ c. search needs)
     (λ c. search needs) slice-write-mem (λ c. search needs) (λ c. search needs) slice-write-mem-2 (λ c. search needs) same-length-2 returns-2
     (λ c. search needs) returns-3)

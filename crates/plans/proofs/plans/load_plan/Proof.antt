@@ -1,8 +1,5 @@
 -- The head is read, then the lines.
-use mathlib.Core.Path.{_≡_, sym, ap, _∙_}
-use native.Mathlib.Omega.{arith}
-use borrow.Author.Needs.{needs}
-use lib.ListN.{take}
+use Rattle.lists.proofs.Prelude.{_≡_, sym, ap, _∙_, arith, needs, take}
 use Rattle.text.specs.Told.{told}
 use Rattle.lines.proofs.LineLaws.{line-fits}
 use Rattle.lists.proofs.Kept.{kept-all}
@@ -63,9 +60,7 @@ returns-4 c =
     (kept-all, plan-head-bad d s (if1 .left) _ d _ (sym (read-line .ensures .0 ∙ line-fits _ 5 _ 5 _ (omega arith)) ∙ ap (told s (take 5 ys)) (c .before .x .given .1)))
 
 pub load-plan-spec : {M : Type 1} → statement M
-load-plan-spec =
-    tie.close
-    (tie.spec
+load-plan-spec = tie.close (tie.spec
     returns (λ c. search needs) (λ c. search needs) (λ c κs. search needs) (λ c. search needs) (λ c. search needs) (λ c κs. search needs)
     (λ c. search needs) returns-2 (λ c. search needs) (λ c. search needs) load-lines-requires (λ c. search needs) (λ c. search needs) returns-3
     returns-4)

@@ -1,9 +1,5 @@
 -- The line is read, then its rule is tried; its task gets its place in the table.
-use mathlib.Core.Path.{sym, ap, _∙_}
-use Prim.Native.Nat.{_-_}
-use native.Mathlib.Omega.{arith}
-use borrow.Author.Needs.{needs}
-use lib.ListN.{take}
+use Rattle.lists.proofs.Prelude.{sym, ap, _∙_, _-_, arith, needs, take}
 use Rattle.text.specs.Told.{told}
 use Rattle.lines.proofs.LineLaws.{line-fits}
 use Rattle.jobs.proofs.Held.{sizes}
@@ -90,9 +86,7 @@ returns-3 c =
     read-bad u h _ n z q ys l (a .s .now) (a .at) _ e
 
 pub read-plan-line-spec : {M : Type 1} → statement M
-read-plan-line-spec =
-    tie.close
-    (tie.spec
+read-plan-line-spec = tie.close (tie.spec
     (λ c κs. let s = sizes (c .before .before .before .before .pre .0 .job) in (omega arith, s .losses-most)) row-at-requires add-b (λ c. search needs)
     (λ c. search needs) (λ c. search needs) (λ c. search needs) part-read-line-end (λ c κs. search needs) (λ c. search needs) check-line-requires
     (λ c. search needs) returns (λ c. search needs) (λ c. search needs) put-line-requires (λ c. search needs) (λ c. search needs) returns-2

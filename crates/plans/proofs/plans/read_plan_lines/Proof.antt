@@ -1,8 +1,5 @@
 -- The lines from line k on, after the lines before it, are all the lines.
-use mathlib.Core.Path.{_≡_}
-use Prim.Native.Nat.{ℕ, _≤_, _-_}
-use native.Mathlib.Omega.{arith}
-use borrow.Author.Needs.{needs}
+use Rattle.lists.proofs.Prelude.{_≡_, ℕ, _≤_, _-_, arith, needs}
 use Rattle.jobs.proofs.Held.{links-kept}
 use Rattle.plans.proofs.PlanReading.{LinesUpTo, upto-none, tasks-kept, upto-end, upto-kept, upto-no, upto-next}
 use Rattle.plans.proofs.plans.read_plan_lines.Statement.{statement}
@@ -56,8 +53,6 @@ returns-2 : tie.Need-returns-2 Inv-loop μ-loop
 returns-2 c = let l = c .before .loop in let r = upto-end (l .inv .1) (c .loop-test .left) in (l .inv .1 .kept, r .0, λ m e. r .1)
 
 pub read-plan-lines-spec : {M : Type 1} → statement M
-read-plan-lines-spec =
-    tie.close
-    (tie.spec
+read-plan-lines-spec = tie.close (tie.spec
     Inv-loop μ-loop (λ c. search needs) loop-holds read-plan-line-requires (λ c. search needs) (λ c. search needs) same-length returns
     (λ c. search needs) (λ c. search needs) loop-again (λ c. c .before .loop .inv .1 .kept .size) returns-2)

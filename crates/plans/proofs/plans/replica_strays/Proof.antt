@@ -1,8 +1,4 @@
-use Prim.Native.Nat.{_-_}
-use native.Mathlib.Omega.{arith}
-use borrow.Author.Needs.{needs}
-use Rattle.definitions.specs.Lists.{nth}
-use borrow.Author.Tests.{lt-ltb, le-ltb}
+use Rattle.lists.proofs.Prelude.{_-_, arith, needs, nth, lt-ltb, le-ltb}
 use Rattle.definitions.proofs.Lists.{not-outside}
 use Rattle.heads.specs.Layout.{earlyAt, lateAt}
 use Rattle.plans.proofs.plans.replica_strays.Statement.{statement}

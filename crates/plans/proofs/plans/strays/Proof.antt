@@ -1,9 +1,4 @@
-use mathlib.Core.Path.{_≡_, refl, sym, _∙_}
-use Prim.Native.Nat.{_≤_, _-_, _+_}
-use native.Mathlib.Omega.{arith}
-use borrow.Author.Needs.{needs}
-use lib.ListN.{length}
-use Rattle.definitions.specs.Lists.{nth}
+use Rattle.lists.proofs.Prelude.{_≡_, refl, sym, _∙_, _≤_, _-_, _+_, arith, needs, length, nth}
 use Rattle.jobs.proofs.Held.{sizes}
 use Rattle.plans.proofs.PlanLaws.{rowStrays, stray-here, stray-not, strays-none, strays-task, strays-row}
 use Rattle.plans.proofs.plans.strays.Statement.{statement}
@@ -47,9 +42,7 @@ returns-3 c =
     strays-none mem (args .a) ∙ rw z at (loop .inv .2) ∙ strays-row mem (args .a) (c .before .before .before .if1 .left)
 
 pub strays-spec : {M : Type 1} → statement M
-strays-spec =
-    tie.close
-    (tie.spec
+strays-spec = tie.close (tie.spec
     Inv-loop μ-loop (λ c. search needs) (λ c. search needs) (λ c. search needs) returns (λ c. search needs)
     (λ c. let s = sizes (c .before .before .before .before .before .pre .0 .1) in omega arith) loop-holds (λ c. search needs) (λ c κs. search needs)
     returns-2 (λ c. search needs) loop-again returns-3)

@@ -1,8 +1,4 @@
-use mathlib.Core.Path.{sym}
-use native.Mathlib.Omega.{arith}
-use borrow.Author.Needs.{needs}
-use borrow.Author.Tests.{le-leb}
-use Rattle.definitions.specs.Limits.{document01}
+use Rattle.lists.proofs.Prelude.{sym, arith, needs, le-leb, document01}
 use Rattle.printing.proofs.WriteLaws.{line-over, line-most, line-counted}
 use Rattle.printing.proofs.writer.line_fits.Statement.{statement}
 use Rattle.printing.proofs.writer.line_fits.Tie as tie

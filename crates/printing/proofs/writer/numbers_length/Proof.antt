@@ -1,11 +1,5 @@
 -- What is counted and what is left make the whole.
-use mathlib.Core.Path.{_≡_, ap}
-use Prim.Native.Nat.{_≤_, _-_, _+_}
-use native.Mathlib.Omega.{arith}
-use borrow.Author.Needs.{needs}
-use lib.ListN.{length, getD, drop}
-use Rattle.definitions.specs.Limits.{document01}
-use Rattle.definitions.specs.Text.{numbersText}
+use Rattle.lists.proofs.Prelude.{_≡_, ap, _≤_, _-_, _+_, arith, needs, length, getD, drop, document01, numbersText}
 use Rattle.definitions.proofs.Decimal.{width-powers}
 use Rattle.printing.proofs.WriteLaws.{numbers-most, length-next, text-end}
 use Rattle.printing.proofs.writer.numbers_length.Statement.{statement}
@@ -41,8 +35,6 @@ returns : tie.Need-returns Inv-loop μ-loop
 returns c = let s = c .before .before .before .args .vals .now in let i = c .before .loop .i in let e = ap length (text-end document01 s i (c .loop-test .left)) in omega arith
 
 pub numbers-length-spec : {M : Type 1} → statement M
-numbers-length-spec =
-    tie.close
-    (tie.spec
+numbers-length-spec = tie.close (tie.spec
     Inv-loop μ-loop (λ c. search needs) (λ c. search needs) (λ c. search needs) (λ c κs. search needs) add-n add-n-2 (λ c. search needs)
     (λ c. search needs) loop-again returns)

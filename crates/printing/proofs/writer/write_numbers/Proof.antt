@@ -1,11 +1,5 @@
 -- What is yet to be written over the output gives the whole.
-use mathlib.Core.Path.{_≡_, refl, sym, ap, _∙_}
-use Prim.Native.Nat.{_≤_, _-_, _+_}
-use native.Mathlib.Omega.{arith}
-use borrow.Author.Needs.{needs}
-use lib.ListN.{length, drop, length-set}
-use Rattle.definitions.specs.Limits.{document01}
-use Rattle.definitions.specs.Text.{numbersText}
+use Rattle.lists.proofs.Prelude.{_≡_, refl, sym, ap, _∙_, _≤_, _-_, _+_, arith, needs, length, drop, length-set, document01, numbersText}
 use Rattle.lists.specs.Over.{over}
 use Rattle.lists.proofs.Over.{over-nil}
 use Rattle.printing.proofs.WriteLaws.{text-end, place-turn, length-turn, write-turn}
@@ -65,8 +59,6 @@ returns c =
     (omega (arith, ap length e), sym (over-nil (l .out) (l .p)) ∙ ap (over (l .out) (l .p)) (sym e) ∙ l .inv .4)
 
 pub write-numbers-spec : {M : Type 1} → statement M
-write-numbers-spec =
-    tie.close
-    (tie.spec
+write-numbers-spec = tie.close (tie.spec
     Inv-loop μ-loop (λ c. (search needs, refl, refl, refl, refl)) (λ c. search needs) (λ c. search needs) (λ c κs. search needs) (λ c. search needs)
     (λ c. search needs) (λ c κs. search needs) slice-write-out add-p (λ c. search needs) loop-again (λ c. c .before .loop .inv .2) returns)

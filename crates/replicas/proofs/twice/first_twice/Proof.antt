@@ -1,9 +1,4 @@
-use borrow.Author.Needs.{needs}
-use mathlib.Core.Path.{_≡_, refl, sym, ap, _∙_}
-use mathlib.Core.List.{[]}
-use Prim.Native.Nat.{ℕ, _+_, _*_, _≤_, _-_}
-use native.Mathlib.Omega.{arith}
-use lib.ListN.{length}
+use Rattle.lists.proofs.Prelude.{needs, _≡_, refl, sym, ap, _∙_, [], ℕ, _+_, _*_, _≤_, _-_, arith, length}
 use Rattle.replicas.specs.Cells.{linesOf, twice, cellsOf, firstTwice}
 use Rattle.replicas.proofs.TwiceLaws.{part-cells, first-none, first-next, first-here}
 use Rattle.replicas.proofs.twice.first_twice.Statement.{statement}
@@ -35,9 +30,7 @@ returns-2 c =
     sym (ap (λ (i : ℕ). firstTwice (c .before .before .before .args .w) i (c .before .before .before .args .lines .now)) (sym e) ∙ c .before .loop .inv .1)
 
 pub first-twice-spec : {M : Type 1} → statement M
-first-twice-spec =
-    tie.close
-    (tie.spec
+first-twice-spec = tie.close (tie.spec
     Inv-loop μ-loop (λ c. (omega arith, first-none (c .before .args .w) (c .before .args .lines .now))) (λ c. search needs) (λ c. search needs)
     (λ c. search needs) (λ c. search needs) (λ c. search needs) (λ c. search needs) (λ c. search needs) (λ c. search needs) (λ c κs. search needs)
     (λ c. search needs) (λ c. search needs) (λ c. search needs) returns (λ c. search needs) (λ c. search needs) loop-again returns-2)

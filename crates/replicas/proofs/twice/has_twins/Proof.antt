@@ -1,9 +1,4 @@
-use borrow.Author.Needs.{needs}
-use mathlib.Core.Path.{_≡_, sym, ap, _∙_}
-use mathlib.Core.Bool.{false}
-use Prim.Native.Nat.{ℕ, _≤_, _-_}
-use native.Mathlib.Omega.{arith}
-use lib.ListN.{length}
+use Rattle.lists.proofs.Prelude.{needs, _≡_, sym, ap, _∙_, false, ℕ, _≤_, _-_, arith, length}
 use Rattle.replicas.specs.Cells.{replicasOf, twins}
 use Rattle.replicas.proofs.TwiceLaws.{twins-none, twins-next, twins-here}
 use Rattle.replicas.proofs.twice.has_twins.Statement.{statement}
@@ -31,9 +26,7 @@ returns-2 c =
     sym (ap (λ (i : ℕ). twins i (c .before .before .args .cells .now)) (sym e) ∙ c .before .loop .inv .1)
 
 pub has-twins-spec : {M : Type 1} → statement M
-has-twins-spec =
-    tie.close
-    (tie.spec
+has-twins-spec = tie.close (tie.spec
     Inv-loop μ-loop (λ c. (omega arith, twins-none (c .args .cells .now))) (λ c. search needs) (λ c. search needs) (λ c. search needs)
     (λ c. search needs) (λ c. search needs) (λ c. search needs) (λ c. search needs) (λ c. search needs) returns (λ c. search needs)
     (λ c. search needs) loop-again returns-2)

@@ -1,10 +1,5 @@
-use mathlib.Core.Path.{sym}
-use native.Mathlib.Omega.{arith}
-use borrow.Author.Needs.{needs}
-use Rattle.definitions.specs.Limits.{document01}
+use Rattle.lists.proofs.Prelude.{sym, arith, needs, document01, never, resultLine}
 use Rattle.definitions.proofs.Decimal.{width-powers}
-use Rattle.definitions.specs.Times.{never}
-use Rattle.definitions.specs.Replay.{resultLine}
 use Rattle.text.proofs.Writing.{written-unfit}
 use Rattle.replicas.proofs.ResultLaws.{undone-length, undone-whole}
 use Rattle.replicas.proofs.undone.undone_line.Statement.{statement}
@@ -41,8 +36,6 @@ returns-2 c =
     )
 
 pub undone-line-spec : {M : Type 1} → statement M
-undone-line-spec =
-    tie.close
-    (tie.spec
+undone-line-spec = tie.close (tie.spec
     (λ c κs. search needs) add-n returns (λ c. search needs) (λ c κs. search needs) (λ c κs. search needs) (λ c. search needs) (λ c κs. search needs)
     (λ c. search needs) returns-2)

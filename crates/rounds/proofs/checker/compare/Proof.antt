@@ -1,4 +1,4 @@
-use mathlib.Core.Path.{sym, _∙_}
+use Rattle.lists.proofs.Prelude.{sym, _∙_}
 use Rattle.jobs.specs.Held.{jobIn}
 use Rattle.plans.specs.Loading.{planIn}
 use Rattle.rounds.proofs.JudgeLaws.{answer-ticks, answer-ends, answer-accepted}

@@ -1,6 +1,4 @@
-use Prim.Native.Nat.{_-_}
-use native.Mathlib.Omega.{arith}
-use borrow.Author.Needs.{needs}
+use Rattle.lists.proofs.Prelude.{_-_, arith, needs}
 use Rattle.jobs.proofs.Held.{sizes}
 use Rattle.rounds.proofs.CheckLaws.{doubled-said}
 use Rattle.rounds.proofs.checker.doubled.Statement.{statement}
@@ -16,9 +14,7 @@ returns c =
     (c .before .before .before .row-at2 .ensures) (doubled-task .result) (doubled-task .ensures)
 
 pub doubled-spec : {M : Type 1} → statement M
-doubled-spec =
-    tie.close
-    (tie.spec
+doubled-spec = tie.close (tie.spec
     (λ c κs. let s = sizes (c .before .pre .standing .job) in omega (arith, s .size)) (λ c. search needs)
     (λ c κs. let s = sizes (c .before .before .before .pre .standing .job) in omega (arith, s .size, s .tasks-most .1)) (λ c. search needs)
     (λ c. let s = sizes (c .before .before .before .before .before .pre .standing .job) in omega (arith, s)) (λ c. search needs) (λ c. search needs)

@@ -1,5 +1,5 @@
 -- The ends of what is written are M* and M of the equations, if the ticks are.
-use borrow.Author.Needs.{needs}
+use Rattle.lists.proofs.Prelude.{needs}
 use Rattle.rounds.proofs.JudgeLaws.{best-differs, worst-decides}
 use Rattle.rounds.proofs.checker.ends_agree.Statement.{statement}
 use Rattle.rounds.proofs.checker.ends_agree.Tie as tie
@@ -16,8 +16,6 @@ returns-2 c =
     worst-decides (pre .0) (pre .2) (pre .3) (end-of .result) (end-of .ensures) (c .before .before .if1 .left) (c .before .end-of2 .result) (c .before .end-of2 .ensures)
 
 pub ends-agree-spec : {M : Type 1} → statement M
-ends-agree-spec =
-    tie.close
-    (tie.spec
+ends-agree-spec = tie.close (tie.spec
     (λ c. search needs) (λ c. search needs) (λ c κs. search needs) (λ c. search needs) (λ c. search needs) returns (λ c κs. search needs)
     (λ c. search needs) (λ c. search needs) returns-2)

@@ -1,5 +1,4 @@
-use borrow.Author.Needs.{needs}
-use native.Mathlib.Omega.{arith}
+use Rattle.lists.proofs.Prelude.{needs, arith}
 use Rattle.jobs.specs.Held.{jobIn}
 use Rattle.plans.specs.Loading.{planIn}
 use Rattle.rounds.proofs.JudgeLaws.{answer-doubled}
@@ -20,7 +19,5 @@ returns-2 c =
     answer-doubled (jobIn (args .mem .now)) (planIn (args .rooms) (args .mem .now)) _ (i .0)
 
 pub judge-spec : {M : Type 1} → statement M
-judge-spec =
-    tie.close
-    (tie.spec
+judge-spec = tie.close (tie.spec
     (λ c κs. search needs) (λ c. search needs) compare-requires (λ c. search needs) cast-t7 (λ c. search needs) returns-2)

@@ -1,11 +1,7 @@
 -- The ticks of the replicas passed are the equations'.
-use mathlib.Core.Path.{_≡_, refl}
-use Prim.Native.Nat.{_≤_, _-_, _+_}
-use native.Mathlib.Omega.{arith}
-use borrow.Author.Needs.{needs, elem-fits-field}
-use Rattle.definitions.specs.Lists.{nth}
+use Rattle.lists.proofs.Prelude.{_≡_, refl, _≤_, _-_, _+_, arith, needs, nth, false≢true}
+use borrow.Author.Needs.{elem-fits-field}
 use mir.Syntax.{w32, w64}
-use mathlib.Core.Bool.{false≢true}
 use Rattle.rounds.specs.Checking.{AgreesTo, LineAgrees}
 use Rattle.jobs.proofs.Held.{sizes}
 use Rattle.rounds.proofs.AgreeLaws.{box-most, finishes-asked, short-next, agrees-none, agrees-next, early-not, late-not}
@@ -144,9 +140,7 @@ returns-3 c =
     (λ z. (a, short-next (pre .0) (args .k) (pre .2) (pre .3) a), λ b. refl)
 
 pub line-agrees-spec : {M : Type 1} → statement M
-line-agrees-spec =
-    tie.close
-    (tie.spec
+line-agrees-spec = tie.close (tie.spec
     Inv-loop μ-loop (λ c. let s = sizes (c .before .before .before .pre .0 .standing .job) in omega arith)
     (λ c. let s = sizes (c .before .before .before .pre .0 .standing .job) in omega arith) row-at-requires mul-t shared-slice-read-t finishes-requires
     loop-holds replica-at-requires mul-if1 element-copy-out-if1 (λ c. search needs) returns mul-if2 element-copy-out-if2 cast-if2 returns-2 add-c

@@ -1,9 +1,5 @@
 -- The ticks of the lines passed are the equations', and the clocks are those after them.
-use mathlib.Core.Path.{sym, _∙_}
-use Prim.Native.Nat.{ℕ, _≤_, _<_, _-_}
-use native.Mathlib.Omega.{arith}
-use borrow.Author.Needs.{needs}
-use mathlib.Core.Bool.{false≢true}
+use Rattle.lists.proofs.Prelude.{sym, _∙_, ℕ, _≤_, _<_, _-_, arith, needs, false≢true}
 use Rattle.rounds.specs.Schedule.{ShortTo}
 use Rattle.rounds.specs.Checking.{ClocksAfter, LineAgrees}
 use Rattle.jobs.proofs.Held.{sizes}
@@ -69,9 +65,7 @@ returns-2 c =
     (c .before .loop .inv .1)
 
 pub ticks-agree-spec : {M : Type 1} → statement M
-ticks-agree-spec =
-    tie.close
-    (tie.spec
+ticks-agree-spec = tie.close (tie.spec
     Inv-loop μ-loop (λ c. let s = sizes (c .before .before .before .pre .0 .standing .job) in omega arith)
     (λ c κs. (_, c .before .before .before .pre .0 .standing .job)) (λ c κs. search needs) loop-holds line-agrees-requires row-at-requires
     advance-line-requires returns add-k (λ c. search needs) loop-again returns-2)

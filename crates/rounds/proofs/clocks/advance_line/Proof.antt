@@ -1,9 +1,5 @@
 -- The clocks are those after the replicas passed.
-use mathlib.Core.Path.{_≡_}
-use Prim.Native.Nat.{_≤_, _-_, _+_}
-use native.Mathlib.Omega.{arith}
-use borrow.Author.Needs.{needs}
-use Rattle.definitions.specs.Lists.{nth}
+use Rattle.lists.proofs.Prelude.{_≡_, _≤_, _-_, _+_, arith, needs, nth}
 use Rattle.rounds.specs.Clocks.{Advanced}
 use Rattle.jobs.proofs.Held.{sizes}
 use Rattle.rounds.proofs.ClockLaws.{clocks-first, clocks-next}
@@ -55,9 +51,7 @@ returns c =
     let e : loop .c ≡ nth (c .before .before .before .before .args .mem .now) 3 + 1 = omega arith in rw e at (loop .inv .2)
 
 pub advance-line-spec : {M : Type 1} → statement M
-advance-line-spec =
-    tie.close
-    (tie.spec
+advance-line-spec = tie.close (tie.spec
     Inv-loop μ-loop (λ c. let s = sizes (c .before .before .pre .job .1) in omega arith)
     (λ c. let s = sizes (c .before .before .pre .job .1) in omega arith) loop-holds
     (λ c κs. omega (arith, c .before .before .before .before .pre .within, c .before .loop .inv .1, c .loop-test .taken)) cast-advance cast-advance-2

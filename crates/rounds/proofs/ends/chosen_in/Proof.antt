@@ -1,9 +1,5 @@
 -- After c turns acc is the choice among the first c replicas of the line.
-use mathlib.Core.Path.{_≡_}
-use Prim.Native.Nat.{_≤_, _-_, _+_}
-use native.Mathlib.Omega.{arith}
-use borrow.Author.Needs.{needs}
-use Rattle.definitions.specs.Lists.{nth}
+use Rattle.lists.proofs.Prelude.{_≡_, _≤_, _-_, _+_, arith, needs, nth}
 use Rattle.ticks.specs.Cells.{timeIn}
 use Rattle.jobs.proofs.Held.{sizes}
 use Rattle.rounds.proofs.EndLaws.{chosenIn, chosen-first, chosen-next}
@@ -33,9 +29,7 @@ returns c =
     let e : loop .c ≡ nth (c .before .before .before .before .before .args .mem .now) 3 + 1 = omega arith in rw (← e) (loop .inv .2)
 
 pub chosen-in-spec : {M : Type 1} → statement M
-chosen-in-spec =
-    tie.close
-    (tie.spec
+chosen-in-spec = tie.close (tie.spec
     Inv-loop μ-loop (λ c. let s = sizes (c .before .before .pre .0 .1) in omega arith)
     (λ c. let s = sizes (c .before .before .pre .0 .1) in omega arith) (λ c κs. search needs) loop-holds
     (λ c κs. omega (arith, c .before .before .before .before .before .pre .1, c .before .loop .inv .1, c .loop-test .taken)) (λ c κs. search needs)

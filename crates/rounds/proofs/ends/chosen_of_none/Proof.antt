@@ -1,5 +1,5 @@
 -- Late, the largest of no times is 0; early, the least is never.
-use Prim.Native.Nat.{_-_}
+use Rattle.lists.proofs.Prelude.{_-_}
 use Rattle.rounds.proofs.TimeLaws.{none-late, none-early}
 use Rattle.rounds.proofs.ends.chosen_of_none.Statement.{statement}
 use Rattle.rounds.proofs.ends.chosen_of_none.Tie as tie

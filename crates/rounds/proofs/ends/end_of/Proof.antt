@@ -1,7 +1,5 @@
 -- acc is the largest end of the tasks passed.
-use Prim.Native.Nat.{_≤_, _-_}
-use native.Mathlib.Omega.{arith}
-use borrow.Author.Needs.{needs}
+use Rattle.lists.proofs.Prelude.{_≤_, _-_, arith, needs}
 use Rattle.jobs.proofs.Held.{sizes}
 use Rattle.rounds.proofs.EndLaws.{Ending, ending-first, ending-next, ending-done}
 use Rattle.rounds.proofs.ends.end_of.Statement.{statement}
@@ -40,8 +38,6 @@ returns : tie.Need-returns Inv-loop μ-loop
 returns c = let a = c .before .before .before .before .before .args in let l = c .before .loop in ending-done (a .rooms) (a .late) (a .mem .now) (l .acc) (l .t) (c .loop-test .left) (l .inv .1)
 
 pub end-of-spec : {M : Type 1} → statement M
-end-of-spec =
-    tie.close
-    (tie.spec
+end-of-spec = tie.close (tie.spec
     Inv-loop μ-loop (λ c. let w = sizes (c .before .before .before .pre .0 .job) in omega arith) loop-holds exit-time-requires (λ c κs. search needs)
     add-t (λ c. search needs) loop-again returns)

@@ -1,8 +1,5 @@
 -- The run of the edges that leave a task is empty exactly if it is an exit task.
-use mathlib.Core.Path.{refl}
-use Prim.Native.Nat.{_-_}
-use native.Mathlib.Omega.{arith}
-use borrow.Author.Needs.{needs}
+use Rattle.lists.proofs.Prelude.{refl, _-_, arith, needs}
 use Rattle.jobs.proofs.Held.{sizes}
 use Rattle.rounds.proofs.Walks.{leaves-run}
 use Rattle.rounds.proofs.EndLaws.{cells-of-task, exit-end, exit-other}
@@ -33,7 +30,5 @@ returns-2 c =
     (omega (arith, c .before .before .if1 .left)) (rw (c .before .row-of .ensures) at (c .chosen-in .ensures))
 
 pub exit-time-spec : {M : Type 1} → statement M
-exit-time-spec =
-    tie.close
-    (tie.spec
+exit-time-spec = tie.close (tie.spec
     (λ c. search needs) (λ c κs. search needs) returns row-of-requires chosen-in-requires returns-2)

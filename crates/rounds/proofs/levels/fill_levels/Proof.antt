@@ -1,12 +1,7 @@
 -- The tasks of the order from place i on have their bottom level.
-use mathlib.Core.Path.{_≡_, refl, sym, _∙_}
-use Prim.Native.Nat.{_≤_}
-use native.Mathlib.Omega.{arith}
-use borrow.Author.Needs.{needs}
-use lib.ListN.{length, drop, length-set}
+use Rattle.lists.proofs.Prelude.{_≡_, refl, sym, _∙_, _≤_, arith, needs, length, drop, length-set, nth}
 use Rattle.heads.specs.Layout.{memorySize}
 use Rattle.orders.specs.Links.{orderAt}
-use Rattle.definitions.specs.Lists.{nth}
 use Rattle.jobs.proofs.Held.{sizes}
 use Rattle.rounds.proofs.Walks.{task-of-order}
 use Rattle.rounds.proofs.LevelLaws.{Filling, filling-none, FillStep, filling-step, filling-done}
@@ -71,9 +66,7 @@ returns c =
     filling-done (pre .0) (pre .1 .order) (c .before .loop .inv .2) (omega arith)
 
 pub fill-levels-spec : {M : Type 1} → statement M
-fill-levels-spec =
-    tie.close
-    (tie.spec
+fill-levels-spec = tie.close (tie.spec
     Inv-loop μ-loop (λ c. search needs) (λ c. let s = sizes (c .before .before .before .pre .0) in omega arith)
     (λ c κs. (_, c .before .before .before .before .pre .0))
     (λ c. (omega arith, c .before .before .before .before .before .pre .0 .size, filling-none _ _ refl)) (λ c. search needs) (λ c κs. search needs)

@@ -1,11 +1,5 @@
 -- x is the largest over the edges passed.
-use mathlib.Core.Path.{_≡_}
-use Prim.Native.Nat.{_≤_, _-_, _+_, _*_, max}
-use native.Mathlib.Omega.{arith}
-use borrow.Author.Needs.{needs}
-use mathlib.Core.Logic.{⊎-elim}
-use Rattle.definitions.specs.Lists.{nth}
-use Rattle.definitions.specs.Job.{outgoing}
+use Rattle.lists.proofs.Prelude.{_≡_, _≤_, _-_, _+_, _*_, max, arith, needs, ⊎-elim, nth, outgoing}
 use Rattle.heads.specs.Layout.{levelAt}
 use Rattle.orders.specs.Edges.{edgeIn}
 use Rattle.orders.proofs.Walk.{Passed, pass-first, pass-at, pass-on}
@@ -75,9 +69,7 @@ returns : tie.Need-returns Inv-loop μ-loop
 returns c = (longest-done (c .before .loop .inv .0) (omega (arith, c .loop-test .left)) (c .before .loop .inv .2), omega (arith, c .before .loop .inv .1))
 
 pub longest-after-spec : {M : Type 1} → statement M
-longest-after-spec =
-    tie.close
-    (tie.spec
+longest-after-spec = tie.close (tie.spec
     Inv-loop μ-loop (λ c. search needs) (λ c κs. (_, c .before .before .pre .0))
     (λ c. let s = sizes (c .before .before .before .before .pre .0) in omega arith) (λ c κs. search needs) loop-holds (λ c. search needs)
     (λ c. search needs) (λ c. search needs) (λ c κs. search needs) (λ c κs. search needs)

@@ -1,9 +1,5 @@
 -- The row's sum, times the other processors.
-use mathlib.Core.Path.{ap, _∙_}
-use Prim.Native.Nat.{ℕ, _-_, _*_}
-use native.Mathlib.Omega.{arith}
-use borrow.Author.Needs.{needs}
-use Rattle.definitions.specs.Lists.{nth}
+use Rattle.lists.proofs.Prelude.{ap, _∙_, ℕ, _-_, _*_, arith, needs, nth}
 use Rattle.jobs.proofs.Held.{sizes}
 use Rattle.rounds.proofs.RowSums.{scaled-one, scaled-more, scaled-fits}
 use Rattle.rounds.proofs.levels.scaled_run.Statement.{statement}
@@ -35,8 +31,6 @@ returns-2 c =
     ap (λ (x : ℕ). (nth d 1 - 1) * x) (c .before .row-total .ensures .0) ∙ scaled-more d (pre .0 .1) (args .t) (pre .1) (c .if1 .left)
 
 pub scaled-run-spec : {M : Type 1} → statement M
-scaled-run-spec =
-    tie.close
-    (tie.spec
+scaled-run-spec = tie.close (tie.spec
     (λ c. search needs) row-total-requires returns (λ c. let s = sizes (c .before .before .before .before .pre .0 .1) in omega arith) mul-result
     returns-2)

@@ -1,10 +1,5 @@
 -- The sum is that of the rows passed.
-use mathlib.Core.Path.{_≡_, refl, sym, ap, _∙_}
-use Prim.Native.Nat.{ℕ, _≤_, _-_, _+_}
-use native.Mathlib.Omega.{arith}
-use borrow.Author.Needs.{needs}
-use Rattle.definitions.specs.Lists.{nth, countFrom, below, sum}
-use mathlib.Core.List.{map}
+use Rattle.lists.proofs.Prelude.{_≡_, refl, sym, ap, _∙_, ℕ, _≤_, _-_, _+_, arith, needs, nth, countFrom, below, sum, map}
 use Rattle.lists.proofs.Upward.{sum-more}
 use Rattle.jobs.proofs.Held.{sizes}
 use Rattle.rounds.specs.Levels.{rowSum}
@@ -45,9 +40,7 @@ returns c =
     loop .inv .1 ∙ ap (λ (k : ℕ). sum (map (λ i. rowSum d (nth d 0 + i)) (below k))) e ∙ sym (total-in d (c .before .before .before .before .before .pre .1))
 
 pub total-delay-spec : {M : Type 1} → statement M
-total-delay-spec =
-    tie.close
-    (tie.spec
+total-delay-spec = tie.close (tie.spec
     Inv-loop μ-loop (λ c. let s = sizes (c .before .before .pre .1) in omega arith)
     (λ c. let s = sizes (c .before .before .before .pre .1) in omega arith) loop-holds
     (λ c. let s = sizes (c .before .before .before .before .before .pre .1) in omega arith)

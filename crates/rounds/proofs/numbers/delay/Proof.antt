@@ -1,7 +1,4 @@
-use mathlib.Core.Path.{sym}
-use Prim.Native.Nat.{_-_}
-use native.Mathlib.Omega.{arith}
-use borrow.Author.Needs.{needs}
+use Rattle.lists.proofs.Prelude.{sym, _-_, arith, needs}
 use Rattle.jobs.proofs.Held.{delay-in}
 use Rattle.rounds.proofs.TimeLaws.{delay-cell}
 use Rattle.rounds.proofs.numbers.delay.Statement.{statement}
@@ -19,7 +16,5 @@ returns c =
     rw (c .before .number-at .ensures .0) (sym (delay-in (args .mem .now) (args .p) (args .q) (pre .1) (pre .2)), delay-cell (pre .0 .1) (args .p) (args .q) (pre .1) (pre .2))
 
 pub delay-spec : {M : Type 1} → statement M
-delay-spec =
-    tie.close
-    (tie.spec
+delay-spec = tie.close (tie.spec
     (λ c. search needs) (λ c. search needs) number-at-requires (λ c. search needs) (λ c. c .before .number-at .ensures .1) returns)

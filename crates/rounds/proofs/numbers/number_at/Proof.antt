@@ -1,7 +1,4 @@
-use mathlib.Core.Path.{refl}
-use Prim.Native.Nat.{_-_}
-use native.Mathlib.Omega.{arith}
-use borrow.Author.Needs.{needs}
+use Rattle.lists.proofs.Prelude.{refl, _-_, arith, needs}
 use Rattle.jobs.proofs.Held.{sizes, row-below}
 use Rattle.rounds.proofs.numbers.number_at.Statement.{statement}
 use Rattle.rounds.proofs.numbers.number_at.Tie as tie
@@ -27,7 +24,5 @@ returns c =
     let s = sizes (c .before .pre .0 .1) in (refl, omega (arith, s .size, row-below s (args .r) (args .p) (c .before .pre .1) (c .before .pre .2)))
 
 pub number-at-spec : {M : Type 1} → statement M
-number-at-spec =
-    tie.close
-    (tie.spec
+number-at-spec = tie.close (tie.spec
     (λ c. search needs) (λ c. search needs) mul-result add-result-2 (λ c. search needs) add-result-4 returns)

@@ -1,6 +1,4 @@
-use Prim.Native.Nat.{_-_}
-use native.Mathlib.Omega.{arith}
-use borrow.Author.Needs.{needs}
+use Rattle.lists.proofs.Prelude.{_-_, arith, needs}
 use Rattle.jobs.proofs.Held.{sizes}
 use Rattle.rounds.proofs.RowSums.{row-room, row-in}
 use Rattle.rounds.proofs.numbers.row_total.Statement.{statement}
@@ -18,8 +16,6 @@ returns c =
     row-in (args .mem .now) (pre .0 .1) (args .r) _ (c .total .result) (pre .1) (c .before .before .before .number-at .ensures .0) (c .total .ensures)
 
 pub row-total-spec : {M : Type 1} → statement M
-row-total-spec =
-    tie.close
-    (tie.spec
+row-total-spec = tie.close (tie.spec
     (λ c κs. (c .before .pre .0, c .before .pre .1, sizes (c .before .pre .0 .1) .some-processor)) (λ c. search needs) (λ c. search needs)
     (λ c. search needs) (λ c. search needs) (λ c. search needs) part-total-end (λ c κs. search needs) returns)

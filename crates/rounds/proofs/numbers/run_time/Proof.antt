@@ -1,7 +1,4 @@
-use mathlib.Core.Path.{sym}
-use Prim.Native.Nat.{_-_}
-use native.Mathlib.Omega.{arith}
-use borrow.Author.Needs.{needs}
+use Rattle.lists.proofs.Prelude.{sym, _-_, arith, needs}
 use Rattle.jobs.proofs.Held.{run-in}
 use Rattle.rounds.proofs.TimeLaws.{run-cell}
 use Rattle.rounds.proofs.numbers.run_time.Statement.{statement}

@@ -1,9 +1,4 @@
-use mathlib.Core.Path.{_≡_}
-use mathlib.Core.List.{List}
-use Prim.Native.Nat.{ℕ, _≤_, _-_, _+_, _*_}
-use native.Mathlib.Omega.{arith}
-use borrow.Author.Needs.{needs}
-use Rattle.definitions.specs.Lists.{nth}
+use Rattle.lists.proofs.Prelude.{_≡_, List, ℕ, _≤_, _-_, _+_, _*_, arith, needs, nth}
 use Rattle.jobs.proofs.Held.{sizes}
 use Rattle.printing.specs.Rendered.{Rendered}
 use Rattle.printing.proofs.Rendering.{rendered-more}
@@ -89,8 +84,6 @@ returns c =
     rw (plan-text (args .rooms) (args .mem .now)) (rw e at (c .before .loop .inv .2 (args .out .now) (h .1)))
 
 pub render-spec : {M : Type 1} → statement M
-render-spec =
-    tie.close
-    (tie.spec
+render-spec = tie.close (tie.spec
     Inv-loop μ-loop shared-slice-read-v (λ c. search needs) plan-head-requires (λ c. search needs) (λ c κs. search needs) loop-holds row-line-requires
     add-k loop-less loop-again same-length returns)

@@ -1,5 +1,4 @@
-use native.Mathlib.Omega.{arith}
-use borrow.Author.Needs.{needs}
+use Rattle.lists.proofs.Prelude.{arith, needs}
 use Rattle.jobs.proofs.Held.{sizes}
 use Rattle.rounds.specs.Texts.{rowLine}
 use Rattle.printing.proofs.Rendering.{lent-written}
@@ -49,9 +48,7 @@ returns c =
     )
 
 pub row-line-spec : {M : Type 1} → statement M
-row-line-spec =
-    tie.close
-    (tie.spec
+row-line-spec = tie.close (tie.spec
     (λ c. search needs) (λ c. search needs) (λ c. search needs) (λ c. search needs) mul-b add-b add-b-2 (λ c κs. search needs) (λ c. search needs)
     (λ c. search needs) (λ c. search needs) (λ c. search needs) (λ c. search needs) (λ c. search needs) (λ c. search needs) part-line-end-2
     (λ c κs. search needs) add-result (λ c. search needs) returns)

@@ -1,10 +1,5 @@
 -- The tasks passed are cleared, and nothing else changed.
-use mathlib.Core.Path.{_≡_, refl, sym}
-use Prim.Native.Nat.{_≤_, _<_, _-_, _*_}
-use native.Mathlib.Omega.{arith}
-use borrow.Author.Needs.{needs}
-use lib.ListN.{length, length-set}
-use Rattle.definitions.specs.Lists.{nth}
+use Rattle.lists.proofs.Prelude.{_≡_, refl, sym, _≤_, _<_, _-_, _*_, arith, needs, length, length-set, nth}
 use Rattle.heads.specs.Layout.{memorySize, lineAt, rowAt}
 use Rattle.orders.proofs.Walk.{pass-length}
 use Rattle.jobs.specs.Held.{jobIn}
@@ -53,9 +48,7 @@ returns c =
     (l .inv .3, rw (l .inv .3 .before 0 (omega arith), ← e) (l .inv .4))
 
 pub clear-tasks-spec : {M : Type 1} → statement M
-clear-tasks-spec =
-    tie.close
-    (tie.spec
+clear-tasks-spec = tie.close (tie.spec
     Inv-loop μ-loop (λ c. search needs) (λ c. search needs) (λ c. search needs) (λ c. search needs)
     (λ c. omega (arith, sizes (c .before .before .before .pre .0))) loop-holds (λ c κs. search needs) (λ c. search needs) (λ c. search needs)
     (λ c. search needs) (λ c. search needs) (λ c. search needs) (λ c. search needs) sub-mem (λ c. search needs) (λ c. search needs)

@@ -1,11 +1,5 @@
 -- k lines are drawn up, what is left to place gives the rest of the plan, and the free tasks are listed.
-use mathlib.Core.Path.{_≡_, refl, sym, _∙_}
-use mathlib.Core.List.{[]}
-use Prim.Native.Nat.{_≤_, _<_, _-_, _+_}
-use native.Mathlib.Omega.{arith}
-use borrow.Author.Needs.{needs}
-use mathlib.Core.Logic.{⊎-elim}
-use Rattle.definitions.specs.Lists.{nth}
+use Rattle.lists.proofs.Prelude.{_≡_, refl, sym, _∙_, [], _≤_, _<_, _-_, _+_, arith, needs, ⊎-elim, nth}
 use Rattle.heads.specs.Layout.{memorySize, jobSize, levelAt}
 use Rattle.jobs.specs.Held.{jobIn, LinksHeld}
 use Rattle.plans.specs.Lines.{placedIn}
@@ -119,9 +113,7 @@ returns c =
     (kept-then k (l .inv .2), rw (← e) (l .inv .3))
 
 pub draw-plan-spec : {M : Type 1} → statement M
-draw-plan-spec =
-    tie.close
-    (tie.spec
+draw-plan-spec = tie.close (tie.spec
     Inv-loop μ-loop (λ c κs. search needs) (λ c. let w = sizes (c .before .before .before .prepare .ensures .1 .standing .job) in omega arith)
     (λ c κs. (_, c .before .before .before .before .prepare .ensures .1 .standing .job)) (λ c κs. search needs) (λ c. search needs) list-free-requires
     loop-holds (λ c. some c) array-read-t (λ c. omega (arith, last-task c, sizes (c .before .loop .inv .3 .standing .job) .tasks-most .0))

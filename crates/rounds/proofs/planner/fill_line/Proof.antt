@@ -1,11 +1,5 @@
 -- The processors passed that are chosen have their replicas in the line.
-use mathlib.Core.Path.{_≡_, refl, sym, _∙_}
-use mathlib.Core.Logic.{⊎-elim}
-use Prim.Native.Nat.{_≤_, _-_, _+_}
-use native.Mathlib.Omega.{arith}
-use borrow.Author.Needs.{needs}
-use lib.ListN.{length}
-use Rattle.definitions.specs.Lists.{nth, keep, countFrom, below}
+use Rattle.lists.proofs.Prelude.{_≡_, refl, sym, _∙_, ⊎-elim, _≤_, _-_, _+_, arith, needs, length, nth, keep, countFrom, below}
 use Rattle.rounds.specs.Planning.{Begun}
 use Rattle.choices.proofs.ChoiceLaws.{among}
 use Rattle.heads.specs.Layout.{rowAt}
@@ -88,9 +82,7 @@ loop-again c =
     (search needs, l .inv .1, b .0, b .1)
 
 pub fill-line-spec : {M : Type 1} → statement M
-fill-line-spec =
-    tie.close
-    (tie.spec
+fill-line-spec = tie.close (tie.spec
     Inv-loop μ-loop (λ c. let s = sizes (c .before .before .pre .drawn .standing .job) in omega arith)
     (λ c. let s = sizes (c .before .before .before .pre .drawn .standing .job) in omega arith)
     (λ c. let s = sizes (c .before .before .before .pre .drawn .standing .job) in omega arith) row-at-requires loop-holds (λ c κs. search needs)

@@ -1,8 +1,5 @@
 -- The line is what the definition places next.
-use mathlib.Core.Path.{_≡_, _∙_}
-use Prim.Native.Nat.{_<_, _-_, _+_, _*_}
-use native.Mathlib.Omega.{arith}
-use lib.ListN.{length, set, length-set}
+use Rattle.lists.proofs.Prelude.{_≡_, _∙_, _<_, _-_, _+_, _*_, arith, length, set, length-set}
 use Rattle.heads.specs.Layout.{memorySize, lineAt, rowAt}
 use Rattle.jobs.proofs.Held.{sizes}
 use Rattle.rounds.proofs.Placed.{fed-all}
@@ -87,9 +84,7 @@ returns c =
     (laid-kept (p .1) (p .3) (p .2) t (p .4) d b, drawn-next (p .1) (p .3) (p .2) t (p .4) x, ranked-next (p .1) (p .3) (p .2) t (p .4) x, r, taken (p .1) (p .3) (p .2) t (p .4) x)
 
 pub place-task-spec : {M : Type 1} → statement M
-place-task-spec =
-    tie.close
-    (tie.spec
+place-task-spec = tie.close (tie.spec
     finishes-requires fill-line-requires
     (λ c κs. omega (arith, small (c .before .before .before .before .before .before .before .before .before .before))) mul-mem slice-write-mem
     put-line-requires advance-line-requires same-length returns)

@@ -1,6 +1,5 @@
 -- Each table is as it was left when the next is filled.
-use native.Mathlib.Omega.{arith}
-use borrow.Author.Needs.{needs}
+use Rattle.lists.proofs.Prelude.{arith, needs}
 use Rattle.jobs.proofs.Held.{held-kept, links-kept}
 use Rattle.rounds.proofs.OutsetLaws.{outset-kept, outset, outset-counts}
 use Rattle.rounds.proofs.planner.prepare.Statement.{statement}
@@ -38,7 +37,5 @@ returns c =
     (outset-kept h b k e, outset h b k e, outset-counts h b k e)
 
 pub prepare-spec : {M : Type 1} → statement M
-prepare-spec =
-    tie.close
-    (tie.spec
+prepare-spec = tie.close (tie.spec
     fill-levels-requires fill-far-requires clear-tasks-requires (λ c. search needs) returns)

@@ -1,10 +1,5 @@
 -- The edges in the cells before k are still counted, and the free tasks are listed.
-use mathlib.Core.Path.{sym, _∙_}
-use Prim.Native.Nat.{ℕ, _≤_, _-_, _+_}
-use native.Mathlib.Omega.{arith}
-use borrow.Author.Needs.{needs}
-use Rattle.definitions.specs.Lists.{nth}
-use Rattle.definitions.specs.Job.{outgoing}
+use Rattle.lists.proofs.Prelude.{sym, _∙_, ℕ, _≤_, _-_, _+_, arith, needs, nth, outgoing}
 use Rattle.orders.proofs.Walk.{passed, pass-none, Passed, pass-last, pass-back}
 use Rattle.jobs.specs.Held.{edgeAt, jobIn}
 use Rattle.jobs.proofs.Held.{sizes, links-kept}
@@ -81,9 +76,7 @@ returns : tie.Need-returns Inv-loop μ-loop
 returns c = let (i, s, r) = c .before .loop .inv .1 in (r .kept, release-done s r (pass-none _ _ _ (omega (arith, c .loop-test .left))), c .before .loop .inv .2)
 
 pub release-spec : {M : Type 1} → statement M
-release-spec =
-    tie.close
-    (tie.spec
+release-spec = tie.close (tie.spec
     Inv-loop μ-loop (λ c κs. (_, c .before .before .before .before .pre .0 .1 .standing .job)) slice-read-leaving (λ c κs. search needs) loop-holds
     (λ c. search needs) add-edge-to mul-edge-to slice-read-edge-to (λ c κs. search needs) unblock-requires (λ c. search needs) loop-again
     (λ c. c .before .loop .inv .1 .2 .kept .size) same-length-2 returns)

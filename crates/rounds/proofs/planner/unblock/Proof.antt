@@ -1,7 +1,5 @@
 -- What blocks u is counted down; if nothing does it gets its priority and its place in the list.
-use native.Mathlib.Omega.{arith}
-use borrow.Author.Needs.{needs}
-use lib.ListN.{length-set}
+use Rattle.lists.proofs.Prelude.{arith, needs, length-set}
 use Rattle.jobs.proofs.Held.{sizes}
 use Rattle.rounds.proofs.ReleaseLaws.{release-within, release-some, release-held, release-asks, release-links, release-level, release-free, release-puts, list-few, list-held, list-free}
 use Rattle.rounds.proofs.planner.unblock.Statement.{statement}
@@ -65,9 +63,7 @@ returns-2 c =
     )
 
 pub unblock-spec : {M : Type 1} → statement M
-unblock-spec =
-    tie.close
-    (tie.spec
+unblock-spec = tie.close (tie.spec
     (λ c. search needs) (λ c. search needs) (λ c. search needs) (λ c. omega (arith, release-within (c .before .before .before .before .pre .0 .4)))
     (λ c. omega (arith, release-some (c .before .before .before .before .pre .0 .4))) (λ c. search needs) (λ c. search needs)
     (λ c. omega (arith, release-within (c .before .before .before .before .pre .0 .4))) (λ c. search needs) returns top-level-requires

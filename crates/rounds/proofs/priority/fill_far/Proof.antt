@@ -1,11 +1,5 @@
 -- The places passed hold the largest delays, and nothing else changed.
-use mathlib.Core.Path.{_≡_}
-use Prim.Native.Nat.{ℕ, _≤_, _<_, _-_, _+_}
-use native.Mathlib.Omega.{arith}
-use borrow.Author.Needs.{needs}
-use lib.ListN.{length}
-use Rattle.definitions.specs.Lists.{nth}
-use Rattle.definitions.specs.Planner.{largestDelay}
+use Rattle.lists.proofs.Prelude.{_≡_, ℕ, _≤_, _<_, _-_, _+_, arith, needs, length, nth, largestDelay}
 use Rattle.heads.specs.Layout.{memorySize, farAt}
 use Rattle.jobs.specs.Held.{jobIn}
 use Rattle.lists.specs.Kept.{KeptOutside}
@@ -46,9 +40,7 @@ returns c =
     (loop .inv .3, λ p h. rw (job-kept (c .before .before .before .before .pre) (loop .inv .3) (omega arith)) (loop .inv .4 p (omega (arith, loop .inv .3 .before 1 (omega arith)))))
 
 pub fill-far-spec : {M : Type 1} → statement M
-fill-far-spec =
-    tie.close
-    (tie.spec
+fill-far-spec = tie.close (tie.spec
     Inv-loop μ-loop (λ c. let s = sizes (c .before .pre) in omega arith) (λ c. let s = sizes (c .before .before .pre) in omega arith)
     (λ c. let s = sizes (c .before .before .pre) in (search needs, s .processors-most, s .size, kept-all, λ q h. absurd (omega arith)))
     largest-delay-requires (λ c. let s = sizes (c .before .before .before .before .before .before .pre) in omega arith)

@@ -1,13 +1,5 @@
 -- The greatest is that of the processors passed.
-use mathlib.Core.Path.{_≡_, refl, ap, _∙_}
-use mathlib.Core.Logic.{⊎-elim}
-use Prim.Native.Nat.{ℕ, _≤_, _-_}
-use native.Mathlib.Omega.{arith}
-use borrow.Author.Needs.{needs}
-use mathlib.Core.List.{map}
-use Rattle.definitions.specs.Lists.{countFrom, below, greatest}
-use Rattle.definitions.specs.Job.{delay}
-use Rattle.definitions.specs.Planner.{largestDelay}
+use Rattle.lists.proofs.Prelude.{_≡_, refl, ap, _∙_, ⊎-elim, ℕ, _≤_, _-_, arith, needs, map, countFrom, below, greatest, delay, largestDelay}
 use Rattle.jobs.specs.Held.{jobIn}
 use Rattle.jobs.proofs.Held.{sizes, processors-in}
 use Rattle.lists.proofs.Upward.{greatest-more}
@@ -47,9 +39,7 @@ returns c =
     loop .inv .2 ∙ ap (λ (k : ℕ). greatest (map (delay j (args .p)) (below k))) e
 
 pub largest-delay-spec : {M : Type 1} → statement M
-largest-delay-spec =
-    tie.close
-    (tie.spec
+largest-delay-spec = tie.close (tie.spec
     Inv-loop μ-loop (λ c. let s = sizes (c .before .before .pre .0 .1) in omega arith) loop-holds delay-requires
     (λ c. let s = sizes (c .before .before .before .before .before .before .pre .0 .1) in omega arith)
     (λ c. let s = sizes (c .before .before .before .before .before .before .pre .0 .1) in omega arith) loop-again returns)

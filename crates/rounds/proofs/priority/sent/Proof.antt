@@ -1,8 +1,5 @@
 -- The message to the farthest processor.
-use mathlib.Core.Path.{refl}
-use Prim.Native.Nat.{_-_}
-use native.Mathlib.Omega.{arith}
-use borrow.Author.Needs.{needs}
+use Rattle.lists.proofs.Prelude.{refl, _-_, arith, needs}
 use Rattle.rounds.proofs.TopLaws.{sent-on, sent-little}
 use Rattle.rounds.proofs.priority.sent.Statement.{statement}
 use Rattle.rounds.proofs.priority.sent.Tie as tie
@@ -42,7 +39,5 @@ returns c =
     rw (replica-at .ensures .0, replica-at .ensures .1) (refl, omega (arith, sent-little (pre .0) (pre .1) (args .c) (pre .2), pre .1 .ticks (args .c) (pre .2)))
 
 pub sent-spec : {M : Type 1} → statement M
-sent-spec =
-    tie.close
-    (tie.spec
+sent-spec = tie.close (tie.spec
     (λ c. search needs) (λ c κs. search needs) add-result mul-result shared-slice-read-result mul-result-2 add-result-2 returns)

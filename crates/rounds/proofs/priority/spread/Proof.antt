@@ -1,11 +1,5 @@
 -- x is the least over the replicas passed.
-use mathlib.Core.Path.{_≡_}
-use Prim.Native.Nat.{_≤_, _-_, _+_, min}
-use native.Mathlib.Omega.{arith}
-use borrow.Author.Needs.{needs}
-use mathlib.Core.Logic.{⊎-elim}
-use Rattle.definitions.specs.Lists.{nth}
-use Rattle.definitions.specs.Times.{tick}
+use Rattle.lists.proofs.Prelude.{_≡_, _≤_, _-_, _+_, min, arith, needs, ⊎-elim, nth, tick}
 use Rattle.rounds.specs.Planning.{spreadIn}
 use Rattle.rounds.proofs.TopLaws.{spread-first, spread-more}
 use Rattle.rounds.proofs.priority.spread.Statement.{statement}
@@ -35,8 +29,6 @@ returns : tie.Need-returns Inv-loop μ-loop
 returns c = let l = c .before .loop in let e : l .c ≡ nth (c .before .before .before .before .before .args .mem .now) 3 + 1 = omega arith in (rw (← e) (l .inv .2), l .inv .1)
 
 pub spread-spec : {M : Type 1} → statement M
-spread-spec =
-    tie.close
-    (tie.spec
+spread-spec = tie.close (tie.spec
     Inv-loop μ-loop (λ c. search needs) (λ c. search needs) (λ c κs. (c .before .before .pre .0, c .before .before .pre .1, omega arith)) loop-holds
     sent-requires-2 (λ c. search needs) (λ c. search needs) loop-again returns)

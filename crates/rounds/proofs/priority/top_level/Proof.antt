@@ -1,11 +1,5 @@
 -- x is the largest time of the edges passed.
-use mathlib.Core.Path.{_≡_, refl, ap, _∙_}
-use Prim.Native.Nat.{_≤_, _-_, max}
-use native.Mathlib.Omega.{arith}
-use borrow.Author.Needs.{needs}
-use mathlib.Core.Logic.{⊎-elim}
-use Rattle.definitions.specs.Job.{incoming}
-use Rattle.definitions.specs.Times.{Time, later}
+use Rattle.lists.proofs.Prelude.{_≡_, refl, ap, _∙_, _≤_, _-_, max, arith, needs, ⊎-elim, incoming, Time, later}
 use Rattle.orders.proofs.Walk.{Passed, pass-first, pass-at, pass-on}
 use Rattle.ticks.specs.Cells.{timeIn}
 use Rattle.jobs.specs.Held.{jobIn}
@@ -85,9 +79,7 @@ returns-2 c =
     let (w, m, g) = loop .inv in (top-scaled (start .args .t) (start .pre .0 .1 .job) w (loop-test .left) g m (c .if2 .left), top-most (start .pre .0 .1 .job) (loop .x) m)
 
 pub top-level-spec : {M : Type 1} → statement M
-top-level-spec =
-    tie.close
-    (tie.spec
+top-level-spec = tie.close (tie.spec
     Inv-loop μ-loop (λ c. let s = sizes (c .before .before .before .pre .0 .1 .job) in omega arith) (λ c κs. search needs) loop-holds
     (λ c. search needs) (λ c. search needs) entering-requires-2 (λ c. search needs) spread-requires (λ c. search needs) (λ c. search needs) loop-again
     shared-slice-read-m returns sub-result mul-result mul-result-2 returns-2)

@@ -1,8 +1,4 @@
-use mathlib.Core.Path.{_≡_}
-use Prim.Native.Nat.{ℕ, _≤_, _-_, _+_, _*_}
-use native.Mathlib.Omega.{arith}
-use borrow.Author.Needs.{needs}
-use Rattle.definitions.specs.Lists.{nth}
+use Rattle.lists.proofs.Prelude.{_≡_, ℕ, _≤_, _-_, _+_, _*_, arith, needs, nth}
 use Rattle.ticks.specs.Cells.{neverCell}
 use Rattle.jobs.proofs.Held.{sizes}
 use Rattle.plans.specs.Lines.{rowOf}
@@ -60,8 +56,6 @@ returns c =
     rw (first-finish .ensures .0, first-finish .ensures .1, x, y) f
 
 pub first-finish-spec : {M : Type 1} → statement M
-first-finish-spec =
-    tie.close
-    (tie.spec
+first-finish-spec = tie.close (tie.spec
     row-of-requires place-requires (λ c. search needs) add-place place-requires-2 mul-first-finish (λ c. search needs)
     (λ c. omega (arith, c .before .before .place .ensures, c .place2 .ensures)) part-first-finish-end (λ c κs. search needs) returns)

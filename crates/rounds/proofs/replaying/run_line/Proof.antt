@@ -1,11 +1,5 @@
 -- Replica by replica the outcomes are those of the walk.
-use mathlib.Core.Path.{_≡_}
-use Prim.Native.Nat.{ℕ, _≤_, _<_, _-_}
-use native.Mathlib.Omega.{arith}
-use borrow.Author.Needs.{needs}
-use lib.ListN.{length}
-use Rattle.definitions.specs.Lists.{nth}
-use borrow.Author.Tests.{lt-ltb}
+use Rattle.lists.proofs.Prelude.{_≡_, ℕ, _≤_, _<_, _-_, arith, needs, length, nth, lt-ltb}
 use Rattle.heads.specs.Layout.{rowAt, processorAt, replicaEnd}
 use Rattle.jobs.proofs.Held.{sizes}
 use Rattle.rounds.proofs.RunLaws.{LineRuns, LineStep, line-fed-short, line-first, line-step, line-next, line-done}
@@ -132,9 +126,7 @@ returns c =
     (omega arith)
 
 pub run-line-spec : {M : Type 1} → statement M
-run-line-spec =
-    tie.close
-    (tie.spec
+run-line-spec = tie.close (tie.spec
     Inv-loop μ-loop (λ c. let z = sizes (c .before .before .before .before .pre .1 .standing .job) in omega arith)
     (λ c. let z = sizes (c .before .before .before .before .pre .1 .standing .job) in omega arith) row-at-requires mul-t slice-read-t
     first-data-requires run-times-requires loop-holds (λ c κs. room (c .before)) (λ c. omega (arith, below (c))) (λ c. below (c))

@@ -1,7 +1,5 @@
 -- Line by line the outcomes are those of the replay.
-use Prim.Native.Nat.{_≤_, _-_}
-use native.Mathlib.Omega.{arith}
-use borrow.Author.Needs.{needs}
+use Rattle.lists.proofs.Prelude.{_≤_, _-_, arith, needs}
 use Rattle.jobs.proofs.Held.{sizes, links-kept}
 use Rattle.rounds.proofs.RoundLaws.{RoundRuns, round-first, round-asks, round-next, round-done}
 use Rattle.rounds.proofs.replaying.run_round.Statement.{statement}
@@ -39,9 +37,7 @@ returns c =
     let l = c .before .loop in round-done (l .k) (l .inv .1) (pre .0) (pre .1) (omega arith)
 
 pub run-round-spec : {M : Type 1} → statement M
-run-round-spec =
-    tie.close
-    (tie.spec
+run-round-spec = tie.close (tie.spec
     Inv-loop μ-loop (λ c. let z = sizes (c .before .before .before .before .pre .0 .job) in omega arith)
     (λ c κs. (_, c .before .before .before .before .before .pre .0 .job)) (λ c κs. search needs) loop-holds run-line-requires add-k (λ c. search needs)
     loop-again (λ c. c .before .loop .inv .1 .retimed .outside .size) returns)

@@ -1,7 +1,5 @@
 -- Cells compare as their times do: never is the greatest.
-use mathlib.Core.Path.{refl}
-use native.Mathlib.Omega.{arith}
-use mathlib.Core.Logic.{inl}
+use Rattle.lists.proofs.Prelude.{refl, arith, inl}
 use Rattle.rounds.proofs.RunLaws.{stopped-late, stopped-by}
 use Rattle.rounds.proofs.replaying.unless_stopped.Statement.{statement}
 use Rattle.rounds.proofs.replaying.unless_stopped.Tie as tie

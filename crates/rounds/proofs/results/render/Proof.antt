@@ -1,8 +1,4 @@
-use mathlib.Core.Path.{_≡_}
-use Prim.Native.Nat.{_≤_, _-_, _*_}
-use native.Mathlib.Omega.{arith}
-use borrow.Author.Needs.{needs}
-use Rattle.definitions.specs.Lists.{nth}
+use Rattle.lists.proofs.Prelude.{_≡_, _≤_, _-_, _*_, arith, needs, nth}
 use Rattle.jobs.proofs.Held.{sizes}
 use Rattle.printing.specs.Rendered.{Rendered}
 use Rattle.printing.proofs.Rendering.{rendered-none, rendered-more}
@@ -96,8 +92,6 @@ returns c =
     (end-line .ensures .0 .0) (end-line .ensures .1)
 
 pub render-spec : {M : Type 1} → statement M
-render-spec =
-    tie.close
-    (tie.spec
+render-spec = tie.close (tie.spec
     Inv-loop μ-loop shared-slice-read-v loop-holds task-line-requires add-t loop-less loop-again end-of-requires (λ c κs. search needs)
     (λ c. search needs) (λ c. search needs) (λ c. search needs) (λ c κs. search needs) add-result same-length returns)

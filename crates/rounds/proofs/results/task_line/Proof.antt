@@ -1,7 +1,4 @@
-use mathlib.Core.Path.{ap}
-use native.Mathlib.Omega.{arith}
-use borrow.Author.Needs.{needs}
-use lib.ListN.{length}
+use Rattle.lists.proofs.Prelude.{ap, arith, needs, length}
 use Rattle.jobs.proofs.Held.{sizes}
 use Rattle.rounds.specs.Texts.{taskLine}
 use Rattle.printing.proofs.Rendering.{lent-written}
@@ -33,8 +30,6 @@ returns c =
     )
 
 pub task-line-spec : {M : Type 1} → statement M
-task-line-spec =
-    tie.close
-    (tie.spec
+task-line-spec = tie.close (tie.spec
     first-finish-requires (λ c κs. search needs) (λ c. search needs) (λ c. search needs) (λ c. search needs) (λ c κs. search needs) add-result
     (λ c. search needs) returns)

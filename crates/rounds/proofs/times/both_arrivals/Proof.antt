@@ -1,8 +1,5 @@
 -- After c turns the first c replicas of the line were offered.
-use Prim.Native.Nat.{ℕ, _≤_, _<_, _-_, max}
-use native.Mathlib.Omega.{arith}
-use borrow.Author.Needs.{needs}
-use Rattle.definitions.specs.Lists.{nth}
+use Rattle.lists.proofs.Prelude.{ℕ, _≤_, _<_, _-_, max, arith, needs, nth}
 use Rattle.ticks.proofs.LaneLaws.{lanes-each}
 use Rattle.heads.specs.Layout.{processorAt}
 use Rattle.jobs.proofs.Held.{Sizes, sizes}
@@ -59,9 +56,7 @@ returns c =
     offer-done (a .volume) (a .a) (a .mem .now) (a .late .now) (l .inv .1 .1) (l .inv .2) (a .early .now) _ (omega arith) n e
 
 pub both-arrivals-spec : {M : Type 1} → statement M
-both-arrivals-spec =
-    tie.close
-    (tie.spec
+both-arrivals-spec = tie.close (tie.spec
     Inv-loop μ-loop (λ c. let s = sizes (c .before .before .pre .0 .1) in omega arith)
     (λ c. let s = sizes (c .before .before .pre .0 .1) in omega arith) loop-holds (λ c κs. search needs) cast-offer-both cast-offer-both-2
     (λ c κs. search needs)

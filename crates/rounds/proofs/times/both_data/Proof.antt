@@ -1,9 +1,5 @@
 -- Each processor has the largest times of the edges passed.
-use mathlib.Core.Path.{refl}
-use Prim.Native.Nat.{_-_}
-use native.Mathlib.Omega.{arith}
-use borrow.Author.Needs.{needs}
-use Rattle.definitions.specs.Job.{incoming}
+use Rattle.lists.proofs.Prelude.{refl, _-_, arith, needs, incoming}
 use Rattle.orders.proofs.Walk.{Passed, pass-first, pass-at, pass-on}
 use Rattle.jobs.specs.Held.{jobIn}
 use Rattle.jobs.proofs.Held.{sizes}
@@ -49,9 +45,7 @@ loop-again c =
     let e = entering2 .ensures in (pass-on (loop .inv .0) (loop-test .taken) _ refl, both-next (loop .inv .1) (e .row-of) (e .volume-of) (c .both-arrivals .ensures))
 
 pub both-data-spec : {M : Type 1} → statement M
-both-data-spec =
-    tie.close
-    (tie.spec
+both-data-spec = tie.close (tie.spec
     Inv-loop μ-loop (λ c. let s = sizes (c .before .before .before .pre .0 .1 .job) in omega arith) (λ c κs. search needs) loop-holds
     (λ c. search needs) (λ c. search needs) entering-requires-2 both-arrivals-requires (λ c. search needs) (λ c. search needs) loop-again
     (λ c. both-done (c .before .loop .inv .1) (c .before .loop .inv .0) (c .loop-test .left)))

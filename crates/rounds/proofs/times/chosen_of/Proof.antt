@@ -1,8 +1,5 @@
 -- Never is the greatest cell, so cells compare as their times do.
-use mathlib.Core.Path.{refl}
-use Prim.Native.Nat.{_-_}
-use native.Mathlib.Omega.{arith}
-use mathlib.Core.Logic.{inl, inr}
+use Rattle.lists.proofs.Prelude.{refl, _-_, arith, inl, inr}
 use Rattle.rounds.proofs.TimeLaws.{later-left, later-right, sooner-left, sooner-right}
 use Rattle.rounds.proofs.times.chosen_of.Statement.{statement}
 use Rattle.rounds.proofs.times.chosen_of.Tie as tie

@@ -1,9 +1,5 @@
 -- The cells before i hold the delays; the others hold 0.
-use mathlib.Core.Path.{_≡_, refl}
-use Prim.Native.Nat.{ℕ, _≤_, _-_}
-use native.Mathlib.Omega.{arith}
-use borrow.Author.Needs.{needs}
-use lib.ListN.{length}
+use Rattle.lists.proofs.Prelude.{_≡_, refl, ℕ, _≤_, _-_, arith, needs, length}
 use Rattle.jobs.proofs.Held.{Sizes, sizes}
 use Rattle.rounds.proofs.ShortLaws.{Filled, filled-none, filled-set, DelayCell, delay-stored, delays-end, none-set, table-made}
 use Rattle.rounds.proofs.times.delay_table.Statement.{statement}
@@ -31,9 +27,7 @@ returns c =
     table-made (loop .inv .2 .1) (omega arith) none-set (loop .inv .3)
 
 pub delay-table-spec : {M : Type 1} → statement M
-delay-table-spec =
-    tie.close
-    (tie.spec
+delay-table-spec = tie.close (tie.spec
     Inv-loop μ-loop (λ c. search needs) (λ c. search needs) (λ c. (search needs, refl, (_, sizes (c .before .before .pre .1)), filled-none))
     (λ c κs. (c .before .before .before .before .before .pre, omega (arith, c .before .loop-test .taken), c .if1 .taken))
     (λ c. omega (arith, c .delay .ensures .1)) (λ c. search needs) (λ c. search needs) (λ c. search needs) (λ c. search needs) loop-again

@@ -1,8 +1,5 @@
 -- The later of the two times, put off by the run time.
-use mathlib.Core.Path.{_∙_}
-use Prim.Native.Nat.{_+_}
-use native.Mathlib.Omega.{arith}
-use borrow.Author.Needs.{needs}
+use Rattle.lists.proofs.Prelude.{_∙_, _+_, arith, needs}
 use Rattle.rounds.proofs.TimeLaws.{small-one, small-wider}
 use Rattle.rounds.proofs.times.finish_of.Statement.{statement}
 use Rattle.rounds.proofs.times.finish_of.Tie as tie

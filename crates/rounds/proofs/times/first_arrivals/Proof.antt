@@ -1,13 +1,5 @@
 -- After c turns each processor has the choice among the first c replicas of the line.
-use mathlib.Core.Path.{_≡_, refl, sym, ap, _∙_}
-use mathlib.Core.Logic.{⊎-elim}
-use Prim.Native.Nat.{ℕ, _≤_, _<_, _-_, _+_, _*_}
-use native.Mathlib.Omega.{arith}
-use borrow.Author.Needs.{needs}
-use lib.ListN.{length, getD-replicate}
-use Rattle.definitions.specs.Lists.{nth}
-use mathlib.Core.Bool.{false}
-use Rattle.definitions.specs.Job.{delay}
+use Rattle.lists.proofs.Prelude.{_≡_, refl, sym, ap, _∙_, ⊎-elim, ℕ, _≤_, _<_, _-_, _+_, _*_, arith, needs, length, getD-replicate, nth, false, delay}
 use Rattle.rounds.specs.Arrivals.{shortIn}
 use Rattle.ticks.specs.Lanes.{shortNever}
 use Rattle.jobs.specs.Held.{jobIn}
@@ -79,9 +71,7 @@ returns c =
     (loop .inv .1, λ p h. loop .inv .3 p h ∙ arrival-chosen false (args .volume) p (args .a) (loop .c) (args .mem .now) (omega arith))
 
 pub first-arrivals-spec : {M : Type 1} → statement M
-first-arrivals-spec =
-    tie.close
-    (tie.spec
+first-arrivals-spec = tie.close (tie.spec
     Inv-loop μ-loop (λ c. let s = sizes (c .before .before .pre .0 .1) in omega arith)
     (λ c. let s = sizes (c .before .before .pre .0 .1) in omega arith) loop-holds (λ c κs. search needs) cast-offer-sooner (λ c κs. search needs)
     (λ c. let s = sizes (c .before .before .before .before .before .before .before .pre .0 .1) in omega arith)

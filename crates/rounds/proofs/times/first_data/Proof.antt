@@ -1,15 +1,7 @@
 -- Each processor has the largest time of the edges passed.
-use mathlib.Core.Path.{_≡_, refl, ap, _∙_}
-use Prim.Native.Nat.{ℕ, _≤_, _<_, _-_, max}
-use native.Mathlib.Omega.{arith}
-use borrow.Author.Needs.{needs}
-use lib.ListN.{length, replicate, length-replicate, getD-replicate}
-use mathlib.Core.Bool.{false}
+use Rattle.lists.proofs.Prelude.{_≡_, refl, ap, _∙_, ℕ, _≤_, _<_, _-_, max, arith, needs, length, replicate, length-replicate, getD-replicate, false, nth, incoming, Time, later}
 use mir.Syntax.{w32}
 use mir.Val.{Fits}
-use Rattle.definitions.specs.Lists.{nth}
-use Rattle.definitions.specs.Job.{incoming}
-use Rattle.definitions.specs.Times.{Time, later}
 use Rattle.orders.proofs.Walk.{Passed, pass-first, pass-at, pass-on}
 use Rattle.jobs.specs.Held.{jobIn}
 use Rattle.jobs.proofs.Held.{sizes}
@@ -94,9 +86,7 @@ returns c =
     )
 
 pub first-data-spec : {M : Type 1} → statement M
-first-data-spec =
-    tie.close
-    (tie.spec
+first-data-spec = tie.close (tie.spec
     Inv-loop μ-loop (λ c. let s = sizes (c .before .before .before .pre .0 .1 .job) in omega arith) (λ c κs. search needs) loop-holds
     (λ c. search needs) (λ c. search needs) entering-requires-2 first-arrivals-requires (λ c κs. search needs) (λ c. search needs) (λ c. search needs)
     loop-again (λ c κs. search needs) returns)

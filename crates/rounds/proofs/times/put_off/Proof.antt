@@ -1,8 +1,5 @@
 -- Never stays never; a tick stays far below it.
-use mathlib.Core.Path.{refl}
-use Prim.Native.Nat.{_-_}
-use native.Mathlib.Omega.{arith}
-use mathlib.Core.Logic.{inl}
+use Rattle.lists.proofs.Prelude.{refl, _-_, arith, inl}
 use Rattle.rounds.proofs.TimeLaws.{after-cell, after-never, small-after, small-tick}
 use Rattle.rounds.proofs.times.put_off.Statement.{statement}
 use Rattle.rounds.proofs.times.put_off.Tie as tie

@@ -1,11 +1,5 @@
 -- The processors passed have their run times in their places.
-use mathlib.Core.Path.{_≡_, refl}
-use Prim.Native.Nat.{ℕ, _≤_, _<_, _-_}
-use native.Mathlib.Omega.{arith}
-use borrow.Author.Needs.{needs}
-use lib.ListN.{length, length-set}
-use Rattle.definitions.specs.Lists.{nth}
-use Rattle.definitions.specs.Job.{runTime}
+use Rattle.lists.proofs.Prelude.{_≡_, refl, ℕ, _≤_, _<_, _-_, arith, needs, length, length-set, nth, runTime}
 use Rattle.jobs.specs.Held.{jobIn}
 use Rattle.lists.proofs.ListLaws.{each-more}
 use Rattle.jobs.proofs.Held.{sizes}
@@ -42,9 +36,7 @@ returns c =
     record { run = λ p h. loop .inv .3 p (omega arith) .0; most = λ p h. loop .inv .3 p (omega arith) .1 }
 
 pub run-times-spec : {M : Type 1} → statement M
-run-times-spec =
-    tie.close
-    (tie.spec
+run-times-spec = tie.close (tie.spec
     Inv-loop μ-loop (λ c. let s = sizes (c .before .before .pre .0 .1) in omega arith)
     (λ c. (omega arith, refl, sizes (c .before .before .pre .0 .1) .processors-most, λ q h. absurd (omega arith))) run-time-requires
     (λ c. omega (arith, c .run-time .ensures .1)) (λ c. let s = sizes (c .before .before .before .before .before .pre .0 .1) in omega arith)

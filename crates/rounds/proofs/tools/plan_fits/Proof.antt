@@ -1,7 +1,4 @@
-use mathlib.Core.Path.{sym}
-use native.Mathlib.Omega.{arith}
-use borrow.Author.Needs.{needs}
-use borrow.Author.Tests.{le-leb}
+use Rattle.lists.proofs.Prelude.{sym, arith, needs, le-leb}
 use Rattle.rounds.proofs.tools.plan_fits.Statement.{statement}
 use Rattle.rounds.proofs.tools.plan_fits.Tie as tie
 

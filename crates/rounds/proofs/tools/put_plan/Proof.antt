@@ -1,10 +1,6 @@
 -- The plan of the definition stands in the memory, and its text is written if it fits.
-use mathlib.Core.Path.{refl, sym, _∙_}
-use native.Mathlib.Omega.{arith}
-use borrow.Author.Needs.{needs}
-use lib.ListN.{length-set}
+use Rattle.lists.proofs.Prelude.{refl, sym, _∙_, arith, needs, length-set, leb-true, leb-false}
 use Rattle.heads.specs.Layout.{bestAt}
-use borrow.Author.Tests.{leb-true, leb-false}
 use Rattle.rounds.proofs.PlanAnswer.{ends-asked, text-asked, text-most, put-short, put-done}
 use Rattle.rounds.proofs.tools.put_plan.Statement.{statement}
 use Rattle.rounds.proofs.tools.put_plan.Tie as tie
@@ -78,9 +74,7 @@ returns-2 c =
     put-short (pre .0) (w .0) (w .1) (x .result) (y .result) (x .ensures) (y .ensures) (args .out .now) _ refl (leb-false _ _ (sym (c .before .plan-fits .ensures) ∙ c .if1 .left))
 
 pub put-plan-spec : {M : Type 1} → statement M
-put-plan-spec =
-    tie.close
-    (tie.spec
+put-plan-spec = tie.close (tie.spec
     (λ c. search needs) (λ c. search needs) (λ c κs. search needs) end-of-requires end-of-requires-2 (λ c. search needs) slice-write-mem
     (λ c. search needs) slice-write-mem-2 plan-fits-requires render-requires (λ c. search needs) (λ c. search needs) returns (λ c. search needs)
     returns-2)

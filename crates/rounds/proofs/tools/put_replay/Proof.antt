@@ -1,7 +1,5 @@
 -- The round of the definition stands in the memory, and its text is written if it fits.
-use mathlib.Core.Path.{refl, sym, _∙_}
-use borrow.Author.Needs.{needs}
-use borrow.Author.Tests.{leb-true, leb-false}
+use Rattle.lists.proofs.Prelude.{refl, sym, _∙_, needs, leb-true, leb-false}
 use Rattle.jobs.specs.Held.{jobIn}
 use Rattle.jobs.proofs.Held.{processors-in}
 use Rattle.rounds.proofs.ReplayLaws.{run-asked, run-short, run-done, run-refused}
@@ -65,8 +63,6 @@ returns-3 c =
     (rw (c .before .x .given .1) at (load-stops .ensures (jobIn d) (processors-in d)))
 
 pub put-replay-spec : {M : Type 1} → statement M
-put-replay-spec =
-    tie.close
-    (tie.spec
+put-replay-spec = tie.close (tie.spec
     (λ c. search needs) (λ c. search needs) (λ c κs. search needs) enum-told (λ c. search needs) run-round-requires replay-fits-requires
     render-requires (λ c. search needs) (λ c. search needs) returns (λ c. search needs) (λ c. search needs) returns-2 returns-3)

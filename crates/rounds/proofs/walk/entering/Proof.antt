@@ -1,5 +1,4 @@
-use Prim.Native.Nat.{_-_}
-use borrow.Author.Needs.{needs}
+use Rattle.lists.proofs.Prelude.{_-_, needs}
 use Rattle.rounds.proofs.Walks.{inward-row, inward-made}
 use Rattle.rounds.proofs.walk.entering.Statement.{statement}
 use Rattle.rounds.proofs.walk.entering.Tie as tie

@@ -1,9 +1,4 @@
-use mathlib.Core.Path.{_≡_, refl, sym, _∙_}
-use Prim.Native.Nat.{_-_}
-use borrow.Author.Needs.{needs}
-use lib.ListN.{length, drop}
-use Rattle.definitions.specs.Lists.{any}
-use Rattle.definitions.specs.Job.{outside}
+use Rattle.lists.proofs.Prelude.{_≡_, refl, sym, _∙_, _-_, needs, length, drop, any, outside}
 use Rattle.rows.proofs.RowLaws.{stray-here, stray-next, stray-end}
 use Rattle.rows.proofs.row.any_outside.Statement.{statement}
 use Rattle.rows.proofs.row.any_outside.Tie as tie
@@ -21,8 +16,6 @@ loop-again : tie.Need-loop-again Inv-loop μ-loop
 loop-again c = stray-next _ _ _ _ (c .before .before .before .loop-test .taken) (sym (c .before .outside .ensures) ∙ c .if1 .left) ∙ c .before .before .before .before .loop .inv
 
 pub any-outside-spec : {M : Type 1} → statement M
-any-outside-spec =
-    tie.close
-    (tie.spec
+any-outside-spec = tie.close (tie.spec
     Inv-loop μ-loop (λ c. refl) (λ c. search needs) (λ c. search needs) (λ c κs. search needs) returns (λ c. search needs) (λ c. search needs)
     loop-again (λ c. stray-end _ _ _ _ (c .loop-test .left) ∙ c .before .loop .inv))

@@ -1,6 +1,4 @@
-use mathlib.Core.Path.{refl, sym, _∙_}
-use native.Mathlib.Omega.{arith}
-use borrow.Author.Needs.{needs}
+use Rattle.lists.proofs.Prelude.{refl, sym, _∙_, arith, needs}
 use Rattle.rows.proofs.RowLaws.{out-of-turn, out-of-range, run-good, delay-self, delay-good}
 use Rattle.rows.proofs.row.check_row.Statement.{statement}
 use Rattle.rows.proofs.row.check_row.Tie as tie
@@ -48,8 +46,6 @@ returns-5 c seen l =
     (sym (if2 .left) ∙ off-range .ensures ∙ rw (c .before .before .enum-told2 .given .1) refl) (c .if3 .left))
 
 pub check-row-spec : {M : Type 1} → statement M
-check-row-spec =
-    tie.close
-    (tie.spec
+check-row-spec = tie.close (tie.spec
     (λ c. search needs) (λ c κs. search needs) returns returns-2 (λ c. search needs) (λ c. search needs) add-if3 mul-if3 shared-slice-read-if3
     returns-3 returns-4 returns-5)

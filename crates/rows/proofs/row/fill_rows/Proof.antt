@@ -1,14 +1,6 @@
 -- The lines from row i on, after the rows before it, are all the lines.
-use mathlib.Core.Path.{_≡_, refl, sym, ap, _∙_}
-use mathlib.Core.List.{[]}
-use Prim.Native.Nat.{ℕ, _≤_, _-_, _+_, _*_}
-use native.Mathlib.Omega.{arith}
-use borrow.Author.Needs.{needs}
-use lib.ListN.{length, take, drop, length-take, length-drop}
-use native.Mathlib.Nat.{sub-zero}
+use Rattle.lists.proofs.Prelude.{_≡_, refl, sym, ap, _∙_, [], ℕ, _≤_, _-_, _+_, _*_, arith, needs, length, take, drop, length-take, length-drop, sub-zero, document01, found, line}
 use borrow.Rule.Slice.PartMut.{same-len-mid}
-use Rattle.definitions.specs.Limits.{document01}
-use Rattle.definitions.specs.Text.{found, line}
 use Rattle.text.specs.Told.{told}
 use Rattle.lines.proofs.LineLaws.{lines-end, lines-no, lines-next}
 use Rattle.rows.specs.Rows.{rows, ruleOf, rowLines}
@@ -75,9 +67,7 @@ returns-2 c =
     ∙ l .inv .2
 
 pub fill-rows-spec : {M : Type 1} → statement M
-fill-rows-spec =
-    tie.close
-    (tie.spec
+fill-rows-spec = tie.close (tie.spec
     Inv-loop μ-loop loop-holds (λ c. omega (arith, ends (c))) (λ c. omega (arith, ends (c))) (λ c. omega (arith, ends (c)))
     (λ c. omega (arith, ends (c))) (λ c. search needs) read-row-requires (λ c. search needs) (λ c. search needs) (λ c. search needs) returns
     (λ c. search needs) (λ c. search needs) loop-again (λ c. search needs) returns-2)

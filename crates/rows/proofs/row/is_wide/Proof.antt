@@ -1,6 +1,5 @@
 -- The test of each kind is the definition's.
-use borrow.Author.Needs.{needs}
-use mathlib.Core.Path.{refl}
+use Rattle.lists.proofs.Prelude.{needs, refl}
 use Rattle.rows.proofs.row.is_wide.Statement.{statement}
 use Rattle.rows.proofs.row.is_wide.Tie as tie
 

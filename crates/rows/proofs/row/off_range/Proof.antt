@@ -1,4 +1,4 @@
-use borrow.Author.Needs.{needs}
+use Rattle.lists.proofs.Prelude.{needs}
 use Rattle.rows.proofs.row.off_range.Statement.{statement}
 use Rattle.rows.proofs.row.off_range.Tie as tie
 

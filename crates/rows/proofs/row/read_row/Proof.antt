@@ -1,11 +1,5 @@
 -- The row is read, then its rule is tried.
-use mathlib.Core.Path.{sym}
-use native.Mathlib.Omega.{arith}
-use borrow.Author.Needs.{needs}
-use lib.ListN.{take, drop}
-use lib.Seq.{length-take-le}
-use Rattle.definitions.specs.Limits.{document01}
-use Rattle.definitions.specs.Text.{line}
+use Rattle.lists.proofs.Prelude.{sym, arith, needs, take, drop, length-take-le, document01, line}
 use Rattle.lines.proofs.LineLaws.{line-told, ruled-bad, ruled-no, ruled-yes}
 use Rattle.rows.specs.Rows.{ruleOf}
 use Rattle.rows.proofs.row.read_row.Statement.{statement}
@@ -60,8 +54,6 @@ returns-3 c =
     ruled-bad (line document01 (a .opening .now) (a .k)) (ruleOf document01 (a .kind)) seen (drop (a .at) (a .s .now)) _ e
 
 pub read-row-spec : {M : Type 1} → statement M
-read-row-spec =
-    tie.close
-    (tie.spec
+read-row-spec = tie.close (tie.spec
     (λ c κs. search needs) (λ c. search needs) slice-reshare-prefix-check-row slice-aggregate-check-row check-row-requires (λ c. search needs) returns
     (λ c. search needs) (λ c. search needs) returns-2 (λ c. search needs) returns-3)

@@ -1,5 +1,4 @@
-use native.Mathlib.Omega.{arith}
-use borrow.Author.Needs.{needs}
+use Rattle.lists.proofs.Prelude.{arith, needs}
 use Rattle.stops.proofs.StopLaws.{stop-processor, stop-tick, stop-order, stop-good}
 use Rattle.stops.proofs.stops.check_stop.Statement.{statement}
 use Rattle.stops.proofs.stops.check_stop.Tie as tie

@@ -1,10 +1,5 @@
 -- After i turns the first i cells are never.
-use mathlib.Core.Path.{_≡_}
-use Prim.Native.Nat.{ℕ, _≤_, _<_, _-_}
-use native.Mathlib.Omega.{arith}
-use borrow.Author.Needs.{needs}
-use lib.ListN.{length, length-set}
-use Rattle.definitions.specs.Lists.{nth}
+use Rattle.lists.proofs.Prelude.{_≡_, ℕ, _≤_, _<_, _-_, arith, needs, length, length-set, nth}
 use Rattle.ticks.specs.Cells.{neverCell}
 use Rattle.stops.proofs.StopLaws.{never-more}
 use Rattle.stops.proofs.stops.clear.Statement.{statement}
@@ -22,8 +17,6 @@ loop-again c =
     (omega (arith, c .loop-test .taken, l .inv .1), simp length-set (l .inv .1), never-more (l .stops) (l .i) (c .loop-test .taken) (l .inv .2))
 
 pub clear-spec : {M : Type 1} → statement M
-clear-spec =
-    tie.close
-    (tie.spec
+clear-spec = tie.close (tie.spec
     Inv-loop μ-loop (λ c. search needs) (λ c. search needs) (λ c. search needs) (λ c. search needs) (λ c. search needs) loop-again (λ c. search needs)
     (λ c. λ q h. c .before .loop .inv .2 q (omega (arith, h, c .loop-test .left))))

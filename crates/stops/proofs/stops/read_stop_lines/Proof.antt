@@ -1,9 +1,4 @@
-use mathlib.Core.Path.{_≡_, refl, sym, _∙_}
-use Prim.Native.Nat.{_-_}
-use native.Mathlib.Omega.{arith}
-use borrow.Author.Needs.{needs}
-use lib.ListN.{length, length-set}
-use Rattle.definitions.specs.Limits.{document01}
+use Rattle.lists.proofs.Prelude.{_≡_, refl, sym, _∙_, _-_, arith, needs, length, length-set, document01}
 use Rattle.text.specs.Suited.{suited}
 use Rattle.lines.proofs.LineLaws.{line-told}
 use Rattle.stops.proofs.StopLaws.{StopsUpTo, stops-none, stops-end, stops-bad, stops-no, stops-shorter, stops-next}
@@ -72,9 +67,7 @@ loop-again c =
     (search needs, simp length-set (loop .inv .1), stops-next (loop .inv .2) (loop-test .taken) ys (next .given .0 .0) b suited k t o (λ j seen e f. sym z ∙ check .ensures .0 j seen e f))
 
 pub read-stop-lines-spec : {M : Type 1} → statement M
-read-stop-lines-spec =
-    tie.close
-    (tie.spec
+read-stop-lines-spec = tie.close (tie.spec
     Inv-loop μ-loop loop-holds (λ c. search needs) (λ c. search needs) (λ c κs. search needs) (λ c. search needs) (λ c. search needs) returns
     (λ c. search needs) (λ c. search needs) (λ c. search needs) (λ c κs. search needs) (λ c. search needs) returns-2 mul-stops slice-write-stops
     add-least loop-less loop-again (λ c. search needs) (λ c. stops-end (c .before .loop .inv .2) (c .loop-test .left)))

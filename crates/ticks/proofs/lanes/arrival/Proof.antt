@@ -1,6 +1,5 @@
 -- A product of two numbers of 16 bits.
-use native.Mathlib.Omega.{arith}
-use borrow.Author.Needs.{needs}
+use Rattle.lists.proofs.Prelude.{arith, needs}
 use Rattle.ticks.proofs.LaneLaws.{message-fits}
 use Rattle.ticks.proofs.lanes.arrival.Statement.{statement}
 use Rattle.ticks.proofs.lanes.arrival.Tie as tie

@@ -1,9 +1,5 @@
 -- The lanes before p are done, early and late.
-use mathlib.Core.Path.{_≡_}
-use Prim.Native.Nat.{_≤_, _-_}
-use native.Mathlib.Omega.{arith}
-use borrow.Author.Needs.{needs}
-use Rattle.definitions.specs.Lists.{nth}
+use Rattle.lists.proofs.Prelude.{_≡_, _≤_, _-_, arith, needs, nth}
 use Rattle.ticks.specs.Lanes.{lanes, finishes}
 use Rattle.ticks.proofs.LaneLaws.{lanes-none, lanes-next, lanes-all}
 use Rattle.ticks.proofs.lanes.finish.Statement.{statement}
@@ -30,9 +26,7 @@ returns : tie.Need-returns Inv-loop μ-loop
 returns c = (lanes-all _ _ (c .before .loop .p) (c .before .loop .inv .1) (omega arith), lanes-all _ _ (c .before .loop .p) (c .before .loop .inv .2) (omega arith))
 
 pub finish-spec : {M : Type 1} → statement M
-finish-spec =
-    tie.close
-    (tie.spec
+finish-spec = tie.close (tie.spec
     Inv-loop μ-loop (λ c. (omega arith, lanes-none _ _, lanes-none _ _)) (λ c. omega (arith, c .loop-test .taken))
     (λ c. omega (arith, c .loop-test .taken)) (λ c. omega (arith, c .loop-test .taken)) (λ c. omega (arith, c .loop-test .taken))
     (λ c. omega (arith, c .before .loop-test .taken)) (λ c. omega (arith, c .before .loop-test .taken)) (λ c κs. search needs)

@@ -1,9 +1,5 @@
 -- The lanes before p are done, in both tables.
-use mathlib.Core.Path.{_≡_}
-use Prim.Native.Nat.{_≤_, _-_, _+_, _*_, _%_, min, max}
-use native.Mathlib.Omega.{arith}
-use borrow.Author.Needs.{needs}
-use Rattle.definitions.specs.Lists.{nth}
+use Rattle.lists.proofs.Prelude.{_≡_, _≤_, _-_, _+_, _*_, _%_, min, max, arith, needs, nth}
 use Rattle.ticks.specs.Lanes.{lanes, arrives}
 use Rattle.ticks.proofs.LaneLaws.{lanes-none, lanes-next, lanes-all}
 use Rattle.ticks.proofs.lanes.offer_both.Statement.{statement}
@@ -31,9 +27,7 @@ returns : tie.Need-returns Inv-loop μ-loop
 returns c = (lanes-all _ _ (c .before .loop .p) (c .before .loop .inv .1) (omega arith), lanes-all _ _ (c .before .loop .p) (c .before .loop .inv .2) (omega arith))
 
 pub offer-both-spec : {M : Type 1} → statement M
-offer-both-spec =
-    tie.close
-    (tie.spec
+offer-both-spec = tie.close (tie.spec
     Inv-loop μ-loop (λ c. search needs) (λ c. (omega arith, lanes-none _ _, lanes-none _ _)) (λ c. omega (arith, c .loop-test .taken))
     (λ c. omega (arith, c .loop-test .taken)) (λ c. omega (arith, c .loop-test .taken)) (λ c κs. search needs) (λ c κs. search needs)
     (λ c. omega (arith, c .before .before .before .loop-test .taken)) (λ c. omega (arith, c .before .before .before .loop-test .taken))

@@ -1,9 +1,5 @@
 -- The lanes before p are done.
-use mathlib.Core.Path.{_≡_}
-use Prim.Native.Nat.{_≤_, _-_, _+_, _*_, _%_, min}
-use native.Mathlib.Omega.{arith}
-use borrow.Author.Needs.{needs}
-use Rattle.definitions.specs.Lists.{nth}
+use Rattle.lists.proofs.Prelude.{_≡_, _≤_, _-_, _+_, _*_, _%_, min, arith, needs, nth}
 use Rattle.ticks.specs.Lanes.{lanes, arrives}
 use Rattle.ticks.proofs.LaneLaws.{lanes-none, lanes-next, lanes-all}
 use Rattle.ticks.proofs.lanes.offer_sooner.Statement.{statement}
@@ -21,9 +17,7 @@ loop-again c =
     (omega arith, lanes-next _ _ (loop .p) (c .sooner-tick .result) (loop .inv .1) (omega (arith, c .sooner-tick .ensures, c .before .before .arrival .ensures)))
 
 pub offer-sooner-spec : {M : Type 1} → statement M
-offer-sooner-spec =
-    tie.close
-    (tie.spec
+offer-sooner-spec = tie.close (tie.spec
     Inv-loop μ-loop (λ c. search needs) (λ c. (omega arith, lanes-none _ _)) (λ c. omega (arith, c .loop-test .taken))
     (λ c. omega (arith, c .loop-test .taken)) (λ c. omega (arith, c .loop-test .taken)) (λ c κs. search needs)
     (λ c. omega (arith, c .before .before .loop-test .taken)) (λ c. omega (arith, c .before .before .loop-test .taken)) (λ c κs. search needs)

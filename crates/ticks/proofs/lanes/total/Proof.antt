@@ -1,12 +1,5 @@
 -- The sum is that of the cells passed.
-use mathlib.Core.Path.{_≡_, refl, ap, _∙_}
-use mathlib.Core.List.{List}
-use Prim.Native.Nat.{ℕ, _≤_, _-_, _%_, _^_}
-use native.Mathlib.Omega.{arith}
-use borrow.Author.Needs.{needs}
-use lib.ListN.{length, take}
-use lib.Seq.{take-all}
-use Rattle.definitions.specs.Lists.{sum}
+use Rattle.lists.proofs.Prelude.{_≡_, refl, ap, _∙_, List, ℕ, _≤_, _-_, _%_, _^_, arith, needs, length, take, take-all, sum}
 use Rattle.ticks.proofs.LaneLaws.{total-more}
 use Rattle.ticks.proofs.lanes.total.Statement.{statement}
 use Rattle.ticks.proofs.lanes.total.Tie as tie
@@ -31,8 +24,6 @@ returns : tie.Need-returns Inv-loop μ-loop
 returns c = c .before .loop .inv .1 ∙ ap (λ (l : List ℕ). sum l % 2 ^ 64) (take-all (c .before .loop .q) (c .before .before .before .args .cells .now) (omega arith))
 
 pub total-spec : {M : Type 1} → statement M
-total-spec =
-    tie.close
-    (tie.spec
+total-spec = tie.close (tie.spec
     Inv-loop μ-loop loop-holds (λ c. search needs) (λ c. search needs) (λ c κs. search needs) (λ c. search needs) (λ c. search needs) loop-again
     returns)

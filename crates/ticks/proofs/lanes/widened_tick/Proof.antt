@@ -1,5 +1,5 @@
 -- By cases on the test.
-use borrow.Author.Tests.{eq-eqb, ne-eqb}
+use Rattle.lists.proofs.Prelude.{eq-eqb, ne-eqb}
 use Rattle.ticks.proofs.lanes.widened_tick.Statement.{statement}
 use Rattle.ticks.proofs.lanes.widened_tick.Tie as tie
 

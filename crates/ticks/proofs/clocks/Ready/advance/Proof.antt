@@ -1,6 +1,5 @@
 -- By cases on the test.
-use borrow.Author.Needs.{needs}
-use borrow.Author.Tests.{lt-ltb, le-ltb}
+use Rattle.lists.proofs.Prelude.{needs, lt-ltb, le-ltb}
 use Rattle.ticks.proofs.clocks.Ready.advance.Statement.{statement}
 use Rattle.ticks.proofs.clocks.Ready.advance.Tie as tie
 
