@@ -9,9 +9,7 @@ returns c = let a = c .before .before .before .before .args in (link-some (a .v)
 returns-2 : tie.Need-returns-2
 returns-2 c = let a = c .before .before .args in (link-few (a .v) (a .t) _ (a .links .now) (omega arith) (omega arith), link-few (a .v) (a .t) _ (a .links .now) (omega arith) (omega arith))
 
-returns-3 : tie.Need-returns-3
-returns-3 c = let a = c .before .args in (link-none (a .v) (a .t) _ (a .links .now) (omega arith), link-none (a .v) (a .t) _ (a .links .now) (omega arith))
-
 pub leaving-spec : {M : Type 1} → statement M
 leaving-spec = tie.close (tie.spec
-    (λ c. search needs) (λ c. search needs) (λ c. search needs) (λ c. search needs) (λ c. search needs) returns returns-2 returns-3)
+    (λ c. search needs) (λ c. search needs) (λ c. search needs) (λ c. search needs) (λ c. search needs) returns returns-2
+    (λ c. let a = c .before .args in (link-none (a .v) (a .t) _ (a .links .now) (omega arith), link-none (a .v) (a .t) _ (a .links .now) (omega arith))))

@@ -4,15 +4,9 @@ use Rattle.stops.proofs.StopLaws.{stops-short, stops-long, stops-whole}
 use Rattle.stops.proofs.load_stops.Statement.{statement}
 use Rattle.stops.proofs.load_stops.Tie as tie
 
-returns : tie.Need-returns
-returns c = λ j e. stops-short _ (length (c .before .before .before .args .stops .now)) (c .before .before .before .args .s .now) _ j (omega (arith, e, c .if1 .taken))
-
 returns-2 : tie.Need-returns-2
 returns-2 c =
     λ j e. stops-long _ (length (c .before .before .before .before .args .stops .now)) (c .before .before .before .before .args .s .now) _ j (omega (arith, e, c .before .if1 .left)) (c .if2 .taken)
-
-read-stop-lines-requires : tie.Need-read-stop-lines-requires
-read-stop-lines-requires c κs = (omega (arith, c .before .before .before .before .before .before .if1 .left, c .before .before .before .clear .kept .0), c .before .before .before .clear .ensures)
 
 returns-3 : tie.Need-returns-3
 returns-3 c =
@@ -23,4 +17,7 @@ returns-3 c =
 
 pub load-stops-spec : {M : Type 1} → statement M
 load-stops-spec = tie.close (tie.spec
-    returns returns-2 (λ c κs. search needs) read-stop-lines-requires (λ c. search needs) returns-3)
+    (λ c. λ j e. stops-short _ (length (c .before .before .before .args .stops .now)) (c .before .before .before .args .s .now) _ j (omega (arith, e, c .if1 .taken)))
+    returns-2 (λ c κs. search needs)
+    (λ c κs. (omega (arith, c .before .before .before .before .before .before .if1 .left, c .before .before .before .clear .kept .0), c .before .before .before .clear .ensures))
+    (λ c. search needs) returns-3)

@@ -22,12 +22,6 @@ returns-3 c =
     let loop-test = c .before .before .before .before .loop-test in
     (digits-full _ _ _ _ (loop-test .taken) (digit-yes _ (c .before .before .if1 .left) (c .before .if2 .left)) (c .if3 .taken) ∙ c .before .before .before .before .before .loop .inv .3, tt)
 
-mul-acc : tie.Need-mul-acc Inv-loop μ-loop
-mul-acc c = omega (arith, value-fits _ suited _ _ (omega arith) (c .before .before .before .before .before .loop .inv .2))
-
-add-acc : tie.Need-add-acc Inv-loop μ-loop
-add-acc c = omega (arith, value-fits _ suited _ _ (omega arith) (c .before .before .before .before .before .before .loop .inv .2))
-
 loop-again : tie.Need-loop-again Inv-loop μ-loop
 loop-again c =
     let loop = c .before .before .before .before .before .before .loop in
@@ -42,5 +36,6 @@ loop-again c =
 pub more-digits-spec : {M : Type 1} → statement M
 more-digits-spec = tie.close (tie.spec
     Inv-loop μ-loop (λ c. (search needs, search needs, search needs, refl)) (λ c. search needs) returns returns-2 returns-3 (λ c. search needs)
-    mul-acc (λ c κs. search needs) add-acc (λ c. search needs) (λ c. search needs) loop-again
-    (λ c. (digits-end _ _ _ _ (c .loop-test .left) ∙ c .before .loop .inv .3, c .before .loop .inv .0)))
+    (λ c. omega (arith, value-fits _ suited _ _ (omega arith) (c .before .before .before .before .before .loop .inv .2))) (λ c κs. search needs)
+    (λ c. omega (arith, value-fits _ suited _ _ (omega arith) (c .before .before .before .before .before .before .loop .inv .2))) (λ c. search needs)
+    (λ c. search needs) loop-again (λ c. (digits-end _ _ _ _ (c .loop-test .left) ∙ c .before .loop .inv .3, c .before .loop .inv .0)))

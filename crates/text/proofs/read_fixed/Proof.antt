@@ -10,9 +10,6 @@ Inv-loop s at opening i₀ p₀ i p = (i ≤ length opening) × (p ≡ at + i) �
 abbrev μ-loop : tie.MeasureT-loop
 μ-loop s at opening i₀ p₀ i p = length opening - i
 
-returns : tie.Need-returns Inv-loop μ-loop
-returns c = (fixed-end _ _ _ _ (c .before .loop-test .taken) (c .if1 .taken) ∙ c .before .before .loop .inv .2, tt)
-
 returns-2 : tie.Need-returns-2 Inv-loop μ-loop
 returns-2 c =
     (fixed-no _ _ _ _ (c .before .before .before .before .loop-test .taken) (c .before .before .before .if1 .left) (λ e. omega arith) ∙ c .before .before .before .before .before .loop .inv .2, tt)
@@ -27,5 +24,6 @@ returns-3 c = (fixed-done (c .before .before .args .s .now) _ _ (c .before .loop
 
 pub read-fixed-spec : {M : Type 1} → statement M
 read-fixed-spec = tie.close (tie.spec
-    Inv-loop μ-loop (λ c. (search needs, omega arith, refl)) returns (λ c. search needs) (λ c. search needs) returns-2 (λ c. search needs)
-    (λ c. search needs) (λ c. search needs) loop-again returns-3)
+    Inv-loop μ-loop (λ c. (search needs, omega arith, refl))
+    (λ c. (fixed-end _ _ _ _ (c .before .loop-test .taken) (c .if1 .taken) ∙ c .before .before .loop .inv .2, tt)) (λ c. search needs)
+    (λ c. search needs) returns-2 (λ c. search needs) (λ c. search needs) (λ c. search needs) loop-again returns-3)

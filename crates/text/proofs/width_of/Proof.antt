@@ -14,11 +14,9 @@ loop-holds : tie.Need-loop-holds Inv-loop μ-loop
 unfolding width
 loop-holds c = (search needs, refl)
 
-loop-again : tie.Need-loop-again Inv-loop μ-loop
-loop-again c = (search needs, sym (width-next _ _ _ (c .before .loop-test .taken) (c .if1 .left)) ∙ c .before .before .loop .inv .1)
-
 pub width-of-spec : {M : Type 1} → statement M
 width-of-spec = tie.close (tie.spec
     Inv-loop μ-loop loop-holds (λ c. search needs) (λ c. search needs)
     (λ c. sym (width-stop _ _ _ (c .before .loop-test .taken) (c .if1 .taken)) ∙ c .before .before .loop .inv .1) (λ c. search needs)
-    (λ c. search needs) loop-again (λ c. sym (width-end (document01 .powers) _ _ (omega arith)) ∙ c .before .loop .inv .1))
+    (λ c. search needs) (λ c. (search needs, sym (width-next _ _ _ (c .before .loop-test .taken) (c .if1 .left)) ∙ c .before .before .loop .inv .1))
+    (λ c. sym (width-end (document01 .powers) _ _ (omega arith)) ∙ c .before .loop .inv .1))

@@ -10,13 +10,9 @@ Inv-loop out₀ at d n k₀ m₀ out k m = (k ≤ d) × (length out ≡ length o
 abbrev μ-loop : tie.MeasureT-loop
 μ-loop out₀ at d n k₀ m₀ out k m = k
 
-loop-again : tie.Need-loop-again Inv-loop μ-loop
-loop-again c = (search needs, simp length-set (search needs), sym (stored-next _ _ _ _ (search needs)) ∙ c .before .loop .inv .2)
-
-returns : tie.Need-returns Inv-loop μ-loop
-returns c = sym (stored-end _ _ _ _ (c .loop-test .left)) ∙ c .before .loop .inv .2 ∙ stored-all _ _ _ _ (search needs)
-
 pub write-digits-spec : {M : Type 1} → statement M
 write-digits-spec = tie.close (tie.spec
     Inv-loop μ-loop (λ c. (search needs, refl, refl)) (λ c. search needs) (λ c. search needs) (λ c. search needs) (λ c. search needs)
-    (λ c. search needs) (λ c. search needs) loop-again (λ c. search needs) returns)
+    (λ c. search needs) (λ c. search needs)
+    (λ c. (search needs, simp length-set (search needs), sym (stored-next _ _ _ _ (search needs)) ∙ c .before .loop .inv .2)) (λ c. search needs)
+    (λ c. sym (stored-end _ _ _ _ (c .loop-test .left)) ∙ c .before .loop .inv .2 ∙ stored-all _ _ _ _ (search needs)))

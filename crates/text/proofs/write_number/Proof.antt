@@ -5,12 +5,6 @@ use Rattle.text.proofs.Writing.{fits, unfit}
 use Rattle.text.proofs.write_number.Statement.{statement}
 use Rattle.text.proofs.write_number.Tie as tie
 
-returns : tie.Need-returns
-returns c = let a = c .before .before .before .args in unfit (a .out .now) (a .at) (decimal document01 (a .n)) (omega (arith, length-decimal document01 (a .n)))
-
-returns-2 : tie.Need-returns-2
-returns-2 c = let a = c .before .before .before .before .args in unfit (a .out .now) (a .at) (decimal document01 (a .n)) (omega (arith, length-decimal document01 (a .n)))
-
 returns-3 : tie.Need-returns-3
 unfolding decimal
 returns-3 c =
@@ -21,4 +15,8 @@ returns-3 c =
 
 pub write-number-spec : {M : Type 1} → statement M
 write-number-spec = tie.close (tie.spec
-    (λ c κs. search needs) returns (λ c. search needs) returns-2 (λ c κs. search needs) (λ c. search needs) (λ c. search needs) returns-3)
+    (λ c κs. search needs)
+    (λ c. let a = c .before .before .before .args in unfit (a .out .now) (a .at) (decimal document01 (a .n)) (omega (arith, length-decimal document01 (a .n))))
+    (λ c. search needs)
+    (λ c. let a = c .before .before .before .before .args in unfit (a .out .now) (a .at) (decimal document01 (a .n)) (omega (arith, length-decimal document01 (a .n))))
+    (λ c κs. search needs) (λ c. search needs) (λ c. search needs) returns-3)

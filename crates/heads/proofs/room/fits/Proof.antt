@@ -8,21 +8,13 @@ use Rattle.heads.proofs.room.fits.Tie as tie
 most : (v m rooms : ℕ) → v ≤ 8 * rooms → rooms ≤ 32 → m ≤ 5664 → (v + m) * (m + 1) ≤ 5920 * 5665
 most v m rooms a r b = mul-le-mul {n₁ = v + m} {m₁ = m + 1} {n₂ = 5920} {m₂ = 5665} (omega (arith, a, r, b)) (omega (arith, b))
 
-returns-3 : tie.Need-returns-3
-returns-3 c = many-processors _ _ (c .before .before .if1 .left) (c .before .if2 .left) (c .before .before .before .pre) (c .if3 .taken)
-
-mul-result : tie.Need-mul-result
-mul-result c = omega (arith, most _ _ _ (c .before .before .if1 .left) (c .before .before .before .pre) (c .if3 .left))
-
-add-result-3 : tie.Need-add-result-3
-add-result-3 c = omega (arith, most _ _ _ (c .before .before .if1 .left) (c .before .before .before .pre) (c .if3 .left))
-
-add-result-4 : tie.Need-add-result-4
-add-result-4 c = omega (arith, most _ _ _ (c .before .before .if1 .left) (c .before .before .before .pre) (c .if3 .left), c .before .if2 .left, (c .before .before .before .pre))
-
 pub fits-spec : {M : Type 1} → statement M
 fits-spec = tie.close (tie.spec
     (λ c. search needs) (λ c. many-tasks _ _ (c .if1 .taken)) (λ c. search needs) (λ c. many-edges _ _ (c .before .if1 .left) (c .if2 .taken))
-    (λ c. search needs) returns-3 (λ c. omega (arith, c .before .before .if1 .left, c .if3 .left, (c .before .before .before .pre)))
-    (λ c. omega (arith, c .if3 .left)) mul-result add-result-3 add-result-4 (λ c. search needs)
-    (λ c. few-cells _ _ (c .before .before .if1 .left) (c .before .if2 .left)))
+    (λ c. search needs)
+    (λ c. many-processors _ _ (c .before .before .if1 .left) (c .before .if2 .left) (c .before .before .before .pre) (c .if3 .taken))
+    (λ c. omega (arith, c .before .before .if1 .left, c .if3 .left, (c .before .before .before .pre))) (λ c. omega (arith, c .if3 .left))
+    (λ c. omega (arith, most _ _ _ (c .before .before .if1 .left) (c .before .before .before .pre) (c .if3 .left)))
+    (λ c. omega (arith, most _ _ _ (c .before .before .if1 .left) (c .before .before .before .pre) (c .if3 .left)))
+    (λ c. omega (arith, most _ _ _ (c .before .before .if1 .left) (c .before .before .before .pre) (c .if3 .left), c .before .if2 .left, (c .before .before .before .pre)))
+    (λ c. search needs) (λ c. few-cells _ _ (c .before .before .if1 .left) (c .before .if2 .left)))

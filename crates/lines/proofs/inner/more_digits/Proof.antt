@@ -16,12 +16,6 @@ returns c =
     let pre = c .before .before .before .before .before .before .pre in
     (inner-stop _ _ _ _ _ (pre .0) (l .inv .0) (c .before .digit .ensures .1 (c .if1 .taken)) ∙ l .inv .2, omega (arith, c .before .before .before .loop-test .taken))
 
-mul-acc : tie.Need-mul-acc Inv-loop μ-loop
-mul-acc c = omega (arith, value-fits _ suited _ _ (c .before .before .before .loop-test .taken) (c .before .before .before .before .loop .inv .1))
-
-add-acc : tie.Need-add-acc Inv-loop μ-loop
-add-acc c = omega (arith, c .if1 .left, value-fits _ suited _ _ (c .before .before .before .loop-test .taken) (c .before .before .before .before .loop .inv .1))
-
 loop-again : tie.Need-loop-again Inv-loop μ-loop
 loop-again c =
     let l = c .before .before .before .before .loop in
@@ -44,5 +38,8 @@ returns-3 c =
 pub more-digits-spec : {M : Type 1} → statement M
 more-digits-spec = tie.close (tie.spec
     Inv-loop μ-loop (λ c. (search needs, search needs, refl)) (λ c. search needs) (λ c. search needs) (λ c κs. search needs) (λ c. search needs)
-    returns mul-acc add-acc (λ c. search needs) (λ c. search needs) loop-again (λ c. search needs) (λ c. search needs) (λ c κs. search needs)
-    returns-2 (λ c. search needs) returns-3)
+    returns
+    (λ c. omega (arith, value-fits _ suited _ _ (c .before .before .before .loop-test .taken) (c .before .before .before .before .loop .inv .1)))
+    (λ c. omega (arith, c .if1 .left, value-fits _ suited _ _ (c .before .before .before .loop-test .taken) (c .before .before .before .before .loop .inv .1)))
+    (λ c. search needs) (λ c. search needs) loop-again (λ c. search needs) (λ c. search needs) (λ c κs. search needs) returns-2 (λ c. search needs)
+    returns-3)

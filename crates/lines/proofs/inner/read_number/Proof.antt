@@ -3,9 +3,6 @@ use Rattle.text.proofs.Reading.{inner-no, inner-more, inner-zeros, inner-zero}
 use Rattle.lines.proofs.inner.read_number.Statement.{statement}
 use Rattle.lines.proofs.inner.read_number.Tie as tie
 
-returns : tie.Need-returns
-returns c = (inner-no _ _ _ (c .before .before .before .before .pre) (c .before .digit .ensures .1 (c .if1 .taken)), tt)
-
 returns-2 : tie.Need-returns-2
 returns-2 c =
     let t = c .before .before .before .digit .ensures .0 (c .before .before .if1 .left) in
@@ -23,5 +20,6 @@ returns-4 c =
 
 pub read-number-spec : {M : Type 1} → statement M
 read-number-spec = tie.close (tie.spec
-    (λ c. search needs) (λ c κs. search needs) returns (λ c κs. search needs) returns-2 (λ c. search needs) (λ c. search needs) (λ c κs. search needs)
-    returns-3 (λ c. search needs) returns-4)
+    (λ c. search needs) (λ c κs. search needs)
+    (λ c. (inner-no _ _ _ (c .before .before .before .before .pre) (c .before .digit .ensures .1 (c .if1 .taken)), tt)) (λ c κs. search needs)
+    returns-2 (λ c. search needs) (λ c. search needs) (λ c κs. search needs) returns-3 (λ c. search needs) returns-4)

@@ -10,19 +10,10 @@ Inv-loop edges v links₀ n₀ i₀ links n i = (length links ≡ length links�
 abbrev μ-loop : tie.MeasureT-loop
 μ-loop edges v links₀ n₀ i₀ links n i = v - i
 
-unblock-requires : tie.Need-unblock-requires Inv-loop μ-loop
-unblock-requires c κs = (c .before .before .before .before .before .before .before .before .before .pre .2, c .before .before .loop .inv .1, c .before .loop-test .taken)
-
 add-i : tie.Need-add-i Inv-loop μ-loop
 add-i c =
     let s = c .before .before .before .before .before .loop .inv .1 in
     omega (arith, sorting-most s, c .before .before .before .before .loop-test .taken, c .before .before .before .before .before .before .before .before .before .before .before .before .fits .v)
-
-loop-less : tie.Need-loop-less Inv-loop μ-loop
-loop-less c = omega (arith, sorting-most (c .before .before .before .before .before .loop .inv .1), c .before .before .before .before .loop-test .taken)
-
-loop-again : tie.Need-loop-again Inv-loop μ-loop
-loop-again c = (c .before .links2 .given ∙ c .before .before .before .before .before .loop .inv .0, c .before .before .unblock .ensures)
 
 returns : tie.Need-returns Inv-loop μ-loop
 returns c =
@@ -33,5 +24,9 @@ returns c =
 pub arrange-spec : {M : Type 1} → statement M
 arrange-spec = tie.close (tie.spec
     Inv-loop μ-loop (λ c κs. (c .before .before .before .pre .0, c .before .before .before .pre .1))
-    (λ c. (refl, c .before .before .list-entries .ensures)) unblock-requires add-i loop-less loop-again
+    (λ c. (refl, c .before .before .list-entries .ensures))
+    (λ c κs. (c .before .before .before .before .before .before .before .before .before .pre .2, c .before .before .loop .inv .1, c .before .loop-test .taken))
+    add-i
+    (λ c. omega (arith, sorting-most (c .before .before .before .before .before .loop .inv .1), c .before .before .before .before .loop-test .taken))
+    (λ c. (c .before .links2 .given ∙ c .before .before .before .before .before .loop .inv .0, c .before .before .unblock .ensures))
     (λ c. c .before .loop .inv .0 ∙ c .before .before .before .links .given) returns)

@@ -22,10 +22,8 @@ loop-again c =
     let h = c .before .before .before .before .loop-test .taken in
     (omega arith, c .before .links .given ∙ loop .inv .1, rw (c .before .before .join .ensures .0, c .before .before .join .ensures .1) (sorting-entry (loop .inv .2) h))
 
-returns : tie.Need-returns Inv-loop μ-loop
-returns c = let e : c .before .loop .t ≡ c .before .before .before .before .args .v = omega (arith, c .before .loop .inv .0, c .loop-test .left) in rw e at (c .before .loop .inv .2)
-
 pub list-entries-spec : {M : Type 1} → statement M
 list-entries-spec = tie.close (tie.spec
     Inv-loop μ-loop (λ c. (omega arith, refl, sorting-none (c .before .before .pre .0) (c .before .before .pre .1))) join-requires (λ c. search needs)
-    (λ c. search needs) loop-again (λ c. search needs) returns)
+    (λ c. search needs) loop-again (λ c. search needs)
+    (λ c. let e : c .before .loop .t ≡ c .before .before .before .before .args .v = omega (arith, c .before .loop .inv .0, c .loop-test .left) in rw e at (c .before .loop .inv .2)))

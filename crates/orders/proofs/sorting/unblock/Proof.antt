@@ -40,10 +40,8 @@ loop-again c =
       rw (c .before .before .release .ensures .0, c .before .before .release .ensures .1, c .before .before .before .edge-to .ensures .0) (sorting-next below s),
     )
 
-returns : tie.Need-returns Inv-loop μ-loop
-returns c = sorting-end (c .before .before .leaving .result .start) (c .before .loop .k) (c .loop-test .left) (c .before .loop .inv .3)
-
 pub unblock-spec : {M : Type 1} → statement M
 unblock-spec = tie.close (tie.spec
     Inv-loop μ-loop (λ c κs. search needs) (λ c κs. search needs) loop-holds (λ c. search needs) (λ c. search needs) (λ c. search needs)
-    (λ c κs. search needs) release-requires (λ c. search needs) loop-again (λ c. c .before .loop .inv .2) returns)
+    (λ c κs. search needs) release-requires (λ c. search needs) loop-again (λ c. c .before .loop .inv .2)
+    (λ c. sorting-end (c .before .before .leaving .result .start) (c .before .loop .k) (c .loop-test .left) (c .before .loop .inv .3)))

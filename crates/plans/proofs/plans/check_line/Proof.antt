@@ -63,5 +63,5 @@ returns-5 c =
 
 pub check-line-spec : {M : Type 1} → statement M
 check-line-spec = tie.close (tie.spec
-    (λ c κs. ((_, c .before .before .pre .0), c .before .before .pre .2)) returns descends-requires returns-2 (λ c. search needs) (λ c. search needs) line-of-requires
-    returns-3 fed-requires returns-4 returns-5)
+    (λ c κs. ((_, c .before .before .pre .0), c .before .before .pre .2)) returns descends-requires returns-2 (λ c. search needs) (λ c. search needs)
+    line-of-requires returns-3 fed-requires returns-4 returns-5)

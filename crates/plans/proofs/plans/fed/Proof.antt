@@ -14,9 +14,6 @@ Inv-loop mem links rooms t line start k₀ k =
 abbrev μ-loop : tie.MeasureT-loop
 μ-loop mem links rooms t line start k₀ k = k - start
 
-shared-slice-read-entering : tie.Need-shared-slice-read-entering Inv-loop μ-loop
-shared-slice-read-entering c = let w = sizes (c .before .before .before .pre .0) in omega (arith, w .size, w .tasks-most, w .some-task)
-
 loop-holds : tie.Need-loop-holds Inv-loop μ-loop
 loop-holds c =
     let pre = c .before .before .before .before .pre in
@@ -30,9 +27,6 @@ mul-edge-from : tie.Need-mul-edge-from Inv-loop μ-loop
 mul-edge-from c =
     let args = c .before .before .before .before .before .before .args in
     let b : c .before .loop .k - 1 < length (args .links .now) = omega (arith, c .before .loop .inv .0, c .before .loop .inv .1 .within, c .loop-test .taken) in search needs
-
-shared-slice-read-edge-from : tie.Need-shared-slice-read-edge-from Inv-loop μ-loop
-shared-slice-read-edge-from c = omega (arith, c .before .before .loop .inv .0, c .before .before .loop .inv .1 .within, c .before .loop-test .taken)
 
 add-if1 : tie.Need-add-if1 Inv-loop μ-loop
 add-if1 c =
@@ -93,6 +87,8 @@ returns-2 c =
 
 pub fed-spec : {M : Type 1} → statement M
 fed-spec = tie.close (tie.spec
-    Inv-loop μ-loop (λ c. omega (arith, sizes (c .before .before .pre .0) .size)) shared-slice-read-entering (λ c κs. search needs) loop-holds
-    (λ c. omega (arith, c .loop-test .taken)) mul-edge-from shared-slice-read-edge-from (λ c κs. search needs) add-if1 mul-if1 shared-slice-read-if1
-    returns (λ c. omega (arith, c .before .before .before .before .loop-test .taken)) loop-again returns-2)
+    Inv-loop μ-loop (λ c. omega (arith, sizes (c .before .before .pre .0) .size))
+    (λ c. let w = sizes (c .before .before .before .pre .0) in omega (arith, w .size, w .tasks-most, w .some-task)) (λ c κs. search needs) loop-holds
+    (λ c. omega (arith, c .loop-test .taken)) mul-edge-from
+    (λ c. omega (arith, c .before .before .loop .inv .0, c .before .before .loop .inv .1 .within, c .before .loop-test .taken)) (λ c κs. search needs)
+    add-if1 mul-if1 shared-slice-read-if1 returns (λ c. omega (arith, c .before .before .before .before .loop-test .taken)) loop-again returns-2)

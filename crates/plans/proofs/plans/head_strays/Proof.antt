@@ -5,15 +5,6 @@ use Rattle.plans.proofs.plans.head_strays.Tie as tie
 use Rattle.plans.proofs.plans.head_strays.Reads as reads
 use Rattle.plans.proofs.plans.head_strays.Lts as lts
 
-returns : tie.Need-returns
-returns c = let a = c .before .args in head-tasks-low (a .tasks) (a .processors) (a .losses) (a .best) (a .worst) (c .if1 .taken)
-
-returns-2 : tie.Need-returns-2
-returns-2 c = let a = c .before .before .args in head-tasks-high (a .tasks) (a .processors) (a .losses) (a .best) (a .worst) (c .if2 .taken)
-
-returns-3 : tie.Need-returns-3
-returns-3 c = let a = c .before .before .before .args in head-processors-low (a .tasks) (a .processors) (a .losses) (a .best) (a .worst) (omega arith) (omega arith) (c .if3 .taken)
-
 returns-4 : tie.Need-returns-4
 returns-4 c = let a = c .before .before .before .before .args in head-processors-high (a .tasks) (a .processors) (a .losses) (a .best) (a .worst) (omega arith) (omega arith) (c .if4 .taken)
 
@@ -33,4 +24,7 @@ returns-7 c =
 pub head-strays-spec : {M : Type 1} → statement M
 head-strays-spec =
     tie.close (tie.spec
-    returns returns-2 returns-3 returns-4 returns-5 returns-6 returns-7)
+    (λ c. let a = c .before .args in head-tasks-low (a .tasks) (a .processors) (a .losses) (a .best) (a .worst) (c .if1 .taken))
+    (λ c. let a = c .before .before .args in head-tasks-high (a .tasks) (a .processors) (a .losses) (a .best) (a .worst) (c .if2 .taken))
+    (λ c. let a = c .before .before .before .args in head-processors-low (a .tasks) (a .processors) (a .losses) (a .best) (a .worst) (omega arith) (omega arith) (c .if3 .taken))
+    returns-4 returns-5 returns-6 returns-7)

@@ -86,6 +86,6 @@ returns-3 c =
 
 pub load-lines-spec : {M : Type 1} → statement M
 load-lines-spec = tie.close (tie.spec
-    (λ c κs. c .before .before .before .before .pre .0 .size) read-plan-lines-requires (λ c. search needs) (λ c. search needs) returns (λ c. search needs)
-    (λ c. search needs) slice-write-mem (λ c. search needs) (λ c. search needs) slice-write-mem-2 (λ c. search needs) same-length-2 returns-2
-    (λ c. search needs) returns-3)
+    (λ c κs. c .before .before .before .before .pre .0 .size) read-plan-lines-requires (λ c. search needs) (λ c. search needs) returns
+    (λ c. search needs) (λ c. search needs) slice-write-mem (λ c. search needs) (λ c. search needs) slice-write-mem-2 (λ c. search needs)
+    same-length-2 returns-2 (λ c. search needs) returns-3)

@@ -87,7 +87,7 @@ returns-3 c =
 
 pub read-plan-line-spec : {M : Type 1} → statement M
 read-plan-line-spec = tie.close (tie.spec
-    (λ c κs. let s = sizes (c .before .before .before .before .pre .0 .job) in (omega arith, s .losses-most)) row-at-requires add-b (λ c. search needs)
-    (λ c. search needs) (λ c. search needs) (λ c. search needs) part-read-line-end (λ c κs. search needs) (λ c. search needs) check-line-requires
-    (λ c. search needs) returns (λ c. search needs) (λ c. search needs) put-line-requires (λ c. search needs) (λ c. search needs) returns-2
-    (λ c. search needs) returns-3)
+    (λ c κs. let s = sizes (c .before .before .before .before .pre .0 .job) in (omega arith, s .losses-most)) row-at-requires add-b
+    (λ c. search needs) (λ c. search needs) (λ c. search needs) (λ c. search needs) part-read-line-end (λ c κs. search needs) (λ c. search needs)
+    check-line-requires (λ c. search needs) returns (λ c. search needs) (λ c. search needs) put-line-requires (λ c. search needs) (λ c. search needs)
+    returns-2 (λ c. search needs) returns-3)

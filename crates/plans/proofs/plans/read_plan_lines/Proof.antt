@@ -49,10 +49,8 @@ loop-again c =
       upto-next (l .inv .1) (loop-test .taken) _ _ (read-plan-line .ensures) _ (c .before .next .given .1),
     )
 
-returns-2 : tie.Need-returns-2 Inv-loop μ-loop
-returns-2 c = let l = c .before .loop in let r = upto-end (l .inv .1) (c .loop-test .left) in (l .inv .1 .kept, r .0, λ m e. r .1)
-
 pub read-plan-lines-spec : {M : Type 1} → statement M
 read-plan-lines-spec = tie.close (tie.spec
     Inv-loop μ-loop (λ c. search needs) loop-holds read-plan-line-requires (λ c. search needs) (λ c. search needs) same-length returns
-    (λ c. search needs) (λ c. search needs) loop-again (λ c. c .before .loop .inv .1 .kept .size) returns-2)
+    (λ c. search needs) (λ c. search needs) loop-again (λ c. c .before .loop .inv .1 .kept .size)
+    (λ c. let l = c .before .loop in let r = upto-end (l .inv .1) (c .loop-test .left) in (l .inv .1 .kept, r .0, λ m e. r .1)))

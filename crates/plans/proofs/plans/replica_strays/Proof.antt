@@ -4,9 +4,6 @@ use Rattle.heads.specs.Layout.{earlyAt, lateAt}
 use Rattle.plans.proofs.plans.replica_strays.Statement.{statement}
 use Rattle.plans.proofs.plans.replica_strays.Tie as tie
 
-returns : tie.Need-returns
-returns c = let e = c .before .before .before .replica-at .ensures in rw (le-ltb _ _ (rw (e .0) at (c .if1 .taken)))
-
 returns-2 : tie.Need-returns-2
 returns-2 c =
     let args = c .before .before .before .before .before .before .before .args in
@@ -31,4 +28,5 @@ returns-3 c =
 pub replica-strays-spec : {M : Type 1} → statement M
 replica-strays-spec =
     tie.close (tie.spec
-    (λ c κs. search needs) (λ c. search needs) returns returns-2 returns-3)
+    (λ c κs. search needs) (λ c. search needs)
+    (λ c. let e = c .before .before .before .replica-at .ensures in rw (le-ltb _ _ (rw (e .0) at (c .if1 .taken)))) returns-2 returns-3)

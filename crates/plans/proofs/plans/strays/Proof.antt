@@ -15,9 +15,6 @@ returns c =
     let args = c .before .before .before .before .args in
     strays-task (args .mem .now) (args .a) (c .if1 .taken)
 
-loop-holds : tie.Need-loop-holds Inv-loop μ-loop
-loop-holds c = let s = sizes (c .before .before .before .before .before .pre .0 .1) in (omega arith, omega arith, refl)
-
 returns-2 : tie.Need-returns-2 Inv-loop μ-loop
 returns-2 c =
     let args = c .before .before .before .before .before .before .before .before .before .args in
@@ -44,5 +41,6 @@ returns-3 c =
 pub strays-spec : {M : Type 1} → statement M
 strays-spec = tie.close (tie.spec
     Inv-loop μ-loop (λ c. search needs) (λ c. search needs) (λ c. search needs) returns (λ c. search needs)
-    (λ c. let s = sizes (c .before .before .before .before .before .pre .0 .1) in omega arith) loop-holds (λ c. search needs) (λ c κs. search needs)
-    returns-2 (λ c. search needs) loop-again returns-3)
+    (λ c. let s = sizes (c .before .before .before .before .before .pre .0 .1) in omega arith)
+    (λ c. let s = sizes (c .before .before .before .before .before .pre .0 .1) in (omega arith, omega arith, refl)) (λ c. search needs)
+    (λ c κs. search needs) returns-2 (λ c. search needs) loop-again returns-3)

@@ -31,10 +31,8 @@ loop-again c =
     let loop = c .before .before .before .loop in
     let s = args .vals .now in let i = loop .i in let w = c .width-of .ensures in (search needs, omega (arith, w, length-next document01 s i (c .before .before .loop-test .taken)))
 
-returns : tie.Need-returns Inv-loop μ-loop
-returns c = let s = c .before .before .before .args .vals .now in let i = c .before .loop .i in let e = ap length (text-end document01 s i (c .loop-test .left)) in omega arith
-
 pub numbers-length-spec : {M : Type 1} → statement M
 numbers-length-spec = tie.close (tie.spec
     Inv-loop μ-loop (λ c. search needs) (λ c. search needs) (λ c. search needs) (λ c κs. search needs) add-n add-n-2 (λ c. search needs)
-    (λ c. search needs) loop-again returns)
+    (λ c. search needs) loop-again
+    (λ c. let s = c .before .before .before .args .vals .now in let i = c .before .loop .i in let e = ap length (text-end document01 s i (c .loop-test .left)) in omega arith))

@@ -5,9 +5,6 @@ use Rattle.rounds.proofs.JudgeLaws.{answer-ticks, answer-ends, answer-a
 use Rattle.rounds.proofs.checker.compare.Statement.{statement}
 use Rattle.rounds.proofs.checker.compare.Tie as tie
 
-ends-agree-requires : tie.Need-ends-agree-requires
-ends-agree-requires c κs = let p = c .before .before .before .before .pre in (p .0, p .1, p .2, sym (c .before .ticks-agree .ensures) ∙ c .if1 .taken)
-
 returns : tie.Need-returns
 returns c =
     let args = c .before .before .before .before .before .before .args in
@@ -31,4 +28,6 @@ returns-3 c =
 pub compare-spec : {M : Type 1} → statement M
 compare-spec =
     tie.close (tie.spec
-    (λ c κs. (c .before .before .pre .0, c .before .before .pre .2, c .before .before .pre .1)) ends-agree-requires returns returns-2 returns-3)
+    (λ c κs. (c .before .before .pre .0, c .before .before .pre .2, c .before .before .pre .1))
+    (λ c κs. let p = c .before .before .before .before .pre in (p .0, p .1, p .2, sym (c .before .ticks-agree .ensures) ∙ c .if1 .taken)) returns
+    returns-2 returns-3)

@@ -4,9 +4,6 @@ use Rattle.rounds.proofs.CheckLaws.{doubled-said}
 use Rattle.rounds.proofs.checker.doubled.Statement.{statement}
 use Rattle.rounds.proofs.checker.doubled.Tie as tie
 
-part-doubled-task-end : tie.Need-part-doubled-task-end
-part-doubled-task-end c = let s = sizes (c .before .before .before .before .before .pre .standing .job) in omega (arith, s .size, s .tasks-most .1, c .before .row-at2 .ensures)
-
 returns : tie.Need-returns
 returns c =
     let doubled-task = c .doubled-task in
@@ -18,4 +15,6 @@ doubled-spec = tie.close (tie.spec
     (λ c κs. let s = sizes (c .before .pre .standing .job) in omega (arith, s .size)) (λ c. search needs)
     (λ c κs. let s = sizes (c .before .before .before .pre .standing .job) in omega (arith, s .size, s .tasks-most .1)) (λ c. search needs)
     (λ c. let s = sizes (c .before .before .before .before .before .pre .standing .job) in omega (arith, s)) (λ c. search needs) (λ c. search needs)
-    (λ c. search needs) part-doubled-task-end (λ c κs. search needs) returns)
+    (λ c. search needs)
+    (λ c. let s = sizes (c .before .before .before .before .before .pre .standing .job) in omega (arith, s .size, s .tasks-most .1, c .before .row-at2 .ensures))
+    (λ c κs. search needs) returns)

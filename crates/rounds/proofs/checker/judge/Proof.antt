@@ -8,9 +8,6 @@ use Rattle.rounds.proofs.checker.judge.Tie as tie
 compare-requires : tie.Need-compare-requires
 compare-requires c κs = (c .before .before .before .before .before .pre .0, c .before .before .before .before .before .pre .1, rw (c .enum-told .given .1) at (c .before .before .doubled .ensures))
 
-cast-t7 : tie.Need-cast-t7
-cast-t7 c = let i = rw (c .before .t .given .1) at (c .before .before .before .doubled .ensures) in omega (arith, i .1)
-
 returns-2 : tie.Need-returns-2
 returns-2 c =
     let args = c .before .before .before .before .before .before .args in
@@ -20,4 +17,5 @@ returns-2 c =
 
 pub judge-spec : {M : Type 1} → statement M
 judge-spec = tie.close (tie.spec
-    (λ c κs. search needs) (λ c. search needs) compare-requires (λ c. search needs) cast-t7 (λ c. search needs) returns-2)
+    (λ c κs. search needs) (λ c. search needs) compare-requires (λ c. search needs)
+    (λ c. let i = rw (c .before .t .given .1) at (c .before .before .before .doubled .ensures) in omega (arith, i .1)) (λ c. search needs) returns-2)

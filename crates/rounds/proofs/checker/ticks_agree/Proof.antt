@@ -49,9 +49,6 @@ returns c =
     (c .before .before .before .before .before .before .before .before .before .before .pre .1) (c .before .before .before .before .loop .k)
     (c .before .before .before .loop-test .taken) (λ a. false≢true (sym (c .if1 .left) ∙ c .before .line-agrees .ensures .1 a))
 
-add-k : tie.Need-add-k Inv-loop μ-loop
-add-k c = let s = sizes (c .before .before .before .before .before .before .before .before .before .before .before .before .pre .0 .standing .job) in omega arith
-
 loop-again : tie.Need-loop-again Inv-loop μ-loop
 loop-again c =
     let (a, s) = c .before .before .before .line-agrees .ensures .0 (c .before .before .if1 .taken) in
@@ -68,4 +65,6 @@ pub ticks-agree-spec : {M : Type 1} → statement M
 ticks-agree-spec = tie.close (tie.spec
     Inv-loop μ-loop (λ c. let s = sizes (c .before .before .before .pre .0 .standing .job) in omega arith)
     (λ c κs. (_, c .before .before .before .pre .0 .standing .job)) (λ c κs. search needs) loop-holds line-agrees-requires row-at-requires
-    advance-line-requires returns add-k (λ c. search needs) loop-again returns-2)
+    advance-line-requires returns
+    (λ c. let s = sizes (c .before .before .before .before .before .before .before .before .before .before .before .before .pre .0 .standing .job) in omega arith)
+    (λ c. search needs) loop-again returns-2)

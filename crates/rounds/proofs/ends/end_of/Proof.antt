@@ -21,9 +21,6 @@ exit-time-requires c κs =
     let pre = c .before .before .before .before .before .pre in
     (pre .0, pre .1, c .loop-test .taken)
 
-add-t : tie.Need-add-t Inv-loop μ-loop
-add-t c = let w = sizes (c .before .before .before .before .before .before .before .pre .0 .job) in omega arith
-
 loop-again : tie.Need-loop-again Inv-loop μ-loop
 loop-again c =
     let loop-test = c .before .before .loop-test in
@@ -40,4 +37,5 @@ returns c = let a = c .before .before .before .before .before .args in let l = c
 pub end-of-spec : {M : Type 1} → statement M
 end-of-spec = tie.close (tie.spec
     Inv-loop μ-loop (λ c. let w = sizes (c .before .before .before .pre .0 .job) in omega arith) loop-holds exit-time-requires (λ c κs. search needs)
-    add-t (λ c. search needs) loop-again returns)
+    (λ c. let w = sizes (c .before .before .before .before .before .before .before .pre .0 .job) in omega arith) (λ c. search needs) loop-again
+    returns)

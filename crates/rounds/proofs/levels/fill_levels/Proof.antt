@@ -57,9 +57,6 @@ loop-again c =
     let scaled-run = c .before .before .scaled-run in
     (omega (arith, loop .inv .0), simp length-set (loop .inv .1), step (c .before .before .before .before) .more _ _ (scaled-run .ensures) (c .longest-after .ensures .0))
 
-same-length : tie.Need-same-length Inv-loop μ-loop
-same-length c = c .before .loop .inv .1 ∙ sym (c .before .before .before .before .before .before .before .pre .0 .size)
-
 returns : tie.Need-returns Inv-loop μ-loop
 returns c =
     let pre = c .before .before .before .before .before .before .before .pre in
@@ -71,4 +68,5 @@ fill-levels-spec = tie.close (tie.spec
     (λ c κs. (_, c .before .before .before .before .pre .0))
     (λ c. (omega arith, c .before .before .before .before .before .pre .0 .size, filling-none _ _ refl)) (λ c. search needs) (λ c κs. search needs)
     (λ c κs. ((_, step (c .before) .held), step (c .before) .below)) longest-after-requires add-mem add-mem-2 mul-mem slice-write-mem
-    (λ c. search needs) loop-again same-length returns)
+    (λ c. search needs) loop-again (λ c. c .before .loop .inv .1 ∙ sym (c .before .before .before .before .before .before .before .pre .0 .size))
+    returns)

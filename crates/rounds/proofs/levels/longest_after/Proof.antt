@@ -65,13 +65,11 @@ loop-again c =
       longest-next (l .inv .2) (c .if1 .x) _ (omega arith) x,
     )
 
-returns : tie.Need-returns Inv-loop μ-loop
-returns c = (longest-done (c .before .loop .inv .0) (omega (arith, c .loop-test .left)) (c .before .loop .inv .2), omega (arith, c .before .loop .inv .1))
-
 pub longest-after-spec : {M : Type 1} → statement M
 longest-after-spec = tie.close (tie.spec
     Inv-loop μ-loop (λ c. search needs) (λ c κs. (_, c .before .before .pre .0))
     (λ c. let s = sizes (c .before .before .before .before .pre .0) in omega arith) (λ c κs. search needs) loop-holds (λ c. search needs)
     (λ c. search needs) (λ c. search needs) (λ c κs. search needs) (λ c κs. search needs)
     (λ c. rw (c .edge-volume .ensures) (omega (arith, here (c .before .before .before) .little))) (λ c. search needs) mul-y-2 shared-slice-read-y
-    add-y-2 (λ c. search needs) (λ c. search needs) loop-again returns)
+    add-y-2 (λ c. search needs) (λ c. search needs) loop-again
+    (λ c. (longest-done (c .before .loop .inv .0) (omega (arith, c .loop-test .left)) (c .before .loop .inv .2), omega (arith, c .before .loop .inv .1))))

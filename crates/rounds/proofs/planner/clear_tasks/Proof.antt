@@ -19,9 +19,6 @@ Inv-loop mem₀ links rooms level line blocked priorities v t₀ mem t = (t ≤ 
 abbrev μ-loop : tie.MeasureT-loop
 μ-loop mem₀ links rooms level line blocked priorities v t₀ mem t = v - t
 
-loop-holds : tie.Need-loop-holds Inv-loop μ-loop
-loop-holds c = let w = sizes (c .before .before .before .pre .0) in (search needs, w .tasks-most, w .size, kept-all, cleared-none _ _)
-
 sub-mem : tie.Need-sub-mem Inv-loop μ-loop
 sub-mem c =
     let pre = c .before .before .before .before .before .before .before .before .pre in
@@ -50,7 +47,8 @@ returns c =
 pub clear-tasks-spec : {M : Type 1} → statement M
 clear-tasks-spec = tie.close (tie.spec
     Inv-loop μ-loop (λ c. search needs) (λ c. search needs) (λ c. search needs) (λ c. search needs)
-    (λ c. omega (arith, sizes (c .before .before .before .pre .0))) loop-holds (λ c κs. search needs) (λ c. search needs) (λ c. search needs)
-    (λ c. search needs) (λ c. search needs) (λ c. search needs) (λ c. search needs) sub-mem (λ c. search needs) (λ c. search needs)
-    (λ c. simp length-set (omega arith)) (λ c. search needs) (λ c. search needs) (λ c. simp length-set (omega arith)) (λ c. search needs)
-    (λ c. search needs) loop-again (λ c. search needs) returns)
+    (λ c. omega (arith, sizes (c .before .before .before .pre .0)))
+    (λ c. let w = sizes (c .before .before .before .pre .0) in (search needs, w .tasks-most, w .size, kept-all, cleared-none _ _))
+    (λ c κs. search needs) (λ c. search needs) (λ c. search needs) (λ c. search needs) (λ c. search needs) (λ c. search needs) (λ c. search needs)
+    sub-mem (λ c. search needs) (λ c. search needs) (λ c. simp length-set (omega arith)) (λ c. search needs) (λ c. search needs)
+    (λ c. simp length-set (omega arith)) (λ c. search needs) (λ c. search needs) loop-again (λ c. search needs) returns)

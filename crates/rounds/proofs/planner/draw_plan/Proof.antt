@@ -101,9 +101,6 @@ loop-again c =
       q .2,
     )
 
-same-length : tie.Need-same-length Inv-loop μ-loop
-same-length c = c .before .loop .inv .2 .size ∙ c .before .before .before .before .before .before .before .before .before .before .before .before .prepare .ensures .0 .size
-
 returns : tie.Need-returns Inv-loop μ-loop
 returns c =
     let l = c .before .loop in
@@ -118,4 +115,6 @@ draw-plan-spec = tie.close (tie.spec
     (λ c κs. (_, c .before .before .before .before .prepare .ensures .1 .standing .job)) (λ c κs. search needs) (λ c. search needs) list-free-requires
     loop-holds (λ c. some c) array-read-t (λ c. omega (arith, last-task c, sizes (c .before .loop .inv .3 .standing .job) .tasks-most .0))
     place-task-requires (λ c. search needs) (λ c. some (c .before .before .before .before .before .before .before)) release-requires add-k
-    (λ c. search needs) loop-again same-length returns)
+    (λ c. search needs) loop-again
+    (λ c. c .before .loop .inv .2 .size ∙ c .before .before .before .before .before .before .before .before .before .before .before .before .prepare .ensures .0 .size)
+    returns)

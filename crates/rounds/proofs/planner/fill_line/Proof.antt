@@ -25,16 +25,10 @@ loop-holds : tie.Need-loop-holds Inv-loop μ-loop
 unfolding keep countFrom
 loop-holds c = (search needs, c .row-at .ensures, refl, begun-none)
 
-mul-put-replica : tie.Need-mul-put-replica Inv-loop μ-loop
-mul-put-replica c = let s = sizes (c .before .before .before .before .before .before .before .before .before .before .pre .drawn .standing .job) in omega arith
-
 array-read-put-replica : tie.Need-array-read-put-replica Inv-loop μ-loop
 array-read-put-replica c =
     let pre = c .before .before .before .before .before .before .before .before .before .before .pre in
     omega (arith, sizes (pre .drawn .standing .job), pre .early-size)
-
-mul-put-replica-2 : tie.Need-mul-put-replica-2 Inv-loop μ-loop
-mul-put-replica-2 c = let s = sizes (c .before .before .before .before .before .before .before .before .before .before .pre .drawn .standing .job) in omega arith
 
 array-read-put-replica-2 : tie.Need-array-read-put-replica-2 Inv-loop μ-loop
 array-read-put-replica-2 c =
@@ -61,12 +55,6 @@ add-c c =
     let e = sym (c .before .before .before .before .before .is-chosen .ensures ∙ among (nth d 1) (loop .p) (isChosen (args .t5) (nth d 1) (nth d 3 + 1) (loop .p)) b h) in
     omega (arith, box-room (pre) h (loop .inv .2) (loop .inv .3) (e ∙ c .before .before .before .before .if1 .taken))
 
-add-p : tie.Need-add-p Inv-loop μ-loop
-add-p c = let s = sizes (c .before .before .before .before .before .before .before .before .before .pre .drawn .standing .job) in omega arith
-
-loop-less : tie.Need-loop-less Inv-loop μ-loop
-loop-less c = let s = sizes (c .before .before .before .before .before .before .before .before .before .pre .drawn .standing .job) in omega arith
-
 loop-again : tie.Need-loop-again Inv-loop μ-loop
 loop-again c =
     let pre = c .before .before .before .before .before .before .before .before .before .pre in
@@ -86,6 +74,10 @@ fill-line-spec = tie.close (tie.spec
     Inv-loop μ-loop (λ c. let s = sizes (c .before .before .pre .drawn .standing .job) in omega arith)
     (λ c. let s = sizes (c .before .before .before .pre .drawn .standing .job) in omega arith)
     (λ c. let s = sizes (c .before .before .before .pre .drawn .standing .job) in omega arith) row-at-requires loop-holds (λ c κs. search needs)
-    mul-put-replica array-read-put-replica (λ c. search needs) mul-put-replica-2 array-read-put-replica-2 (λ c. search needs) put-replica-requires
-    add-c add-p loop-less loop-again (λ c. search needs)
-    (λ c. boxes-taken (c .before .before .before .before .before .before .pre) (omega arith) (c .before .loop .inv .3)))
+    (λ c. let s = sizes (c .before .before .before .before .before .before .before .before .before .before .pre .drawn .standing .job) in omega arith)
+    array-read-put-replica (λ c. search needs)
+    (λ c. let s = sizes (c .before .before .before .before .before .before .before .before .before .before .pre .drawn .standing .job) in omega arith)
+    array-read-put-replica-2 (λ c. search needs) put-replica-requires add-c
+    (λ c. let s = sizes (c .before .before .before .before .before .before .before .before .before .pre .drawn .standing .job) in omega arith)
+    (λ c. let s = sizes (c .before .before .before .before .before .before .before .before .before .pre .drawn .standing .job) in omega arith)
+    loop-again (λ c. search needs) (λ c. boxes-taken (c .before .before .before .before .before .before .pre) (omega arith) (c .before .loop .inv .3)))

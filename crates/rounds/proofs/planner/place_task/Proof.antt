@@ -34,9 +34,6 @@ fill-line-requires c κs =
     let p = c .before .before .before .before .before .before .before .pre in
     tried (p .1) (p .3) (p .2) (c .before .before .before .before .before .before .before .args .t) (p .4) (p .5) (c .before .before .before .finishes .ensures)
 
-mul-mem : tie.Need-mul-mem
-mul-mem c = omega (arith, small (c .before .before .before .before .before .before .before .before .before .before .before), c .row-at .ensures)
-
 slice-write-mem : tie.Need-slice-write-mem
 slice-write-mem c =
     omega (
@@ -86,5 +83,6 @@ returns c =
 pub place-task-spec : {M : Type 1} → statement M
 place-task-spec = tie.close (tie.spec
     finishes-requires fill-line-requires
-    (λ c κs. omega (arith, small (c .before .before .before .before .before .before .before .before .before .before))) mul-mem slice-write-mem
-    put-line-requires advance-line-requires same-length returns)
+    (λ c κs. omega (arith, small (c .before .before .before .before .before .before .before .before .before .before)))
+    (λ c. omega (arith, small (c .before .before .before .before .before .before .before .before .before .before .before), c .row-at .ensures))
+    slice-write-mem put-line-requires advance-line-requires same-length returns)

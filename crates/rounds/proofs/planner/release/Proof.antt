@@ -16,9 +16,6 @@ Inv-loop mem₀ links rooms t free₀ count g n₀ start k₀ mem free n k = (Pa
 abbrev μ-loop : tie.MeasureT-loop
 μ-loop mem₀ links rooms t free₀ count g n₀ start k₀ mem free n k = k
 
-slice-read-leaving : tie.Need-slice-read-leaving Inv-loop μ-loop
-slice-read-leaving c = let s = sizes (c .before .before .before .before .before .before .pre .0 .1 .standing .job) in omega arith
-
 loop-holds : tie.Need-loop-holds Inv-loop μ-loop
 loop-holds c =
     let p = c .before .before .before .before .before .before .before .pre in
@@ -72,11 +69,10 @@ same-length-2 c =
     let pre = c .before .before .before .before .before .before .before .before .before .pre in
     c .before .loop .inv .2 .tasks .size ∙ sym (pre .2 .tasks .size)
 
-returns : tie.Need-returns Inv-loop μ-loop
-returns c = let (i, s, r) = c .before .loop .inv .1 in (r .kept, release-done s r (pass-none _ _ _ (omega (arith, c .loop-test .left))), c .before .loop .inv .2)
-
 pub release-spec : {M : Type 1} → statement M
 release-spec = tie.close (tie.spec
-    Inv-loop μ-loop (λ c κs. (_, c .before .before .before .before .pre .0 .1 .standing .job)) slice-read-leaving (λ c κs. search needs) loop-holds
-    (λ c. search needs) add-edge-to mul-edge-to slice-read-edge-to (λ c κs. search needs) unblock-requires (λ c. search needs) loop-again
-    (λ c. c .before .loop .inv .1 .2 .kept .size) same-length-2 returns)
+    Inv-loop μ-loop (λ c κs. (_, c .before .before .before .before .pre .0 .1 .standing .job))
+    (λ c. let s = sizes (c .before .before .before .before .before .before .pre .0 .1 .standing .job) in omega arith) (λ c κs. search needs)
+    loop-holds (λ c. search needs) add-edge-to mul-edge-to slice-read-edge-to (λ c κs. search needs) unblock-requires (λ c. search needs) loop-again
+    (λ c. c .before .loop .inv .1 .2 .kept .size) same-length-2
+    (λ c. let (i, s, r) = c .before .loop .inv .1 in (r .kept, release-done s r (pass-none _ _ _ (omega (arith, c .loop-test .left))), c .before .loop .inv .2)))

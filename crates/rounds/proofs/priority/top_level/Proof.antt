@@ -49,21 +49,12 @@ loop-again c =
       gather-next (l .inv .2) (timeIn (c .if1 .x)) (f ∙ ap (λ (u : Time). later u (timeIn (l .x))) (rw (e .row-of, e .volume-of) at (c .before .spread .ensures .0))),
     )
 
-shared-slice-read-m : tie.Need-shared-slice-read-m Inv-loop μ-loop
-shared-slice-read-m c = let s = sizes (c .before .before .before .before .before .before .before .pre .0 .1 .job) in omega arith
-
 returns : tie.Need-returns Inv-loop μ-loop
 returns c =
     let start = c .before .before .before .before .before .before .before .before in
     let loop = c .before .before .before .loop in
     let loop-test = c .before .before .loop-test in
     let (w, m, g) = loop .inv in (top-one (start .args .t) (start .pre .0 .1 .job) w (loop-test .left) g m (c .if2 .taken), omega (arith, m))
-
-sub-result : tie.Need-sub-result Inv-loop μ-loop
-sub-result c = omega (arith, sizes (c .before .before .before .before .before .before .before .before .pre .0 .1 .job) .some-processor)
-
-mul-result : tie.Need-mul-result Inv-loop μ-loop
-mul-result c = omega (arith, scale-most (c .before .before .before .before .before .before .before .before .pre .0 .1 .job))
 
 mul-result-2 : tie.Need-mul-result-2 Inv-loop μ-loop
 mul-result-2 c =
@@ -82,4 +73,6 @@ pub top-level-spec : {M : Type 1} → statement M
 top-level-spec = tie.close (tie.spec
     Inv-loop μ-loop (λ c. let s = sizes (c .before .before .before .pre .0 .1 .job) in omega arith) (λ c κs. search needs) loop-holds
     (λ c. search needs) (λ c. search needs) entering-requires-2 (λ c. search needs) spread-requires (λ c. search needs) (λ c. search needs) loop-again
-    shared-slice-read-m returns sub-result mul-result mul-result-2 returns-2)
+    (λ c. let s = sizes (c .before .before .before .before .before .before .before .pre .0 .1 .job) in omega arith) returns
+    (λ c. omega (arith, sizes (c .before .before .before .before .before .before .before .before .pre .0 .1 .job) .some-processor))
+    (λ c. omega (arith, scale-most (c .before .before .before .before .before .before .before .before .pre .0 .1 .job))) mul-result-2 returns-2)

@@ -11,18 +11,12 @@ Inv-loop mem₀ links rooms stops v delays ready₀ k₀ mem ready k = (k ≤ v)
 abbrev μ-loop : tie.MeasureT-loop
 μ-loop mem₀ links rooms stops v delays ready₀ k₀ mem ready k = v - k
 
-loop-holds : tie.Need-loop-holds Inv-loop μ-loop
-loop-holds c = let s = c .before .before .before .before .before .before .before in (search needs, rw (c .new .ensures) (round-first (s .args .stops .now) (s .pre .0)))
-
 run-line-requires : tie.Need-run-line-requires Inv-loop μ-loop
 run-line-requires c κs =
     let l = c .before .before .before .loop in
     let p = c .before .before .before .before .before .before .before .before .before .before .before .pre in
     let (t, a, f) = round-asks (l .k) (l .inv .1) (p .0) (p .1) (c .before .before .before .before .before .delay-table .ensures) (c .before .before .loop-test .taken) in
     (t, l .inv .1 .running, a, f, p .2, links-kept (p .0 .job) (l .inv .1 .retimed .outside) (omega arith) (p .3))
-
-add-k : tie.Need-add-k Inv-loop μ-loop
-add-k c = let z = sizes (c .before .before .before .before .before .before .before .before .before .before .before .before .before .before .pre .0 .job) in omega arith
 
 loop-again : tie.Need-loop-again Inv-loop μ-loop
 loop-again c =
@@ -39,5 +33,8 @@ returns c =
 pub run-round-spec : {M : Type 1} → statement M
 run-round-spec = tie.close (tie.spec
     Inv-loop μ-loop (λ c. let z = sizes (c .before .before .before .before .pre .0 .job) in omega arith)
-    (λ c κs. (_, c .before .before .before .before .before .pre .0 .job)) (λ c κs. search needs) loop-holds run-line-requires add-k (λ c. search needs)
-    loop-again (λ c. c .before .loop .inv .1 .retimed .outside .size) returns)
+    (λ c κs. (_, c .before .before .before .before .before .pre .0 .job)) (λ c κs. search needs)
+    (λ c. let s = c .before .before .before .before .before .before .before in (search needs, rw (c .new .ensures) (round-first (s .args .stops .now) (s .pre .0))))
+    run-line-requires
+    (λ c. let z = sizes (c .before .before .before .before .before .before .before .before .before .before .before .before .before .before .pre .0 .job) in omega arith)
+    (λ c. search needs) loop-again (λ c. c .before .loop .inv .1 .retimed .outside .size) returns)

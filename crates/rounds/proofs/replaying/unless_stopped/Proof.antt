@@ -4,12 +4,7 @@ use Rattle.rounds.proofs.RunLaws.{stopped-late, stopped-by}
 use Rattle.rounds.proofs.replaying.unless_stopped.Statement.{statement}
 use Rattle.rounds.proofs.replaying.unless_stopped.Tie as tie
 
-returns : tie.Need-returns
-returns c = (stopped-late (c .before .args .stop) (c .before .args .x) (omega arith) (c .if1 .taken), λ b s. inl refl)
-
-returns-2 : tie.Need-returns-2
-returns-2 c = (stopped-by (c .before .args .stop) (c .before .args .x) (omega arith) (c .if1 .left) (omega arith), λ b s. s)
-
 pub unless-stopped-spec : {M : Type 1} → statement M
 unless-stopped-spec = tie.close (tie.spec
-    returns returns-2)
+    (λ c. (stopped-late (c .before .args .stop) (c .before .args .x) (omega arith) (c .if1 .taken), λ b s. inl refl))
+    (λ c. (stopped-by (c .before .args .stop) (c .before .args .x) (omega arith) (c .if1 .left) (omega arith), λ b s. s)))

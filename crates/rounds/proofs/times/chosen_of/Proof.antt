@@ -4,18 +4,9 @@ use Rattle.rounds.proofs.TimeLaws.{later-left, later-right, sooner-left
 use Rattle.rounds.proofs.times.chosen_of.Statement.{statement}
 use Rattle.rounds.proofs.times.chosen_of.Tie as tie
 
-returns : tie.Need-returns
-returns c = let a = c .before .before .args in (rw (c .before .if1 .taken) (later-left (a .x) (a .y) (omega arith) (omega arith) (omega arith)), inl refl)
-
-returns-2 : tie.Need-returns-2
-returns-2 c = let a = c .before .before .args in (rw (c .before .if1 .taken) (later-right (a .x) (a .y) (omega arith) (omega arith) (omega arith)), inr refl)
-
-returns-3 : tie.Need-returns-3
-returns-3 c = let a = c .before .before .args in (rw (c .before .if1 .left) (sooner-left (a .x) (a .y) (omega arith) (omega arith) (omega arith)), inl refl)
-
-returns-4 : tie.Need-returns-4
-returns-4 c = let a = c .before .before .args in (rw (c .before .if1 .left) (sooner-right (a .x) (a .y) (omega arith) (omega arith) (omega arith)), inr refl)
-
 pub chosen-of-spec : {M : Type 1} → statement M
 chosen-of-spec = tie.close (tie.spec
-    returns returns-2 returns-3 returns-4)
+    (λ c. let a = c .before .before .args in (rw (c .before .if1 .taken) (later-left (a .x) (a .y) (omega arith) (omega arith) (omega arith)), inl refl))
+    (λ c. let a = c .before .before .args in (rw (c .before .if1 .taken) (later-right (a .x) (a .y) (omega arith) (omega arith) (omega arith)), inr refl))
+    (λ c. let a = c .before .before .args in (rw (c .before .if1 .left) (sooner-left (a .x) (a .y) (omega arith) (omega arith) (omega arith)), inl refl))
+    (λ c. let a = c .before .before .args in (rw (c .before .if1 .left) (sooner-right (a .x) (a .y) (omega arith) (omega arith) (omega arith)), inr refl)))

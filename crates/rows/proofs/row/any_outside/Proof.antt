@@ -9,13 +9,10 @@ Inv-loop row low high i₀ i = any (outside low high) (drop i row) ≡ any (outs
 abbrev μ-loop : tie.MeasureT-loop
 μ-loop row low high i₀ i = length row - i
 
-returns : tie.Need-returns Inv-loop μ-loop
-returns c = stray-here _ _ _ _ (c .before .before .before .loop-test .taken) (sym (c .before .outside .ensures) ∙ c .if1 .taken) ∙ c .before .before .before .before .loop .inv
-
-loop-again : tie.Need-loop-again Inv-loop μ-loop
-loop-again c = stray-next _ _ _ _ (c .before .before .before .loop-test .taken) (sym (c .before .outside .ensures) ∙ c .if1 .left) ∙ c .before .before .before .before .loop .inv
-
 pub any-outside-spec : {M : Type 1} → statement M
 any-outside-spec = tie.close (tie.spec
-    Inv-loop μ-loop (λ c. refl) (λ c. search needs) (λ c. search needs) (λ c κs. search needs) returns (λ c. search needs) (λ c. search needs)
-    loop-again (λ c. stray-end _ _ _ _ (c .loop-test .left) ∙ c .before .loop .inv))
+    Inv-loop μ-loop (λ c. refl) (λ c. search needs) (λ c. search needs) (λ c κs. search needs)
+    (λ c. stray-here _ _ _ _ (c .before .before .before .loop-test .taken) (sym (c .before .outside .ensures) ∙ c .if1 .taken) ∙ c .before .before .before .before .loop .inv)
+    (λ c. search needs) (λ c. search needs)
+    (λ c. stray-next _ _ _ _ (c .before .before .before .loop-test .taken) (sym (c .before .outside .ensures) ∙ c .if1 .left) ∙ c .before .before .before .before .loop .inv)
+    (λ c. stray-end _ _ _ _ (c .loop-test .left) ∙ c .before .loop .inv))

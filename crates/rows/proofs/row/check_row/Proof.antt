@@ -11,15 +11,6 @@ returns-2 c seen l =
     let args = c .before .before .before .before .before .args in
     out-of-range _ seen (args .row .now) (args .i) l (c .before .if1 .left) (args .kind) (sym (c .if2 .taken) ∙ c .before .before .off-range .ensures)
 
-add-if3 : tie.Need-add-if3
-add-if3 c = omega (arith, c .before .before .before .before .before .before .before .pre .1 (c .enum-told2 .given .1))
-
-mul-if3 : tie.Need-mul-if3
-mul-if3 c = let h = c .before .before .before .before .before .before .before .pre .1 (c .enum-told2 .given .1) in search needs
-
-shared-slice-read-if3 : tie.Need-shared-slice-read-if3
-shared-slice-read-if3 c = omega (arith, c .before .before .before .before .before .before .before .before .pre .1 (c .before .enum-told2 .given .1))
-
 returns-3 : tie.Need-returns-3
 returns-3 c seen l =
     let args = c .before .before .before .before .before .before .before .before .before .args in
@@ -47,5 +38,8 @@ returns-5 c seen l =
 
 pub check-row-spec : {M : Type 1} → statement M
 check-row-spec = tie.close (tie.spec
-    (λ c. search needs) (λ c κs. search needs) returns returns-2 (λ c. search needs) (λ c. search needs) add-if3 mul-if3 shared-slice-read-if3
-    returns-3 returns-4 returns-5)
+    (λ c. search needs) (λ c κs. search needs) returns returns-2 (λ c. search needs) (λ c. search needs)
+    (λ c. omega (arith, c .before .before .before .before .before .before .before .pre .1 (c .enum-told2 .given .1)))
+    (λ c. let h = c .before .before .before .before .before .before .before .pre .1 (c .enum-told2 .given .1) in search needs)
+    (λ c. omega (arith, c .before .before .before .before .before .before .before .before .pre .1 (c .before .enum-told2 .given .1))) returns-3
+    returns-4 returns-5)

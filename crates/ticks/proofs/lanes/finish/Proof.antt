@@ -22,9 +22,6 @@ loop-again c =
       lanes-next _ _ (loop .p) (c .finish-tick2 .result) (loop .inv .2) (c .finish-tick2 .ensures),
     )
 
-returns : tie.Need-returns Inv-loop μ-loop
-returns c = (lanes-all _ _ (c .before .loop .p) (c .before .loop .inv .1) (omega arith), lanes-all _ _ (c .before .loop .p) (c .before .loop .inv .2) (omega arith))
-
 pub finish-spec : {M : Type 1} → statement M
 finish-spec = tie.close (tie.spec
     Inv-loop μ-loop (λ c. (omega arith, lanes-none _ _, lanes-none _ _)) (λ c. omega (arith, c .loop-test .taken))
@@ -37,4 +34,5 @@ finish-spec = tie.close (tie.spec
     (λ c. omega (arith, c .before .before .before .before .before .before .loop-test .taken))
     (λ c. omega (arith, c .before .before .before .before .before .before .loop-test .taken))
     (λ c. omega (arith, c .before .before .before .before .before .before .loop-test .taken))
-    (λ c. omega (arith, c .before .before .before .before .before .before .loop-test .taken)) loop-again returns)
+    (λ c. omega (arith, c .before .before .before .before .before .before .loop-test .taken)) loop-again
+    (λ c. (lanes-all _ _ (c .before .loop .p) (c .before .loop .inv .1) (omega arith), lanes-all _ _ (c .before .loop .p) (c .before .loop .inv .2) (omega arith))))

@@ -23,9 +23,6 @@ loop-again c =
       lanes-next _ _ (loop .p) (c .later-tick .result) (loop .inv .2) (omega (arith, c .later-tick .ensures, arrival2 .ensures)),
     )
 
-returns : tie.Need-returns Inv-loop μ-loop
-returns c = (lanes-all _ _ (c .before .loop .p) (c .before .loop .inv .1) (omega arith), lanes-all _ _ (c .before .loop .p) (c .before .loop .inv .2) (omega arith))
-
 pub offer-both-spec : {M : Type 1} → statement M
 offer-both-spec = tie.close (tie.spec
     Inv-loop μ-loop (λ c. search needs) (λ c. (omega arith, lanes-none _ _, lanes-none _ _)) (λ c. omega (arith, c .loop-test .taken))
@@ -38,4 +35,5 @@ offer-both-spec = tie.close (tie.spec
     (λ c. omega (arith, c .before .before .before .before .before .before .before .loop-test .taken))
     (λ c. omega (arith, c .before .before .before .before .before .before .before .loop-test .taken))
     (λ c. omega (arith, c .before .before .before .before .before .before .before .loop-test .taken))
-    (λ c. omega (arith, c .before .before .before .before .before .before .before .loop-test .taken)) loop-again returns)
+    (λ c. omega (arith, c .before .before .before .before .before .before .before .loop-test .taken)) loop-again
+    (λ c. (lanes-all _ _ (c .before .loop .p) (c .before .loop .inv .1) (omega arith), lanes-all _ _ (c .before .loop .p) (c .before .loop .inv .2) (omega arith))))

@@ -20,10 +20,7 @@ loop-again c =
     let loop = c .before .before .before .loop in
     (omega arith, total-more (args .cells .now) (loop .q) (loop .x) (c .wrapping-add-u64 .result) (c .before .before .loop-test .taken) (loop .inv .1) (c .wrapping-add-u64 .ensures))
 
-returns : tie.Need-returns Inv-loop μ-loop
-returns c = c .before .loop .inv .1 ∙ ap (λ (l : List ℕ). sum l % 2 ^ 64) (take-all (c .before .loop .q) (c .before .before .before .args .cells .now) (omega arith))
-
 pub total-spec : {M : Type 1} → statement M
 total-spec = tie.close (tie.spec
     Inv-loop μ-loop loop-holds (λ c. search needs) (λ c. search needs) (λ c κs. search needs) (λ c. search needs) (λ c. search needs) loop-again
-    returns)
+    (λ c. c .before .loop .inv .1 ∙ ap (λ (l : List ℕ). sum l % 2 ^ 64) (take-all (c .before .loop .q) (c .before .before .before .args .cells .now) (omega arith))))
