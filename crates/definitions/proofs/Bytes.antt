@@ -11,7 +11,7 @@ use Rattle.definitions.specs.Job.{Job}
 use Rattle.definitions.specs.Plan.{Plan}
 use Rattle.definitions.specs.Stops.{Stop}
 use Rattle.definitions.specs.Times.{tick, never, Outcome}
-use Rattle.definitions.specs.Replay.{replay, firstFinish, firstBox, roundEnd, resultLine, resultLines, endLine, replayText}
+use Rattle.definitions.specs.Replay.{replay, firstFinish, firstProcessor, roundEnd, resultLine, resultLines, endLine, replayText}
 use Rattle.definitions.specs.Answers.{replayed}
 use Rattle.definitions.specs.Claims.{Done, resultsText, undoneText, Read}
 use Rattle.definitions.proofs.Lists.{in-below}
@@ -43,7 +43,7 @@ module _ (l : Limits) where
   results-done ds (t ∷ ts) h =
       let (x, e) = h t (inl refl) in
       let (rs, a, b) = results-done ds ts (λ u i. h u (inr i)) in (
-        record { task = t; processor = firstBox t (tick x) ds; tick = x } ∷ rs,
+        record { task = t; processor = firstProcessor t (tick x) ds; tick = x } ∷ rs,
         ap (λ us. t ∷ us) a,
         rw (e, b),
       )
@@ -53,7 +53,7 @@ module _ (l : Limits) where
   results-append ds [] us = refl
   results-append ds (t ∷ ts) us =
       rw (results-append ds ts us)
-      (sym (append-assoc (resultLine l t (firstFinish t ds) (firstBox t (firstFinish t ds) ds)) (resultLines l ts ds) (resultLines l us ds)))
+      (sym (append-assoc (resultLine l t (firstFinish t ds) (firstProcessor t (firstFinish t ds) ds)) (resultLines l ts ds) (resultLines l us ds)))
 
   results-parts : (ds : List Outcome) (t : ℕ) (ts us : List ℕ) → firstFinish t ds ≡ never
       → resultLines l (ts ++ t ∷ us) ds ≡ resultLines l ts ds ++ undoneText l t ++ resultLines l us ds

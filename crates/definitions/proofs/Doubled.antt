@@ -16,7 +16,7 @@ use Rattle.definitions.specs.Stops.{Stop}
 use Rattle.definitions.specs.Times.{Time, tick, never, later, after, least, largest, Copy, Outcome, outcome, ofTask, times, start, stopTime, unlessStopped, finish, walk, copiesOf, copies, exits, end, copyOf}
 use Rattle.definitions.specs.Refusals.{doubledTasks}
 use Rattle.definitions.specs.Replay.{replay, firstFinish, roundEnd}
-use Rattle.definitions.specs.Claims.{boxesOf, once, halted, haltingOf}
+use Rattle.definitions.specs.Claims.{taskProcessors, once, halted, haltingOf}
 use Rattle.definitions.proofs.Lists.{neither, in-append, in-map, map-in, in-keep, has-in, not-has}
 use Rattle.definitions.specs.Facts.{JobFacts, Ordered, PlanFacts, Ascending}
 use Rattle.definitions.proofs.Tasks.{in-task, line-facts}
@@ -109,8 +109,8 @@ stops-at-zero x (p ∷ ps) i = by (eqb p x) refl i (stops-at-zero x ps)
 -- The boxes of a task are those of its one line.
 pub line-boxes :
     (j : Job) (seen : List ℕ) (ns : List Line) → Ordered j seen ns → (n : Line) → In n ns → (t : ℕ) → n .task ≡ t
-    → boxesOf t ns ≡ processorsOf n
-unfolding boxesOf
+    → taskProcessors t ns ≡ processorsOf n
+unfolding taskProcessors
 line-boxes j seen (m ∷ ns) (o, os) n (inl e) t q = rw (eq-eqb (m .task) t (ap (λ n. n .task) e ∙ q)) (ap processorsOf e)
 line-boxes j seen (m ∷ ns) (o, os) n (inr i) t q =
     let (before, f, g) = line-facts j (m .task ∷ seen) ns os n i in
@@ -192,9 +192,9 @@ module _ (l : Limits) (j : Job) (ns : List Line) (t : ℕ) (f : JobFacts l j) (o
       → finish j least (haltingOf t ns) placed c ≡ never
   copy-undone placed n c i g e =
       let (before, h, g′) = line-facts j [] ns o n i in
-      let on-box : In (c .processor) (boxesOf t ns) = rw (line-boxes j [] ns o n i t e) (g .on-box) in
+      let on-box : In (c .processor) (taskProcessors t ns) = rw (line-boxes j [] ns o n i t e) (g .on-box) in
       finish-never j least (haltingOf t ns) placed c
-      (stops-at-zero (c .processor) (once (boxesOf t ns)) (in-once (c .processor) (boxesOf t ns) on-box))
+      (stops-at-zero (c .processor) (once (taskProcessors t ns)) (in-once (c .processor) (taskProcessors t ns) on-box))
       (rw (g .run-time) (f .run-least (n .task) (c .processor) (h .task-below) (h .processors-below (c .processor) (g .on-box))))
 
   pub halted-undone : firstFinish t (replay j (haltingOf t ns) ns) ≡ never

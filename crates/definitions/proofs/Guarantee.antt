@@ -33,45 +33,45 @@ pub data Between : (sure : Bool) → Time → Time → Time → Type 0 where
 done : {s : Bool} {e l f : ℕ} → (e ≤ f) × (f ≤ l) → Between s (tick e) (tick l) (tick f)
 done = within
 
-later-b : {s : Bool} {e l f e′ l′ f′ : Time} → Between s e l f → Between s e′ l′ f′ → Between s (later e e′) (later l l′) (later f f′)
-later-b undone undone = undone
-later-b undone (within b) = undone
-later-b (within a) undone = undone
-later-b (within a) (within b) = done (omega arith)
+later-between : {s : Bool} {e l f e′ l′ f′ : Time} → Between s e l f → Between s e′ l′ f′ → Between s (later e e′) (later l l′) (later f f′)
+later-between undone undone = undone
+later-between undone (within b) = undone
+later-between (within a) undone = undone
+later-between (within a) (within b) = done (omega arith)
 
-sooner-b : {s s′ : Bool} {e l f e′ l′ f′ : Time} → Between s e l f → Between s′ e′ l′ f′ → Between (s || s′) (sooner e e′) (later l l′) (sooner f f′)
-sooner-b undone undone = undone
-sooner-b (undone {e = never}) (within b) = done (omega arith)
-sooner-b (undone {e = tick x}) (within b) = done (omega arith)
-sooner-b (within a) (undone {e = never}) = done (omega arith)
-sooner-b (within a) (undone {e = tick x}) = done (omega arith)
-sooner-b (within a) (within b) = done (omega arith)
+sooner-between : {s s′ : Bool} {e l f e′ l′ f′ : Time} → Between s e l f → Between s′ e′ l′ f′ → Between (s || s′) (sooner e e′) (later l l′) (sooner f f′)
+sooner-between undone undone = undone
+sooner-between (undone {e = never}) (within b) = done (omega arith)
+sooner-between (undone {e = tick x}) (within b) = done (omega arith)
+sooner-between (within a) (undone {e = never}) = done (omega arith)
+sooner-between (within a) (undone {e = tick x}) = done (omega arith)
+sooner-between (within a) (within b) = done (omega arith)
 
-after-b : {s : Bool} (n : ℕ) {e l f : Time} → Between s e l f → Between s (after n e) (after n l) (after n f)
-after-b n undone = undone
-after-b n (within a) = done (omega arith)
+after-between : {s : Bool} (n : ℕ) {e l f : Time} → Between s e l f → Between s (after n e) (after n l) (after n f)
+after-between n undone = undone
+after-between n (within a) = done (omega arith)
 
 -- What is less sure.
-sure-b : {s : Bool} (s′ : Bool) {e l f : Time} → (s′ ≡ true → s ≡ true) → Between s e l f → Between s′ e l f
-sure-b true h undone = absurd (true≢false (sym (h refl)))
-sure-b false h undone = undone
-sure-b s′ h (within a) = within a
+sure-between : {s : Bool} (s′ : Bool) {e l f : Time} → (s′ ≡ true → s ≡ true) → Between s e l f → Between s′ e l f
+sure-between true h undone = absurd (true≢false (sym (h refl)))
+sure-between false h undone = undone
+sure-between s′ h (within a) = within a
 
 abbrev pub isNever : Time → Bool
 isNever never = true
 isNever (tick x) = false
 
-stopped-b : (s : Time) {e l f : Time} → Between (isNever s) e l f → Between (isNever s) e l (unlessStopped s f)
-stopped-b never b = b
-stopped-b (tick s) undone = undone
-stopped-b (tick s) (within {f = f} a) = ⊎-elim (λ q. rw q (within a)) (λ q. rw q undone) (stopped (tick s) (tick f))
+stopped-between : (s : Time) {e l f : Time} → Between (isNever s) e l f → Between (isNever s) e l (unlessStopped s f)
+stopped-between never b = b
+stopped-between (tick s) undone = undone
+stopped-between (tick s) (within {f = f} a) = ⊎-elim (λ q. rw q (within a)) (λ q. rw q undone) (stopped (tick s) (tick f))
 
 -- The largest over any list.
-largest-b : {A : Type 0} (s : Bool) (x y z : A → Time) (g : List A) → ((a : A) → In a g → Between s (x a) (y a) (z a))
+largest-between : {A : Type 0} (s : Bool) (x y z : A → Time) (g : List A) → ((a : A) → In a g → Between s (x a) (y a) (z a))
     → Between s (largest (map x g)) (largest (map y g)) (largest (map z g))
 unfolding largest
-largest-b s x y z [] h = done (omega arith)
-largest-b s x y z (a ∷ g) h = later-b (h a (inl refl)) (largest-b s x y z g (λ b i. h b (inr i)))
+largest-between s x y z [] h = done (omega arith)
+largest-between s x y z (a ∷ g) h = later-between (h a (inl refl)) (largest-between s x y z g (λ b i. h b (inr i)))
 
 -- What keeps times between, on each processor.
 abbrev Steady : (ℕ → Time → Time) → Type 0
@@ -89,37 +89,37 @@ module _ (j : Job) (stops : List Stop) where
         → Beside (c ∷ cs) (outcome c e ∷ es) (outcome c l ∷ ls) (outcome c f ∷ fs)
 
   -- Of those whose task and processor pass a test; of the copies of task t.
-  keep-b : (f : ℕ → ℕ → Bool) {cs : List Copy} {es ls fs : List Outcome} → Beside cs es ls fs
+  keep-between : (f : ℕ → ℕ → Bool) {cs : List Copy} {es ls fs : List Outcome} → Beside cs es ls fs
       → Beside (keep (λ c. f (c .task) (c .processor)) cs) (keep (λ d. f (d .task) (d .processor)) es)
       (keep (λ d. f (d .task) (d .processor)) ls)
       (keep (λ d. f (d .task) (d .processor)) fs)
   unfolding keep
-  keep-b f none = none
-  keep-b f (next {c = c} {e = x} {l = y} {f = z} b r) = by (f (c .task) (c .processor)) (keep-b f r)
+  keep-between f none = none
+  keep-between f (next {c = c} {e = x} {l = y} {f = z} b r) = by (f (c .task) (c .processor)) (keep-between f r)
     where
       by : (a : Bool) {cs : List Copy} {es ls fs : List Outcome} → Beside cs es ls fs
           → Beside (if a then c ∷ cs else cs) (if a then outcome c x ∷ es else es) (if a then outcome c y ∷ ls else ls) (if a then outcome c z ∷ fs else fs)
       by true r = next b r
       by false r = r
 
-  task-b : (t : ℕ) {cs : List Copy} {es ls fs : List Outcome} → Beside cs es ls fs
+  task-between : (t : ℕ) {cs : List Copy} {es ls fs : List Outcome} → Beside cs es ls fs
       → Beside (keep (λ c. eqb (c .task) t) cs) (ofTask t es) (ofTask t ls) (ofTask t fs)
   unfolding ofTask
-  task-b t b = keep-b (λ u q. eqb u t) b
+  task-between t b = keep-between (λ u q. eqb u t) b
 
   -- The least early, the largest late and the least finish, each as w makes it on its processor; sure if one of them is.
-  least-b : (w : ℕ → Time → Time) → Steady w → {cs : List Copy} {es ls fs : List Outcome} → Beside cs es ls fs
+  least-between : (w : ℕ → Time → Time) → Steady w → {cs : List Copy} {es ls fs : List Outcome} → Beside cs es ls fs
       → Between (any (λ c. free (c .processor)) cs) (least (map (λ d. w (d .processor) (d .time)) es))
       (largest (map (λ d. w (d .processor) (d .time)) ls))
       (least (map (λ d. w (d .processor) (d .time)) fs))
   unfolding any least largest
-  least-b w h none = undone
-  least-b w h (next {c = c} b r) = sooner-b (h (c .processor) _ _ _ _ b) (least-b w h r)
+  least-between w h none = undone
+  least-between w h (next {c = c} b r) = sooner-between (h (c .processor) _ _ _ _ b) (least-between w h r)
 
-  ready-b : (p : ℕ) {cs : List Copy} {es ls fs : List Outcome} → Beside cs es ls fs → Between (free p) (ready j p es) (ready j p ls) (ready j p fs)
+  ready-between : (p : ℕ) {cs : List Copy} {es ls fs : List Outcome} → Beside cs es ls fs → Between (free p) (ready j p es) (ready j p ls) (ready j p fs)
   unfolding ready
-  ready-b p none = rw (first-ready j p) (done (omega arith))
-  ready-b p (next {c = c} {e = e} {l = l} {f = f} b r) = by (eqb (c .processor) p) refl (ready-b p r)
+  ready-between p none = rw (first-ready j p) (done (omega arith))
+  ready-between p (next {c = c} {e = e} {l = l} {f = f} b r) = by (eqb (c .processor) p) refl (ready-between p r)
     where
       by : (a : Bool) → eqb (c .processor) p ≡ a → {e′ l′ f′ : Time} → Between (free p) e′ l′ f′
           → Between (free p) (if a then e else e′) (if a then l else l′) (if a then f else f′)
@@ -134,52 +134,52 @@ module _ (j : Job) (stops : List Stop) where
   safe-free t cs (c, i, e, f) = in-any (λ c. free (c .processor)) c _ (keep-in (λ c. eqb (c .task) t) c cs i (eq-eqb (c .task) t e)) f
 
   -- The copies of a safe task that feed p; if p does not stop, one of them is on a processor that does not.
-  feeding-b : (t p : ℕ) {cs : List Copy} {es ls fs : List Outcome} → Beside cs es ls fs → Safe t cs
+  feeding-between : (t p : ℕ) {cs : List Copy} {es ls fs : List Outcome} → Beside cs es ls fs → Safe t cs
       → (ds : List Copy) × Beside ds (feeding j t p es) (feeding j t p ls) (feeding j t p fs)
       × (free p ≡ true → any (λ c. free (c .processor)) ds ≡ true)
-  feeding-b t p {cs = cs} b s = (keep (λ c. eqb (c .task) t) cs, task-b t b, λ h. safe-free t cs s)
+  feeding-between t p {cs = cs} b s = (keep (λ c. eqb (c .task) t) cs, task-between t b, λ h. safe-free t cs s)
 
-  arrival-b : (p : ℕ) (e : Edge) {cs : List Copy} {es ls fs : List Outcome} → Beside cs es ls fs → Safe (e .from) cs
+  arrival-between : (p : ℕ) (e : Edge) {cs : List Copy} {es ls fs : List Outcome} → Beside cs es ls fs → Safe (e .from) cs
       → Between (free p) (arrival j least es p e) (arrival j largest ls p e) (arrival j least fs p e)
   unfolding arrival
-  arrival-b p e b s =
-      let (ds, r, h) = feeding-b (e .from) p b s in
-      sure-b (free p) h (least-b (λ q. after (message j e q p)) (λ q s x y z. after-b (message j e q p)) r)
+  arrival-between p e b s =
+      let (ds, r, h) = feeding-between (e .from) p b s in
+      sure-between (free p) h (least-between (λ q. after (message j e q p)) (λ q s x y z. after-between (message j e q p)) r)
 
   -- Every predecessor of t is safe.
   abbrev FedSafely : ℕ → List Copy → Type 0
   FedSafely t cs = (e : Edge) → In e (incoming j t) → Safe (e .from) cs
 
-  finish-b : (c : Copy) {cs : List Copy} {es ls fs : List Outcome} → Beside cs es ls fs → FedSafely (c .task) cs
+  finish-between : (c : Copy) {cs : List Copy} {es ls fs : List Outcome} → Beside cs es ls fs → FedSafely (c .task) cs
       → Between (free (c .processor)) (finish j least [] es c) (finish j largest [] ls c) (finish j least stops fs c)
   unfolding finish start dataReady stopTime
-  finish-b c {es = es} {ls = ls} {fs = fs} b h =
+  finish-between c {es = es} {ls = ls} {fs = fs} b h =
       let p = c .processor in
-      stopped-b (stopTime stops p) (after-b (c .run) (later-b (ready-b p b)
-      (largest-b (free p) (arrival j least es p) (arrival j largest ls p) (arrival j least fs p) (incoming j (c .task)) (λ e i. arrival-b p e b (h e i)))))
+      stopped-between (stopTime stops p) (after-between (c .run) (later-between (ready-between p b)
+      (largest-between (free p) (arrival j least es p) (arrival j largest ls p) (arrival j least fs p) (incoming j (c .task)) (λ e i. arrival-between p e b (h e i)))))
 
   -- Each of the copies is fed by those before it, after those that are placed.
   abbrev pub Supplied : List Copy → List Copy → Type 0
   Supplied placed [] = Unit {0}
   Supplied placed (c ∷ cs) = FedSafely (c .task) placed × Supplied (c ∷ placed) cs
 
-  pub walk-b : (cs : List Copy) {placed : List Copy} {es ls fs : List Outcome} → Supplied placed cs → Beside placed es ls fs
+  pub walk-between : (cs : List Copy) {placed : List Copy} {es ls fs : List Outcome} → Supplied placed cs → Beside placed es ls fs
       → Beside cs (walk j least [] es cs) (walk j largest [] ls cs) (walk j least stops fs cs)
   unfolding walk
-  walk-b [] s b = none
-  walk-b (c ∷ cs) (s, ss) b = let x = finish-b c b s in next x (walk-b cs ss (next x b))
+  walk-between [] s b = none
+  walk-between (c ∷ cs) (s, ss) b = let x = finish-between c b s in next x (walk-between cs ss (next x b))
 
-  first-b : (t : ℕ) {cs : List Copy} {es ls fs : List Outcome} → Beside cs es ls fs → Safe t cs
+  first-between : (t : ℕ) {cs : List Copy} {es ls fs : List Outcome} → Beside cs es ls fs → Safe t cs
       → Between true (least (times (ofTask t es))) (largest (times (ofTask t ls))) (least (times (ofTask t fs)))
-  first-b t {cs = cs} b s = sure-b true (λ _. safe-free t cs s) (least-b (λ q x. x) (λ q s x y z r. r) (task-b t b))
+  first-between t {cs = cs} b s = sure-between true (λ _. safe-free t cs s) (least-between (λ q x. x) (λ q s x y z r. r) (task-between t b))
 
   -- Every task is safe: the ends of the round.
-  end-b : {cs : List Copy} {es ls fs : List Outcome} → Beside cs es ls fs → ((t : ℕ) → t < j .tasks → Safe t cs)
+  end-between : {cs : List Copy} {es ls fs : List Outcome} → Beside cs es ls fs → ((t : ℕ) → t < j .tasks → Safe t cs)
       → Between true (end j least es) (end j largest ls) (end j least fs)
   unfolding end exits
-  end-b {es = es} {ls = ls} {fs = fs} b h =
-      largest-b true (λ t. least (times (ofTask t es))) (λ t. largest (times (ofTask t ls))) (λ t. least (times (ofTask t fs)))
-      (exits j) (λ t i. first-b t b (h t (in-below (j .tasks) t (in-keep (λ t. empty (outgoing j t)) t (below (j .tasks)) i .0))))
+  end-between {es = es} {ls = ls} {fs = fs} b h =
+      largest-between true (λ t. least (times (ofTask t es))) (λ t. largest (times (ofTask t ls))) (λ t. least (times (ofTask t fs)))
+      (exits j) (λ t i. first-between t b (h t (in-below (j .tasks) t (in-keep (λ t. empty (outgoing j t)) t (below (j .tasks)) i .0))))
 
   -- Every task has a copy on a processor that does not stop -----------------------------------------------------
 
@@ -318,11 +318,11 @@ facts-accepted j p f =
 -- The guarantee -----------------------------------------------------------------------------------------------
 
 -- Lines in order, one for each task, each with a processor that does not stop: the outcomes side by side, and every task safe.
-lines-b : (j : Job) (stops : List Stop) (ns : List Line) → Ordered j [] ns → length ns ≡ j .tasks → Spared j stops ns
+lines-between : (j : Job) (stops : List Stop) (ns : List Line) → Ordered j [] ns → length ns ≡ j .tasks → Spared j stops ns
     → Beside j stops (copies j ns) (earlies j ns) (lates j ns) (replay j stops ns) × ((t : ℕ) → t < j .tasks → Safe j stops t (copies j ns))
 unfolding earlies lates replay
-lines-b j stops ns o c s = (
-  walk-b j stops (copies j ns) (supply j stops ns [] [] o s (λ u i. absurd i)) none,
+lines-between j stops ns o c s = (
+  walk-between j stops (copies j ns) (supply j stops ns [] [] o s (λ u i. absurd i)) none,
   λ t h. safe-lines j stops ns s t (each-task j ns o c t h),
 )
 
@@ -336,13 +336,13 @@ few-stops j stops ns o d few n i =
     let (p, k, e) = spare (processorsOf n) (map (λ s. s .processor) stops) (d n i) w in
     (p, k, not-stopped j p stops e)
 
-value-b : {e l : ℕ} {f : Time} → Between true (tick e) (tick l) f → (x : ℕ) × (f ≡ tick x) × (e ≤ x) × (x ≤ l)
-value-b (within {f = x} (a, b)) = (x, refl, a, b)
+value-between : {e l : ℕ} {f : Time} → Between true (tick e) (tick l) f → (x : ℕ) × (f ≡ tick x) × (e ≤ x) × (x ≤ l)
+value-between (within {f = x} (a, b)) = (x, refl, a, b)
 
 -- What is sure comes, by all three equations.
-comes-b : {e l f : Time} → Between true e l f
+comes-between : {e l f : Time} → Between true e l f
     → (x : ℕ) × (y : ℕ) × (z : ℕ) × (e ≡ tick x) × (l ≡ tick y) × (f ≡ tick z) × (x ≤ z) × (z ≤ y)
-comes-b (within {e = e} {l = l} {f = f} (a, b)) = (e, l, f, refl, refl, refl, a, b)
+comes-between (within {e = e} {l = l} {f = f} (a, b)) = (e, l, f, refl, refl, refl, a, b)
 
 -- An accepted plan, and no more stops than the job bears: every task has a first finish, and the round ends between M* and M.
 pub kept : (l : Limits) (j : Job) (p : Plan) (stops : List Stop) → PlanFacts l j p → planRefusal j p ≡ 0 → length stops ≤ j .losses
@@ -351,8 +351,8 @@ pub kept : (l : Limits) (j : Job) (p : Plan) (stops : List Stop) → PlanFacts l
 unfolding firstFinish roundEnd bestEnd worstEnd
 kept l j p stops g h few =
     let a = accepted-facts j p h in
-    let (b, s) = lines-b j stops (p .lines) (g .ordered) (g .count) (few-stops j stops (p .lines) (g .ordered) (a .apart) few) in
-    (λ t i. let r = comes-b (first-b j stops t b (s t i)) in (r .2, r .5), value-b (rw (a .best-end, a .worst-end) at (end-b j stops b s)))
+    let (b, s) = lines-between j stops (p .lines) (g .ordered) (g .count) (few-stops j stops (p .lines) (g .ordered) (a .apart) few) in
+    (λ t i. let r = comes-between (first-between j stops t b (s t i)) in (r .2, r .5), value-between (rw (a .best-end, a .worst-end) at (end-between j stops b s)))
 
 -- With no stop it ends at M*.
 pub quiet : (j : Job) (p : Plan) → planRefusal j p ≡ 0 → roundEnd j (replay j [] (p .lines)) ≡ tick (p .best)
@@ -365,12 +365,12 @@ quiet j p h = accepted-facts j p h .best-end
 abbrev pub Come : List Outcome → Type 0
 Come ds = (d : Outcome) → In d ds → (x : ℕ) × (d .time ≡ tick x)
 
-come-b : {j : Job} {cs : List Copy} {es ls fs : List Outcome} → Beside j [] cs es ls fs → Come es × Come ls
+come-between : {j : Job} {cs : List Copy} {es ls fs : List Outcome} → Beside j [] cs es ls fs → Come es × Come ls
 unfolding stopTime
-come-b none = (λ d i. absurd i, λ d i. absurd i)
-come-b (next b r) =
-    let c = comes-b b in
-    let (es, ls) = come-b r in
+come-between none = (λ d i. absurd i, λ d i. absurd i)
+come-between (next b r) =
+    let c = comes-between b in
+    let (es, ls) = come-between r in
     (λ d. ⊎-elim (λ q. (c .0, ap (λ d. d .time) (sym q) ∙ c .3)) (es d), λ d. ⊎-elim (λ q. (c .1, ap (λ d. d .time) (sym q) ∙ c .4)) (ls d))
 
 -- A line has a copy, so it has a processor that does not stop.
@@ -387,7 +387,7 @@ pub all-come : (j : Job) (ns : List Line) → Ordered j [] ns → length ns ≡ 
     → Come (earlies j ns) × Come (lates j ns) × ((x : ℕ) × (bestEnd j ns ≡ tick x)) × ((x : ℕ) × (worstEnd j ns ≡ tick x))
 unfolding bestEnd worstEnd
 all-come j ns o c =
-    let (b, s) = lines-b j [] ns o c (no-stops j ns o) in
-    let (es, ls) = come-b b in
-    let c = comes-b (end-b j [] b s) in
+    let (b, s) = lines-between j [] ns o c (no-stops j ns o) in
+    let (es, ls) = come-between b in
+    let c = comes-between (end-between j [] b s) in
     (es, ls, (c .0, c .3), (c .1, c .4))

@@ -18,9 +18,9 @@ use Rattle.definitions.specs.Replay.{replay, firstFinish, roundEnd, resu
 use Rattle.definitions.specs.Answers.{accepted, doubled, verdict, planned, replayed}
 
 -- A task's boxes are those of its T line, each taken once.
-unfoldable pub boxesOf : ℕ → List Line → List ℕ
-boxesOf t [] = []
-boxesOf t (n ∷ ns) = let others = boxesOf t ns in if eqb (n .task) t then processorsOf n else others
+unfoldable pub taskProcessors : ℕ → List Line → List ℕ
+taskProcessors t [] = []
+taskProcessors t (n ∷ ns) = let others = taskProcessors t ns in if eqb (n .task) t then processorsOf n else others
 
 unfoldable pub once : List ℕ → List ℕ
 once [] = []
@@ -32,7 +32,7 @@ halted ps = map (λ p. record { processor = p; tick = 0 }) ps
 
 -- The stop list of demand 3's second half, for task t.
 abbrev pub haltingOf : ℕ → List Line → List Stop
-haltingOf t ns = halted (once (boxesOf t ns))
+haltingOf t ns = halted (once (taskProcessors t ns))
 
 -- A time does not pass b; no time of some outcomes does.
 abbrev pub Within : ℕ → Time → Type 0

@@ -25,8 +25,8 @@ lowest (p ∷ []) = p
 lowest (p ∷ q ∷ ps) = min p (lowest (q ∷ ps))
 
 -- The box of the first finish x, "ties: lowest box".
-unfoldable pub firstBox : ℕ → Time → List Outcome → ℕ
-firstBox t x ds = lowest (map (λ d. d .processor) (keep (λ d. same (d .time) x) (ofTask t ds)))
+unfoldable pub firstProcessor : ℕ → Time → List Outcome → ℕ
+firstProcessor t x ds = lowest (map (λ d. d .processor) (keep (λ d. same (d .time) x) (ofTask t ds)))
 
 -- "The largest first finish of the exit tasks"; never, if one has none.
 unfoldable pub roundEnd : Job → List Outcome → Time
@@ -41,7 +41,7 @@ module _ (l : Limits) where
   -- "For each task, in task order".
   unfoldable pub resultLines : List ℕ → List Outcome → List ℕ
   resultLines [] ds = []
-  resultLines (t ∷ ts) ds = resultLine t (firstFinish t ds) (firstBox t (firstFinish t ds) ds) ++ resultLines ts ds
+  resultLines (t ∷ ts) ds = resultLine t (firstFinish t ds) (firstProcessor t (firstFinish t ds) ds) ++ resultLines ts ds
 
   -- `L,tick` or `L,-`
   abbrev pub endLine : Time → List ℕ

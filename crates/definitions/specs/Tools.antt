@@ -11,7 +11,7 @@ use Rattle.definitions.specs.Stops.{stopLine, stopRule, readStops}
 use Rattle.definitions.specs.Times.{least, largest, ofTask, firstReady, ready, arrival, dataReady, start, stopTime, finish, walk, copies, earlies, lates, exits, end, bestEnd, worstEnd}
 use Rattle.definitions.specs.Refusals.{doubledTasks, replicasOf, sameTimes, ticksAgree, endsAgree, planRefusal}
 use Rattle.definitions.specs.Planner.{greatestOf, waitingFrom, scaledRun, totalDelay, raised, settled, bottomLevels, largestDelay, topLevel, freeTasks, ranked, criticalTask, trial, chosen, replicas, place, planFor}
-use Rattle.definitions.specs.Replay.{replay, firstFinish, lowest, firstBox, roundEnd, resultLines, replayText}
+use Rattle.definitions.specs.Replay.{replay, firstFinish, lowest, firstProcessor, roundEnd, resultLines, replayText}
 pub use Rattle.definitions.specs.Answers.{Verdict, accepted, doubled, rejected}
 unfoldable pub use Rattle.definitions.specs.Answers.{fitting, Says, planned, planAnswer, verdictOf, verdictFor, verdictOn, verdict, replayed, replayAnswer, printed, checkPrinted, numbered}
 
@@ -30,7 +30,7 @@ unfolding countFrom keep any all sameNumbers distinct sum greatest firstOf digit
     decimal numbersText lineText lines linesToEnd runTime delay incoming outgoing edgeOrder preceded remaining circular jobHead jobHeadRule
     runRule delayRule edgeLine edgeRule jobLines readJob triples descends planHead planHeadRule strays planLine planLineRule planLines
     readPlan stopLine stopRule readStops least largest ofTask firstReady ready arrival dataReady start stopTime finish walk exits end copies replay
-    firstFinish lowest firstBox roundEnd resultLines replayText replayed
+    firstFinish lowest firstProcessor roundEnd resultLines replayText replayed
 replayPrinted job plan stops = printed document01 (replayed document01 job plan stops)
 
 -- The checker's number for a job's and a plan's bytes, 0 for OK, and with 12 the tasks of which it is true, in plan order.

@@ -77,8 +77,8 @@ abbrev pub timeAt : Bool → ℕ → ℕ → ℕ
 timeAt late a c = a + ((if late then 3 else 2) + 3 * c)
 
 -- For each processor its largest delay to any processor, after the last line.
-abbrev pub farAt : ℕ → ℕ
-farAt rooms = 409 * rooms
+abbrev pub largestDelayAt : ℕ → ℕ
+largestDelayAt rooms = 409 * rooms
 
 -- M* of a plan that is complete, where the counts of blocking edges stood.
 abbrev pub bestAt : ℕ → ℕ

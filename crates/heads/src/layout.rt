@@ -32,4 +32,4 @@ pub const PRIORITY: usize = 201;
 pub const ROWS: usize = 209;
 
 // For each processor its largest delay.
-pub const FAR: usize = 409;
+pub const LARGEST_DELAY: usize = 409;

@@ -121,7 +121,8 @@ module _ {rooms : ℕ} {mem : List ℕ} (s : Sizes rooms mem) where
         made (k .cell 0 (omega arith) (omega arith)) (k .cell 1 (omega arith) (omega arith)) (k .cell 3 (omega arith) (omega arith)) a b c
       where
         made : {v v′ m m′ x x′ : ℕ} {rs rs′ ds ds′ : List (List ℕ)} {es es′ : List Edge} → v ≡ v′ → m ≡ m′ → x ≡ x′ → rs ≡ rs′ → ds ≡ ds′ → es ≡ es′
-            → _≡_ {A = Job} (record { tasks = v; processors = m; losses = x; runs = rs; delays = ds; edges = es }) (record { tasks = v′; processors = m′; losses = x′; runs = rs′; delays = ds′; edges = es′ })
+            → _≡_ {A =
+            Job} (record { tasks = v; processors = m; losses = x; runs = rs; delays = ds; edges = es }) (record { tasks = v′; processors = m′; losses = x′; runs = rs′; delays = ds′; edges = es′ })
         made p q r s t u = rw (p, q, r, s, t, u)
 
 -- A job that is as it was stands in a memory of the same size.

@@ -57,5 +57,5 @@ pub record JobHeld (rooms : ℕ) (mem : List ℕ) : Type 0 where
   pub facts : JobFacts document01 (jobIn mem)
 
 -- A job stands in a memory of some size.
-abbrev pub JobStands : List ℕ → Type 0
-JobStands mem = (rooms : ℕ) × JobHeld rooms mem
+abbrev pub SomeJobHeld : List ℕ → Type 0
+SomeJobHeld mem = (rooms : ℕ) × JobHeld rooms mem

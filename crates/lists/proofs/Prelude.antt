@@ -26,7 +26,7 @@ pub use Rattle.definitions.specs.Planner.{Waiting, goesBefore, scale, tickOf}
 unfoldable pub use Rattle.definitions.specs.Planner.{bottomLevels, freeTasks, largestDelay, place, planFor, ranked, replicas, scaledRun, topLevel, totalDelay, trial, waitingFrom}
 unfoldable pub use Rattle.definitions.specs.Refusals.{doubledTasks, endsAgree, ticksAgree}
 pub use Rattle.definitions.specs.Replay.{endLine, resultLine}
-unfoldable pub use Rattle.definitions.specs.Replay.{firstBox, firstFinish, lowest, replay, replayText, resultLines, roundEnd}
+unfoldable pub use Rattle.definitions.specs.Replay.{firstProcessor, firstFinish, lowest, replay, replayText, resultLines, roundEnd}
 pub use Rattle.definitions.specs.Stops.{Stop}
 unfoldable pub use Rattle.definitions.specs.Stops.{readStops}
 pub use Rattle.definitions.specs.Text.{Reader, Reading, Result, andThen, bad, due, ended, found, good, isDigit, mark, next, refused, return}

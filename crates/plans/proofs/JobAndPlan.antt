@@ -4,11 +4,11 @@ use Rattle.definitions.specs.Facts.{PlanFacts}
 use Rattle.definitions.proofs.Reading.{andThen-good, plan-facts}
 use Rattle.text.specs.declared.Step.{Step}
 use Rattle.text.specs.declared.Step.the-variants.{Next, Refused}
-use Rattle.heads.specs.Layout.{lineAt, farAt}
+use Rattle.heads.specs.Layout.{lineAt, largestDelayAt}
 use Rattle.jobs.specs.Held.{jobIn, JobHeld, LinksHeld}
 use Rattle.jobs.specs.Loading.{JobLoaded}
 use Rattle.lists.specs.Kept.{KeptOutside}
-use Rattle.plans.specs.Lines.{Standing}
+use Rattle.plans.specs.Lines.{LinesHeld}
 use Rattle.plans.specs.Loading.{planIn, PlanLoaded, PlanHeld, withPlan, BothLoaded}
 use Rattle.jobs.proofs.Held.{job-kept, links-kept}
 use Rattle.jobs.proofs.Loads.{loaded-job, refused-job}
@@ -30,7 +30,8 @@ module _ (rooms : ℕ) (x : Result Job) (plan d links : List ℕ) (n : ℕ) wher
     job-standing = let (_, j, i) = loaded-job rooms x d links n h in (j, i)
 
     -- So was the plan.
-    pub both-loaded : (f : List ℕ) (r : Step) → KeptOutside (lineAt rooms) (farAt rooms) d f → PlanLoaded rooms (readPlan document01 (jobIn d) plan) f r → BothLoaded rooms (withPlan x plan) f links r
+    pub both-loaded : (f : List ℕ) (r : Step) → KeptOutside (lineAt rooms) (largestDelayAt rooms) d f → PlanLoaded rooms (readPlan document01 (jobIn d) plan) f r
+        → BothLoaded rooms (withPlan x plan) f links r
     unfolding withPlan
     both-loaded f r c g = rw (loaded-job rooms x d links n h .0) (by (readPlan document01 (jobIn d) plan) g)
       where
@@ -47,7 +48,7 @@ module _ (rooms : ℕ) (mem links : List ℕ) (n : ℕ) where
   both-no (good (j, p)) ((k, e), _, _, _, _) = absurd (let z : _≡_ {A = ℕ} 0 1 = cc in omega arith)
   both-no (bad k) e = cc
 
-  pub both-next : (x : Result (Job × Plan)) → BothLoaded rooms x mem links (Next n) → (x ≡ good (jobIn mem, planIn rooms mem)) × Standing rooms (nth mem 0) mem × LinksHeld mem links
+  pub both-next : (x : Result (Job × Plan)) → BothLoaded rooms x mem links (Next n) → (x ≡ good (jobIn mem, planIn rooms mem)) × LinesHeld rooms (nth mem 0) mem × LinksHeld mem links
   both-next (good (j, p)) (_, e, f, s, l) = (rw (e, f), s, l)
   both-next (bad k) e = absurd (let z : _≡_ {A = ℕ} 0 1 = cc in omega arith)
 

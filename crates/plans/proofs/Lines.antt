@@ -1,7 +1,7 @@
 -- The lines of a plan in a memory, after a change elsewhere.
 use Rattle.lists.proofs.Prelude.{_≡_, refl, ap, _∙_, _⊎_, inl, inr, ⊎-elim, List, Bool, true, false, ℕ, zero, suc, _+_, _*_, _-_, _%_, _<_, _≤_, arith, length, nth}
 use Rattle.heads.specs.Layout.{jobSize, levelAt, lineAt, blockedAt, rowAt, processorAt, earlyAt, lateAt, timeAt}
-use Rattle.plans.specs.Lines.{rowEnd, rowOutcomes, placedIn, rowReplicas, linesIn, RowHeld, Standing}
+use Rattle.plans.specs.Lines.{rowEnd, rowOutcomes, placedIn, rowReplicas, linesIn, RowHeld, LinesHeld}
 use Rattle.lists.specs.Kept.{KeptOutside}
 use Rattle.lists.proofs.Kept.{Same, same-part, same-before, same-behind}
 use Rattle.jobs.proofs.Held.{sizes, Sizes, held-same}
@@ -75,7 +75,7 @@ row-held-same {d} {e} a s j x r =
 
 -- The job, the table of lines and the first k lines are as they were.
 pub standing-same : {rooms k : ℕ} {d e : List ℕ} → length e ≡ length d → Same 0 (levelAt rooms) d e → Same (lineAt rooms) (blockedAt rooms) d e → Same (rowAt rooms 0) (rowAt rooms k) d e
-    → Standing rooms k d → Standing rooms k e
+    → LinesHeld rooms k d → LinesHeld rooms k e
 standing-same {rooms} {k} {d} {e} z j l r s =
     let w = sizes (s .job) in
     let a : Same 0 (jobSize rooms) d e = same-part 0 (jobSize rooms) j (omega arith) (omega arith) in
@@ -94,9 +94,10 @@ standing-same {rooms} {k} {d} {e} z j l r s =
     }
 
 -- A change among what serves the choice of a task, or behind the k lines.
-module _ {rooms k low high : ℕ} {d e : List ℕ} (c : KeptOutside low high d e) (s : Standing rooms k d) where
-  pub standing-choice : blockedAt rooms ≤ low → high ≤ rowAt rooms 0 → Standing rooms k e
+module _ {rooms k low high : ℕ} {d e : List ℕ} (c : KeptOutside low high d e) (s : LinesHeld rooms k d) where
+  pub standing-choice : blockedAt rooms ≤ low → high ≤ rowAt rooms 0 → LinesHeld rooms k e
   standing-choice a b = standing-same (c .size) (same-before 0 (levelAt rooms) c (omega arith)) (same-before (lineAt rooms) (blockedAt rooms) c a) (same-behind (rowAt rooms 0) (rowAt rooms k) c b) s
 
-  pub standing-behind : rowAt rooms k ≤ low → Standing rooms k e
-  standing-behind a = standing-same (c .size) (same-before 0 (levelAt rooms) c (omega arith)) (same-before (lineAt rooms) (blockedAt rooms) c (omega arith)) (same-before (rowAt rooms 0) (rowAt rooms k) c a) s
+  pub standing-behind : rowAt rooms k ≤ low → LinesHeld rooms k e
+  standing-behind a =
+      standing-same (c .size) (same-before 0 (levelAt rooms) c (omega arith)) (same-before (lineAt rooms) (blockedAt rooms) c (omega arith)) (same-before (rowAt rooms 0) (rowAt rooms k) c a) s

@@ -5,7 +5,7 @@ use Rattle.definitions.specs.Plan.{PlanHead, strays}
 use Rattle.definitions.proofs.Lists.{neither, inside, not-outside, either-right, in-append, append-left, append-right, in-has, has-not, in-keep}
 use Rattle.heads.specs.Layout.{lineAt, rowAt, processorAt, earlyAt, lateAt}
 use Rattle.jobs.specs.Held.{jobIn, JobHeld, LinksHeld}
-use Rattle.plans.specs.Lines.{replicaIn, replicaStrays, rowReplicas, linesIn, RowHeld, Standing}
+use Rattle.plans.specs.Lines.{replicaIn, replicaStrays, rowReplicas, linesIn, RowHeld, LinesHeld}
 use Rattle.orders.specs.Edges.{edgeIn}
 use Rattle.orders.specs.Links.{Run, inStartAt, linkIn}
 use Rattle.orders.proofs.LinkIn.{link-in}
@@ -257,7 +257,7 @@ module _ (rooms w : ℕ) (mem : List ℕ) where
       (in-append t (tasksIn k) (nth mem (rowAt rooms k) ∷ []) (rw (tasks-last k) at m))
 
   -- A task is in one of the lines exactly if the table has its line.
-  pub has-line : (k t : ℕ) → Standing rooms k mem → t < nth mem 0 → has t (tasksIn k) ≡ hasLine rooms mem t
+  pub has-line : (k t : ℕ) → LinesHeld rooms k mem → t < nth mem 0 → has t (tasksIn k) ≡ hasLine rooms mem t
   has-line k t s h =
       ⊎-elim
       (λ (z : nth mem (lineAt rooms + t) ≡ 0).
@@ -272,7 +272,7 @@ module _ (rooms w : ℕ) (mem : List ℕ) where
 
 -- The rule of a line ----------------------------------------------------------------------------------------------------
 
-module _ {rooms : ℕ} (mem : List ℕ) (a k : ℕ) (s : Standing rooms k mem) where
+module _ {rooms : ℕ} (mem : List ℕ) (a k : ℕ) (s : LinesHeld rooms k mem) where
   abbrev seen : List Line
   seen = linesIn rooms (nth mem 3 + 1) k mem
 

@@ -2,9 +2,9 @@
 use Rattle.lists.proofs.Prelude.{_≡_, refl, ap, sym, subst, _∙_, _⊎_, inl, inr, ⊎-elim, List, [], _∷_, _++_, ℕ, zero, suc, _+_, _-_, _*_, _<_, _≤_, arith, add-zero, sub-zero, add-one, length, set, take, drop, length-drop, List·getD-append, drop-at, length-take-le, take-all, take-add, drop-cons, getD-take, getD-drop, getD-set-same, getD-set-other, bytes, nth, document01, Reading, Reader, found, refused, line, lines, Job, Replica, Line, planLineRule}
 use borrow.Rule.Slice.PartMut.{midOf, postOf, putMid, take-put, drop-put, same-len-mid, mid-len}
 use Rattle.definitions.specs.Plan.{triples, lineOf, planLine}
-use Rattle.heads.specs.Layout.{levelAt, lineAt, blockedAt, rowAt, farAt}
+use Rattle.heads.specs.Layout.{levelAt, lineAt, blockedAt, rowAt, largestDelayAt}
 use Rattle.jobs.specs.Held.{jobIn, JobHeld, LinksHeld}
-use Rattle.plans.specs.Lines.{lineCells, rowEnd, rowReplicas, linesIn, RowHeld, Standing}
+use Rattle.plans.specs.Lines.{lineCells, rowEnd, rowReplicas, linesIn, RowHeld, LinesHeld}
 use Rattle.lists.specs.Kept.{KeptOutside}
 use Rattle.text.specs.declared.Step.{Step}
 use Rattle.text.specs.declared.Step.the-variants.{Next, Refused}
@@ -18,7 +18,8 @@ use Rattle.plans.proofs.Lines.{lines-same, row-held-same, standing-behi
 
 -- The table of lines, emptied -------------------------------------------------------------------------------------------
 
-pub cleared-more : (rooms : ℕ) (d : List ℕ) (t : ℕ) → lineAt rooms + t < length d → ((u : ℕ) → u < t → nth d (lineAt rooms + u) ≡ 0) → (u : ℕ) → u < t + 1 → nth (set d (lineAt rooms + t) 0) (lineAt rooms + u) ≡ 0
+pub cleared-more : (rooms : ℕ) (d : List ℕ) (t : ℕ) → lineAt rooms + t < length d → ((u : ℕ) → u < t → nth d (lineAt rooms + u) ≡ 0) → (u : ℕ) → u < t + 1
+    → nth (set d (lineAt rooms + t) 0) (lineAt rooms + u) ≡ 0
 cleared-more rooms d t l h u g =
     ⊎-elim
     (λ (e : u ≡ t). rw e (getD-set-same d (lineAt rooms + t) 0 0 l))
@@ -26,7 +27,7 @@ cleared-more rooms d t l h u g =
     (last-or-before t u (omega arith))
 
 -- No line yet.
-pub standing-none : {rooms : ℕ} {d : List ℕ} → JobHeld rooms d → ((t : ℕ) → t < 8 * rooms → nth d (lineAt rooms + t) ≡ 0) → Standing rooms 0 d
+pub standing-none : {rooms : ℕ} {d : List ℕ} → JobHeld rooms d → ((t : ℕ) → t < 8 * rooms → nth d (lineAt rooms + t) ≡ 0) → LinesHeld rooms 0 d
 standing-none h z =
     let w = sizes h in
     record {
@@ -39,7 +40,7 @@ standing-none h z =
     }
 
 -- The line of row k, of a task, gets its place in the table.
-module _ {rooms k : ℕ} {d : List ℕ} (s : Standing rooms k d) (b : k < nth d 0) (task : ℕ) (here : nth d (rowAt rooms k) ≡ task) (t : task < nth d 0)
+module _ {rooms k : ℕ} {d : List ℕ} (s : LinesHeld rooms k d) (b : k < nth d 0) (task : ℕ) (here : nth d (rowAt rooms k) ≡ task) (t : task < nth d 0)
     (z : nth d (lineAt rooms + task) ≡ 0) (r : RowHeld (rowAt rooms k) d) where
   abbrev e : List ℕ
   e = set d (lineAt rooms + task) (suc k)
@@ -94,7 +95,7 @@ module _ {rooms k : ℕ} {d : List ℕ} (s : Standing rooms k d) (b : k < nth d 
   of-row : (i : ℕ) → i < suc k → RowHeld (rowAt rooms i) d
   of-row i h = ⊎-elim (λ (q : i ≡ k). rw q r) (λ l. s .row i l) (last-or-before k i h)
 
-  pub standing-more : Standing rooms (suc k) (set d (lineAt rooms + task) (suc k))
+  pub standing-more : LinesHeld rooms (suc k) (set d (lineAt rooms + task) (suc k))
   standing-more =
       let c : KeptOutside (lineAt rooms) (blockedAt rooms) d e = kept-set (lineAt rooms + task) (suc k) kept-all (omega arith) (omega (arith, w)) in
       record {
@@ -198,14 +199,14 @@ refused-no : {A : Type 0} (x n : ℕ) → Refused x ≡ Next n → A
 refused-no x n e = let z : _≡_ {A = ℕ} 0 1 = cc in absurd (omega (arith, z))
 
 -- The row of one line more ends within the memory.
-pub row-within : {rooms k : ℕ} {d : List ℕ} → Standing rooms k d → k < nth d 0 → rowEnd (rowAt rooms k) ≤ length d
+pub row-within : {rooms k : ℕ} {d : List ℕ} → LinesHeld rooms k d → k < nth d 0 → rowEnd (rowAt rooms k) ≤ length d
 row-within u h = omega (arith, sizes (u .job), h)
 
-pub row-numbers : {rooms k : ℕ} {d : List ℕ} → Standing rooms k d → lineCells d ≤ rowEnd 0
+pub row-numbers : {rooms k : ℕ} {d : List ℕ} → LinesHeld rooms k d → lineCells d ≤ rowEnd 0
 row-numbers u = omega (arith, sizes (u .job) .losses-most)
 
 -- k lines stand in d, and the numbers of one more, n, were read from the text s into its row, at a.
-module _ {rooms k : ℕ} {d : List ℕ} (u : Standing rooms k d) (h : k < nth d 0) (a n : ℕ) (z : a ≡ rowAt rooms k) (q : n ≡ lineCells d) (ys : List ℕ)
+module _ {rooms k : ℕ} {d : List ℕ} (u : LinesHeld rooms k d) (h : k < nth d 0) (a n : ℕ) (z : a ≡ rowAt rooms k) (q : n ≡ lineCells d) (ys : List ℕ)
     (l : length ys ≡ length (midOf a (a + n - a) d)) where
   abbrev seen : List Line
   seen = linesIn rooms (nth d 3 + 1) k d
@@ -231,10 +232,10 @@ module _ {rooms k : ℕ} {d : List ℕ} (u : Standing rooms k d) (h : k < nth d 
   row-kept : KeptOutside a (a + n) d filled
   row-kept = lent-kept a (a + n) d ys (omega arith) within width
 
-  all-kept : KeptOutside (lineAt rooms) (farAt rooms) d filled
-  all-kept = kept-wider (lineAt rooms) (farAt rooms) row-kept (omega (arith, z)) (omega (arith, limits, fits, h, z))
+  all-kept : KeptOutside (lineAt rooms) (largestDelayAt rooms) d filled
+  all-kept = kept-wider (lineAt rooms) (largestDelayAt rooms) row-kept (omega (arith, z)) (omega (arith, limits, fits, h, z))
 
-  pub line-standing : Standing rooms k (putMid a (a + n - a) d ys)
+  pub line-standing : LinesHeld rooms k (putMid a (a + n - a) d ys)
   line-standing = standing-behind row-kept u (omega (arith, z))
 
   pub line-links : {links : List ℕ} → LinksHeld d links → LinksHeld (putMid a (a + n - a) d ys) links
@@ -297,7 +298,7 @@ module _ {rooms k : ℕ} {d : List ℕ} (u : Standing rooms k d) (h : k < nth d 
           let w : nth d 3 + 1 ≤ 8 = omega (arith, limits) in
           rw (add-one k)
           (record {
-            kept = kept-then all-kept (kept-wider (lineAt rooms) (farAt rooms) c (omega arith) (omega arith));
+            kept = kept-then all-kept (kept-wider (lineAt rooms) (largestDelayAt rooms) c (omega arith) (omega arith));
             latest = lineIn a filled;
             answer = ruled-yes (formOf d) (ruleOf d) seen (drop at s) (lineIn a filled) (drop r s) read-line x by-rule g;
             standing = λ m f. standing-more line-standing (omega (arith, all-kept .before 0 (omega arith), h)) (nth filled a) (ap (nth filled) (sym z)) b v
@@ -316,11 +317,11 @@ allLines d s at = lines (planLine document01 (jobIn d)) (planLineRule document01
 -- k lines were read, up to the place p of the text s, into the memory d.
 pub record LinesUpTo (rooms : ℕ) (s : List ℕ) (at : ℕ) (d : List ℕ) (k p : ℕ) (mem : List ℕ) : Type 0 where
   pub job : JobHeld rooms d
-  pub kept : KeptOutside (lineAt rooms) (farAt rooms) d mem
-  pub standing : Standing rooms k mem
+  pub kept : KeptOutside (lineAt rooms) (largestDelayAt rooms) d mem
+  pub standing : LinesHeld rooms k mem
   pub rest : lines (planLine document01 (jobIn d)) (planLineRule document01 (jobIn d)) (nth d 0 - k) (linesIn rooms (nth d 3 + 1) k mem) (drop p s) ≡ allLines d s at
 
-pub upto-none : {rooms : ℕ} (s : List ℕ) (at : ℕ) (d : List ℕ) → Standing rooms 0 d → LinesUpTo rooms s at d 0 at d
+pub upto-none : {rooms : ℕ} (s : List ℕ) (at : ℕ) (d : List ℕ) → LinesHeld rooms 0 d → LinesUpTo rooms s at d 0 at d
 unfolding linesIn
 upto-none s at d h = record { job = h .job; kept = kept-all; standing = h; rest = rw sub-zero }
 
@@ -332,7 +333,7 @@ module _ {rooms : ℕ} {s : List ℕ} {at : ℕ} {d : List ℕ} {k p : ℕ} {mem
   losses-kept = u .kept .before 3 (omega arith)
 
   -- All lines were read.
-  pub upto-end : nth d 0 ≤ k → (found (linesIn rooms (nth mem 3 + 1) (nth mem 0) mem) (drop p s) ≡ allLines d s at) × Standing rooms (nth mem 0) mem
+  pub upto-end : nth d 0 ≤ k → (found (linesIn rooms (nth mem 3 + 1) (nth mem 0) mem) (drop p s) ≡ allLines d s at) × LinesHeld rooms (nth mem 0) mem
   upto-end h =
       let e : nth mem 0 ≡ k = omega (arith, u .standing .count, tasks-kept, h) in
       (rw (e, losses-kept) (lines-end (formOf d) (ruleOf d) (nth d 0) k (linesIn rooms (nth d 3 + 1) k mem) (drop p s) h ∙ u .rest), rw e (u .standing))
@@ -345,7 +346,7 @@ module _ {rooms : ℕ} {s : List ℕ} {at : ℕ} {d : List ℕ} {k p : ℕ} {mem
         ∙ ap (λ (j : Job). ruled (planLine document01 j) (planLineRule document01 j) (linesIn rooms (nth mem 3 + 1) k mem) (drop p s)) (job-kept (u .job) (u .kept) (omega arith))
         ∙ ap (λ (z : ℕ). ruled (formOf d) (ruleOf d) (linesIn rooms (z + 1) k mem) (drop p s)) losses-kept
 
-    pub upto-kept : KeptOutside (lineAt rooms) (farAt rooms) d new
+    pub upto-kept : KeptOutside (lineAt rooms) (largestDelayAt rooms) d new
     upto-kept = kept-then (u .kept) (v .kept)
 
     pub upto-no : (x : ℕ) → r ≡ Refused x → refused x ≡ allLines d s at

@@ -4,7 +4,7 @@ use Rattle.definitions.specs.Plan.{planHead, planLines}
 use Rattle.text.specs.declared.Step.the-variants.{Next, Refused}
 use Rattle.heads.specs.Layout.{lineAt, blockedAt, rowAt, bestAt, worstAt}
 use Rattle.jobs.specs.Held.{jobIn, JobHeld}
-use Rattle.plans.specs.Lines.{linesIn, Standing}
+use Rattle.plans.specs.Lines.{linesIn, LinesHeld}
 use Rattle.lists.specs.Kept.{KeptOutside}
 use Rattle.plans.specs.Loading.{planIn, planFrom, PlanLoaded}
 use Rattle.jobs.proofs.Held.{sizes, job-kept, held-kept, tasks-in}
@@ -52,27 +52,27 @@ module _ (d s : List ℕ) where
       pub plan-left-over : (rooms : ℕ) (mem : List ℕ) → q < length s → PlanLoaded rooms (planFrom (jobIn d) best worst (drop p s)) mem (Refused 2)
       plan-left-over rooms mem l = rw (plan-lines, ← g, drop-cons s q 0 l)
 
-      pub plan-good : {rooms : ℕ} (mem : List ℕ) → length s ≤ q → planIn rooms mem ≡ record { best = best; worst = worst; lines = ns } → Standing rooms (nth mem 0) mem
+      pub plan-good : {rooms : ℕ} (mem : List ℕ) → length s ≤ q → planIn rooms mem ≡ record { best = best; worst = worst; lines = ns } → LinesHeld rooms (nth mem 0) mem
           → PlanLoaded rooms (planFrom (jobIn d) best worst (drop p s)) mem (Next q)
       plan-good mem l m t = rw (plan-lines, ← g, drop-of-length-le s l) ((q, refl), m, t)
 
 -- The table of lines is empty.
 module _ {rooms : ℕ} {d mem : List ℕ} (h : JobHeld rooms d) (k : KeptOutside (lineAt rooms) (blockedAt rooms) d mem) where
-  pub cleared-standing : ((t : ℕ) → t < 8 * rooms → nth mem (lineAt rooms + t) ≡ 0) → Standing rooms 0 mem
+  pub cleared-standing : ((t : ℕ) → t < 8 * rooms → nth mem (lineAt rooms + t) ≡ 0) → LinesHeld rooms 0 mem
   cleared-standing z = standing-none (held-kept h k (omega arith)) z
 
   pub cleared-lines : (s : List ℕ) (p : ℕ) → allLines mem s p ≡ allLines d s p
   cleared-lines s p = rw (job-kept h k (omega arith), k .before 0 (omega arith))
 
 -- M* and M are stored.
-module _ {rooms : ℕ} (mem : List ℕ) (best worst : ℕ) (s : Standing rooms (nth mem 0) mem) where
+module _ {rooms : ℕ} (mem : List ℕ) (best worst : ℕ) (s : LinesHeld rooms (nth mem 0) mem) where
   abbrev stored : List ℕ
   stored = set (set mem (bestAt rooms) best) (worstAt rooms) worst
 
   pub stored-kept : KeptOutside (blockedAt rooms) (rowAt rooms 0) mem (set (set mem (bestAt rooms) best) (worstAt rooms) worst)
   stored-kept = kept-set (worstAt rooms) worst (kept-set (bestAt rooms) best kept-all (omega arith) (omega arith)) (omega arith) (omega arith)
 
-  pub stored-standing : Standing rooms (nth (set (set mem (bestAt rooms) best) (worstAt rooms) worst) 0) (set (set mem (bestAt rooms) best) (worstAt rooms) worst)
+  pub stored-standing : LinesHeld rooms (nth (set (set mem (bestAt rooms) best) (worstAt rooms) worst) 0) (set (set mem (bestAt rooms) best) (worstAt rooms) worst)
   stored-standing = rw (stored-kept .before 0 (omega arith)) (standing-choice stored-kept s (omega arith) (omega arith))
 
   pub stored-plan : planIn rooms (set (set mem (bestAt rooms) best) (worstAt rooms) worst) ≡ record { best = best; worst = worst; lines = linesIn rooms (nth mem 3 + 1) (nth mem 0) mem }
@@ -80,7 +80,8 @@ module _ {rooms : ℕ} (mem : List ℕ) (best worst : ℕ) (s : Standing rooms (
   stored-plan =
       let w = sizes (s .job) in
       let m : worstAt rooms < length (set mem (bestAt rooms) best) = rw (length-set mem (bestAt rooms) best) (omega arith) in
-      let a : nth stored (bestAt rooms) ≡ best = getD-set-other (set mem (bestAt rooms) best) (worstAt rooms) (bestAt rooms) worst 0 (λ e. omega arith) ∙ getD-set-same mem (bestAt rooms) best 0 (omega arith) in
+      let a : nth stored (bestAt rooms) ≡ best = getD-set-other (set mem (bestAt rooms) best) (worstAt rooms) (bestAt rooms) worst 0 (λ e. omega arith) ∙ getD-set-same mem (bestAt rooms) best 0
+      (omega arith) in
       let b : nth stored (worstAt rooms) ≡ worst = getD-set-same (set mem (bestAt rooms) best) (worstAt rooms) worst 0 m in
       rw (
         a,

@@ -63,7 +63,7 @@ pub record RowHeld (a : ℕ) (mem : List ℕ) : Type 0 where
   pub late-of : (c : ℕ) → c < nth mem 3 + 1 → Small (document01 .tick) (nth mem (lateAt a c))
 
 -- A job, and k lines of a plan, each task in one line at the most.
-pub record Standing (rooms k : ℕ) (mem : List ℕ) : Type 0 where
+pub record LinesHeld (rooms k : ℕ) (mem : List ℕ) : Type 0 where
   pub job : JobHeld rooms mem
   pub count : k ≤ nth mem 0
   pub task-of : (i : ℕ) → i < k → nth mem (rowAt rooms i) < nth mem 0

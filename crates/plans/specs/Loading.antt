@@ -12,10 +12,10 @@ use Rattle.text.specs.declared.Step.{Step}
 use Rattle.text.specs.declared.Step.the-variants.{Next}
 use Rattle.text.specs.Told.{told, stepTold, ruled}
 use Rattle.lists.specs.Kept.{KeptOutside}
-use Rattle.heads.specs.Layout.{bestAt, worstAt, lineAt, farAt}
+use Rattle.heads.specs.Layout.{bestAt, worstAt, lineAt, largestDelayAt}
 use Rattle.jobs.specs.Held.{jobIn, LinksHeld}
 use Rattle.jobs.specs.Loading.{jobFrom}
-use Rattle.plans.specs.Lines.{rowReplicas, linesIn, Standing}
+use Rattle.plans.specs.Lines.{rowReplicas, linesIn, LinesHeld}
 use Rattle.definitions.specs.Facts.{PlanFacts}
 
 -- The line at a, with the job's number of replicas.
@@ -24,10 +24,10 @@ lineIn a mem = record { task = nth mem a; replicas = rowReplicas a (nth mem 3 + 
 
 -- The answer r to the T line at a place of the text s, which becomes row k of the memory: the line, which then stands after the k lines before it, or the refusal.
 pub record LineRead (rooms k : ℕ) (s : List ℕ) (at : ℕ) (d mem : List ℕ) (r : Step) : Type 0 where
-  pub kept : KeptOutside (lineAt rooms) (farAt rooms) d mem
+  pub kept : KeptOutside (lineAt rooms) (largestDelayAt rooms) d mem
   pub latest : Line
   pub answer : told s latest r ≡ ruled (planLine document01 (jobIn d)) (planLineRule document01 (jobIn d)) (linesIn rooms (nth d 3 + 1) k d) (drop at s)
-  pub standing : (n : ℕ) → r ≡ Next n → Standing rooms (suc k) mem
+  pub standing : (n : ℕ) → r ≡ Next n → LinesHeld rooms (suc k) mem
   pub more : (n : ℕ) → r ≡ Next n → linesIn rooms (nth d 3 + 1) (suc k) mem ≡ linesIn rooms (nth d 3 + 1) k d ++ latest ∷ []
 
 -- The plan in a memory: M*, M and a line for each task.
@@ -42,7 +42,7 @@ planFrom j best worst s =
 
 -- The plan that was read stands in the memory, each line in its row; or the refusal.
 abbrev pub PlanLoaded : ℕ → Result Plan → List ℕ → Step → Type 0
-PlanLoaded rooms (good p) mem r = ((n : ℕ) × (stepTold r ≡ good n)) × (planIn rooms mem ≡ p) × Standing rooms (nth mem 0) mem
+PlanLoaded rooms (good p) mem r = ((n : ℕ) × (stepTold r ≡ good n)) × (planIn rooms mem ≡ p) × LinesHeld rooms (nth mem 0) mem
 PlanLoaded rooms (bad n) mem r = stepTold r ≡ bad n
 
 -- A job that was read, then a plan's text for it.
@@ -59,10 +59,10 @@ bothFrom rooms size links h s plan = withPlan (jobFrom rooms size links h s) pla
 
 -- The job and the plan that were read stand in one memory, and the job's links in theirs; or the refusal.
 abbrev pub BothLoaded : ℕ → Result (Job × Plan) → List ℕ → List ℕ → Step → Type 0
-BothLoaded rooms (good (j, p)) mem links r = ((n : ℕ) × (stepTold r ≡ good n)) × (jobIn mem ≡ j) × (planIn rooms mem ≡ p) × Standing rooms (nth mem 0) mem × LinksHeld mem links
+BothLoaded rooms (good (j, p)) mem links r = ((n : ℕ) × (stepTold r ≡ good n)) × (jobIn mem ≡ j) × (planIn rooms mem ≡ p) × LinesHeld rooms (nth mem 0) mem × LinksHeld mem links
 BothLoaded rooms (bad n) mem links r = stepTold r ≡ bad n
 
 -- A plan that was read stands in a memory with its job, a line for each task.
 pub record PlanHeld (rooms : ℕ) (mem : List ℕ) : Type 0 where
-  pub standing : Standing rooms (nth mem 0) mem
+  pub standing : LinesHeld rooms (nth mem 0) mem
   pub facts : PlanFacts document01 (jobIn mem) (planIn rooms mem)

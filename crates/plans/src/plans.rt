@@ -13,9 +13,9 @@ ghost use Rattle.definitions.specs.Plan.{processorsOf, planHeadOf, planHeadRule
 ghost use Rattle.definitions.specs.Plan as Plan;
 ghost use Rattle.text.specs.Told.{told};
 ghost use Rattle.text.specs.declared.Step.the-variants.{Next};
-ghost use Rattle.heads.specs.Layout.{memorySize, lineAt, blockedAt, farAt, replicaEnd};
-ghost use Rattle.jobs.specs.Held.{jobIn, JobHeld, JobStands, LinksHeld};
-ghost use Rattle.plans.specs.Lines.{rowEnd, replicaStrays, linesIn, RowHeld, Standing};
+ghost use Rattle.heads.specs.Layout.{memorySize, lineAt, blockedAt, largestDelayAt, replicaEnd};
+ghost use Rattle.jobs.specs.Held.{jobIn, JobHeld, SomeJobHeld, LinksHeld};
+ghost use Rattle.plans.specs.Lines.{rowEnd, replicaStrays, linesIn, RowHeld, LinesHeld};
 ghost use Rattle.lists.specs.Kept.{KeptOutside};
 ghost use Rattle.plans.specs.Loading.{lineIn, LineRead, planFrom, PlanLoaded};
 use crate::row;
@@ -91,7 +91,7 @@ fn replica_strays(mem: &[u64], a: usize, c: usize) -> bool
 
 // The task, a processor or a tick of the line at `a` is outside its range.
 fn strays(mem: &[u64], a: usize) -> bool
-    requires { ⌜ JobStands (now mem) × (rowEnd a ≤ length (now mem)) ⌝ }
+    requires { ⌜ SomeJobHeld (now mem) × (rowEnd a ≤ length (now mem)) ⌝ }
     ensures { λ r. ⌜ r ≡ Plan.strays document01 (jobIn (now (mem .entry))) (lineIn a (now (mem .entry))) ⌝ }
 {
     if mem[a] >= mem[0] {
@@ -109,7 +109,7 @@ fn strays(mem: &[u64], a: usize) -> bool
 
 // In the line at `a` a processor is less than the one before.
 fn descends(mem: &[u64], a: usize) -> bool
-    requires { ⌜ JobStands (now mem) × (rowEnd a ≤ length (now mem)) ⌝ }
+    requires { ⌜ SomeJobHeld (now mem) × (rowEnd a ≤ length (now mem)) ⌝ }
     ensures { λ r. ⌜ r ≡ Plan.descends (processorsOf (lineIn a (now (mem .entry)))) ⌝ }
 {
     let mut c = mem[3] as usize;
@@ -146,7 +146,7 @@ fn fed(mem: &[u64], links: &[u64], rooms: usize, t: usize) -> bool
 // The number of the refusal of the line at `a`, after the lines that have a place in the table, or 0.
 fn check_line(mem: &[u64], links: &[u64], rooms: usize, a: usize) -> u64
     requires { ⌜ JobHeld rooms (now mem) × LinksHeld (now mem) (now links) × (rowEnd a ≤ length (now mem)) ⌝ }
-    ensures { λ r. ⌜ ((k : ℕ) → Standing rooms k (now (mem .entry)) → r ≡ planLineRule document01 (jobIn (now (mem .entry)))
+    ensures { λ r. ⌜ ((k : ℕ) → LinesHeld rooms k (now (mem .entry)) → r ≡ planLineRule document01 (jobIn (now (mem .entry)))
         (linesIn rooms (nth (now (mem .entry)) 3 + 1) k (now (mem .entry))) (lineIn a (now (mem .entry))))
         × (r ≡ 0 → (nth (now (mem .entry)) a < nth (now (mem .entry)) 0) × (nth (now (mem .entry)) (lineAt rooms + nth (now (mem .entry)) a) ≡ 0) × RowHeld a (now (mem .entry))) ⌝ }
 {
@@ -189,7 +189,7 @@ fn read_plan_line(
     rooms: usize,
     k: usize,
 ) -> Step
-    requires { ⌜ Standing rooms k (now mem) × LinksHeld (now mem) (now links) × (k < nth (now mem) 0) ⌝ }
+    requires { ⌜ LinesHeld rooms k (now mem) × LinksHeld (now mem) (now links) × (k < nth (now mem) 0) ⌝ }
     ensures { λ r. ⌜ LineRead rooms k (now (s .entry)) at (now (mem .entry)) (now (mem .exit)) r ⌝ }
 {
     let n = row::line_cells(&mem[..]);
@@ -211,11 +211,11 @@ fn read_plan_line(
 
 // The T lines, kept as rows.
 fn read_plan_lines(s: &[u8], at: usize, mem: &mut [u64], links: &[u64], rooms: usize) -> Step
-    requires { ⌜ Standing rooms 0 (now mem) × LinksHeld (now mem) (now links) ⌝ }
-    ensures { λ r. ⌜ KeptOutside (lineAt rooms) (farAt rooms) (now (mem .entry)) (now (mem .exit))
+    requires { ⌜ LinesHeld rooms 0 (now mem) × LinksHeld (now mem) (now links) ⌝ }
+    ensures { λ r. ⌜ KeptOutside (lineAt rooms) (largestDelayAt rooms) (now (mem .entry)) (now (mem .exit))
         × (told (now (s .entry)) (linesIn rooms (nth (now (mem .exit)) 3 + 1) (nth (now (mem .exit)) 0) (now (mem .exit))) r ≡ lines
         (planLine document01 (jobIn (now (mem .entry)))) (planLineRule document01 (jobIn (now (mem .entry)))) (nth (now (mem .entry)) 0) [] (drop at (now (s .entry))))
-        × ((n : ℕ) → r ≡ Next n → Standing rooms (nth (now (mem .exit)) 0) (now (mem .exit))) ⌝ }
+        × ((n : ℕ) → r ≡ Next n → LinesHeld rooms (nth (now (mem .exit)) 0) (now (mem .exit))) ⌝ }
 {
     let v = mem[0] as usize;
     let mut p = at;
@@ -241,7 +241,7 @@ fn load_lines(
     rooms: usize,
 ) -> Step
     requires { ⌜ JobHeld rooms (now mem) × LinksHeld (now mem) (now links) ⌝ }
-    ensures { λ r. ⌜ KeptOutside (lineAt rooms) (farAt rooms) (now (mem .entry)) (now (mem .exit))
+    ensures { λ r. ⌜ KeptOutside (lineAt rooms) (largestDelayAt rooms) (now (mem .entry)) (now (mem .exit))
         × PlanLoaded rooms (planFrom (jobIn (now (mem .entry))) best worst (drop at (now (s .entry)))) (now (mem .exit)) r ⌝ }
 {
     clear_lines(mem, rooms);
@@ -261,7 +261,7 @@ fn load_lines(
 // A plan's text for the job in memory, whose links are in theirs.
 pub fn load_plan(s: &[u8], mem: &mut [u64], links: &[u64], rooms: usize) -> Step
     requires { ⌜ JobHeld rooms (now mem) × LinksHeld (now mem) (now links) ⌝ }
-    ensures { λ r. ⌜ KeptOutside (lineAt rooms) (farAt rooms) (now (mem .entry)) (now (mem .exit))
+    ensures { λ r. ⌜ KeptOutside (lineAt rooms) (largestDelayAt rooms) (now (mem .entry)) (now (mem .exit))
         × PlanLoaded rooms (readPlan document01 (jobIn (now (mem .entry))) (now (s .entry))) (now (mem .exit)) r ⌝ }
 {
     if s.len() > 65536 {

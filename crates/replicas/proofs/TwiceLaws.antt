@@ -37,7 +37,8 @@ module _ (cells : List ℕ) where
   twins-place zero h = absurd (true≢false (sym h))
   twins-place (suc n) h = by (twins-place n) (twins n cells) refl (eqb (nth cells (onCell n)) (nth cells (nextCell n))) refl h
     where
-      by : (twins n cells ≡ true → (c : ℕ) × (c < n) × (nth cells (onCell c) ≡ nth cells (nextCell c))) → (a : Bool) → twins n cells ≡ a → (b : Bool) → eqb (nth cells (onCell n)) (nth cells (nextCell n)) ≡ b → (a || b) ≡ true
+      by : (twins n cells ≡ true → (c : ℕ) × (c < n) × (nth cells (onCell c) ≡ nth cells (nextCell c))) → (a : Bool) → twins n cells ≡ a → (b : Bool)
+          → eqb (nth cells (onCell n)) (nth cells (nextCell n)) ≡ b → (a || b) ≡ true
           → (c : ℕ) × (c < suc n) × (nth cells (onCell c) ≡ nth cells (nextCell c))
       by r true f b g e = let (c, l, q) = r f in (c, omega arith, q)
       by r false f true g e = (n, omega arith, eqb-true _ _ g)

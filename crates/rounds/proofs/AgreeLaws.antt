@@ -9,7 +9,7 @@ use Rattle.definitions.proofs.Guarantee.{same-times, times-same}
 use Rattle.heads.specs.Layout.{lineAt, rowAt, processorAt, earlyAt, lateAt, timeAt}
 use Rattle.jobs.specs.Held.{jobIn, JobHeld}
 use Rattle.ticks.specs.Cells.{timeIn}
-use Rattle.plans.specs.Lines.{replicaIn, rowOutcomes, placedIn, rowReplicas, linesIn, Standing}
+use Rattle.plans.specs.Lines.{replicaIn, rowOutcomes, placedIn, rowReplicas, linesIn, LinesHeld}
 use Rattle.rounds.specs.Schedule.{choiceOf, dataIn, lineTicks, ShortTo}
 use Rattle.rounds.specs.Arrivals.{DelayTable, BothFed, ShortClocks, BothFinish}
 use Rattle.rounds.specs.Clocks.{finishOn}
@@ -100,7 +100,7 @@ module _ {rooms : ℕ} {mem : List ℕ} (h : PlanHeld rooms mem) (k : ℕ) (l : 
 module _ {rooms : ℕ} {mem : List ℕ} (h : PlanHeld rooms mem) (k : ℕ) (l : k < nth mem 0) (s : ShortTo rooms k mem) where
   -- What the code asks for, to compute the finishes of line k.
   pub finishes-asked : (delays : List ℕ) (clocks : Clocks) → DelayTable delays mem → ClocksAfter rooms k mem clocks
-      → ((n : ℕ) × Standing rooms n mem) × DelayTable delays mem × (nth mem (rowAt rooms k) < nth mem 0) × BothFed rooms (nth mem (rowAt rooms k)) mem × ShortClocks clocks mem
+      → ((n : ℕ) × LinesHeld rooms n mem) × DelayTable delays mem × (nth mem (rowAt rooms k) < nth mem 0) × BothFed rooms (nth mem (rowAt rooms k)) mem × ShortClocks clocks mem
   finishes-asked delays clocks d c = (
     (nth mem 0, h .standing),
     d,
@@ -267,7 +267,8 @@ module _ {rooms : ℕ} {mem : List ℕ} (h : PlanHeld rooms mem) (one : doubledT
       by true d = refl
       by false d = let i : In (line k .task) [] = rw one at (doubled-in (line k) (linesIn rooms wide (nth mem 0) mem) (line-among rooms k (nth mem 0) mem l) (rw d refl)) in absurd i
 
-  line-walk : (late : Bool) (k : ℕ) → k < nth mem 0 → lineWalk late k ≡ map (λ r. outcomeOn (jobIn mem) (choiceOf late) (placedIn rooms late wide k mem) (line k .task) (r .processor)) (line k .replicas)
+  line-walk : (late : Bool) (k : ℕ) → k < nth mem 0 → lineWalk late k ≡ map (λ r. outcomeOn (jobIn mem) (choiceOf late) (placedIn rooms late wide k mem) (line k .task) (r .processor))
+      (line k .replicas)
   line-walk late k l =
       walk-apart (jobIn mem) (choiceOf late) (line k .task) (line-apart h k l) (processorsOf (line k)) (line-distinct k l) (placedIn rooms late wide k mem)
       ∙ map-map (outcomeOn (jobIn mem) (choiceOf late) (placedIn rooms late wide k mem) (line k .task)) (λ r. r .processor) (line k .replicas)

@@ -187,9 +187,11 @@ module _ (mem : List ℕ) (k : ℕ) where
   unfolding doubledTasks keep linesIn
   doubled-none rooms = refl
 
-  doubled-next : (rooms : ℕ) → false ≡ not (distinct (processorsOf (lineIn (rowAt rooms k) mem))) → doubledTasks (linesIn rooms (nth mem 3 + 1) k mem) ≡ [] → doubledTasks (linesIn rooms (nth mem 3 + 1) (k + 1) mem) ≡ []
+  doubled-next : (rooms : ℕ) → false ≡ not (distinct (processorsOf (lineIn (rowAt rooms k) mem))) → doubledTasks (linesIn rooms (nth mem 3 + 1) k mem) ≡ []
+      → doubledTasks (linesIn rooms (nth mem 3 + 1) (k + 1) mem) ≡ []
   unfolding linesIn
-  doubled-next rooms d e = rw (add-one k) (doubled-more (linesIn rooms (nth mem 3 + 1) k mem) (lineIn (rowAt rooms k) mem) (not-false (distinct (processorsOf (lineIn (rowAt rooms k) mem))) (sym d)) ∙ e)
+  doubled-next rooms d e =
+      rw (add-one k) (doubled-more (linesIn rooms (nth mem 3 + 1) k mem) (lineIn (rowAt rooms k) mem) (not-false (distinct (processorsOf (lineIn (rowAt rooms k) mem))) (sym d)) ∙ e)
 
   doubled-here : (rooms : ℕ) → k < nth mem 0 → true ≡ not (distinct (processorsOf (lineIn (rowAt rooms k) mem))) → In (nth mem (rowAt rooms k)) (doubledTasks (planIn rooms mem .lines))
   unfolding planIn
@@ -261,7 +263,8 @@ module _ {rooms : ℕ} {mem : List ℕ} (h : PlanHeld rooms mem) (from to : ℕ)
   none-to f zero l = doubled-none mem 0 rooms
   none-to f (suc k) l = rw (← add-one k) (doubled-next mem k rooms (sym (f k (omega arith)) ∙ twice-here k (omega arith)) (none-to f k (omega arith)))
 
-  pub doubled-said : (r : Doubling) → doubledIn r ≡ (if leb (nth mem 3 + 1) 8 then firstTwice (nth mem 3 + 1) (length lines / 25) lines else []) → DoubledBy (doubledTasks (planIn rooms mem .lines)) (doubledIn r)
+  pub doubled-said : (r : Doubling) → doubledIn r ≡ (if leb (nth mem 3 + 1) 8 then firstTwice (nth mem 3 + 1) (length lines / 25) lines else [])
+      → DoubledBy (doubledTasks (planIn rooms mem .lines)) (doubledIn r)
   doubled-said r e = by r (rw (le-leb (nth mem 3 + 1) 8 (omega (arith, sizes (h .standing .job) .losses-most)), n) at e)
     where
       n : length lines / 25 ≡ nth mem 0

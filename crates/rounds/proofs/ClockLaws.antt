@@ -3,7 +3,7 @@ use Rattle.lists.proofs.Prelude.{_≡_, refl, ap, _∙_, sym, List, _∷_, _++_
 use Rattle.definitions.proofs.Ready.{first-ready}
 use Rattle.heads.specs.Layout.{rowAt, processorAt, earlyAt, lateAt}
 use Rattle.jobs.specs.Held.{jobIn}
-use Rattle.plans.specs.Lines.{rowOutcomes, placedIn, Standing}
+use Rattle.plans.specs.Lines.{rowOutcomes, placedIn, LinesHeld}
 use Rattle.rounds.specs.Schedule.{ShortTo}
 use Rattle.rounds.specs.Clocks.{earliesIn, latesIn, ClocksHeld, LineTimed}
 use Rattle.ticks.specs.declared.clocks.Clocks.{Clocks}
@@ -52,7 +52,7 @@ clocks-next {a} {mem} h clocks next c g e₀ f₀ es ls s =
     })
 
 -- A line among those whose ticks are short.
-pub line-timed : {rooms n i : ℕ} {mem : List ℕ} → Standing rooms n mem → i ≤ n → ShortTo rooms i mem → (k : ℕ) → k < i → LineTimed (rowAt rooms k) mem
+pub line-timed : {rooms n i : ℕ} {mem : List ℕ} → LinesHeld rooms n mem → i ≤ n → ShortTo rooms i mem → (k : ℕ) → k < i → LineTimed (rowAt rooms k) mem
 line-timed {rooms} {n} {i} {mem} h l s k g =
     let w = sizes (h .job) in
     let m = h .count in

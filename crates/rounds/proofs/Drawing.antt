@@ -3,13 +3,13 @@ use Rattle.lists.proofs.Prelude.{_≡_, refl, ap, _∙_, sym, ⊎-elim, List, [
 use Rattle.definitions.proofs.Lists.{both, in-map, in-keep, map-same, map-keep, in-below, all-in}
 use Rattle.definitions.proofs.Tasks.{in-incoming}
 use Rattle.definitions.proofs.Placing.{placed-count}
-use Rattle.heads.specs.Layout.{memorySize, jobSize, levelAt, lineAt, blockedAt, priorityAt, rowAt, farAt, processorAt, earlyAt, lateAt, replicaEnd}
+use Rattle.heads.specs.Layout.{memorySize, jobSize, levelAt, lineAt, blockedAt, priorityAt, rowAt, largestDelayAt, processorAt, earlyAt, lateAt, replicaEnd}
 use Rattle.jobs.specs.Held.{jobIn}
 use Rattle.plans.specs.Lines.{replicaIn, rowOutcomes, placedIn, rowReplicas, linesIn, rowOf}
 use Rattle.rounds.specs.Schedule.{choiceOf, topIn, FedIn, lineTicks}
 use Rattle.lists.specs.Kept.{KeptOutside}
 use Rattle.ticks.specs.declared.clocks.Clocks.{Clocks}
-use Rattle.rounds.specs.Planning.{isFree, freeIn, bestOf, FreeList, waitingIn, replicaOn, Drawn, Ranked, Tried, boxesFor, Wrote, Begun}
+use Rattle.rounds.specs.Planning.{isFree, freeIn, bestOf, FreeList, waitingIn, replicaOn, Drawn, Ranked, Tried, processorsFor, Wrote, Begun}
 use Rattle.rounds.specs.Clocks.{earliesIn, latesIn, finishOn, ClocksHeld}
 use Rattle.lists.proofs.Counting.{zero-or-more}
 use Rattle.jobs.proofs.Held.{tasks-in, processors-in, Sizes, sizes, job-same}
@@ -56,7 +56,8 @@ module _ {rooms k : ℕ} {mem : List ℕ} (s : Drawn rooms k mem) where
     finish-comes late =
         let r = s .standing .job .facts .run-most t p (rw (tasks-in mem) ht) (rw (processors-in mem) hp) in
         let d = comes-largest (arrival (jobIn mem) (choiceOf late) (placedIn rooms late wide k mem) p) (incoming (jobIn mem) t) (arrival-comes late) in
-        let a = comes-wider {c = k * lineTicks + 1044225} (omega arith) (ready-comes (jobIn mem) p (k * lineTicks) (placedIn rooms late wide k mem) (all-come (s .standing) (omega arith) (s .ticks) late)) in
+        let a = comes-wider {c = k * lineTicks + 1044225} (omega arith)
+        (ready-comes (jobIn mem) p (k * lineTicks) (placedIn rooms late wide k mem) (all-come (s .standing) (omega arith) (s .ticks) late)) in
         comes-wider (omega arith) (comes-after 1000000 (runTime (jobIn mem) t p) r (comes-later a d))
 
 -- What a change elsewhere leaves as it was --------------------------------------------------------------------------
@@ -78,13 +79,18 @@ module _ {rooms : ℕ} {d e : List ℕ} (w : Sizes rooms d) (j : Same 0 (blocked
       let low : (t : ℕ) → In t (below (nth d 0)) → t < nth d 0 = in-below (nth d 0) in
       let kept = keep (λ t. eqb (nth d (lineAt rooms + t)) 0) (below (nth d 0)) in
       waiting-map rooms e
-      ∙ rw (v, keep-same (λ t. eqb (nth e (lineAt rooms + t)) 0) (λ t. eqb (nth d (lineAt rooms + t)) 0) (below (nth d 0)) (λ t i. rw (j .cell (lineAt rooms + t) (omega arith) (omega (arith, low t i)))))
+      ∙ rw (
+        v,
+        keep-same (λ t. eqb (nth e (lineAt rooms + t)) 0) (λ t. eqb (nth d (lineAt rooms + t)) 0) (below (nth d 0))
+            (λ t i. rw (j .cell (lineAt rooms + t) (omega arith) (omega (arith, low t i)))),
+      )
       (map-same (waitingAt rooms e) (waitingAt rooms d) kept
       (λ t i. rw (j .cell (levelAt rooms + t) (omega arith) (omega (arith, low t (in-keep (λ t. eqb (nth d (lineAt rooms + t)) 0) t (below (nth d 0)) i .0))))))
       ∙ sym (waiting-map rooms d)
 
 -- The job with its links and levels, the table of lines, the first k lines and the table of largest delays are as they were.
-drawn-same : {rooms k : ℕ} {d e : List ℕ} → length e ≡ length d → Same 0 (blockedAt rooms) d e → Same (rowAt rooms 0) (rowAt rooms k) d e → Same (farAt rooms) (memorySize rooms) d e → Drawn rooms k d → Drawn rooms k e
+drawn-same : {rooms k : ℕ} {d e : List ℕ} → length e ≡ length d → Same 0 (blockedAt rooms) d e → Same (rowAt rooms 0) (rowAt rooms k) d e → Same (largestDelayAt rooms) (memorySize rooms) d e
+    → Drawn rooms k d → Drawn rooms k e
 drawn-same {rooms} {k} {d} {e} z j r f s =
     let h = s .standing .job in
     let w = sizes h in
@@ -102,15 +108,27 @@ drawn-same {rooms} {k} {d} {e} z j r f s =
           let n : c < nth d 3 + 1 = rw l at m in
           let (x, y) = s .ticks i c g n in
           (rw (r .cell (earlyAt (rowAt rooms i) c) (omega arith) (omega arith)) x, rw (r .cell (lateAt (rowAt rooms i) c) (omega arith) (omega arith)) y);
-      rest = rw (l, v, job-same w a, waiting-same w j, lines-same d e rooms (nth d 3 + 1) k few r, placed-same d e rooms false (nth d 3 + 1) k few r, placed-same d e rooms true (nth d 3 + 1) k few r) (s .rest);
+      rest =
+          rw (
+            l,
+            v,
+            job-same w a,
+            waiting-same w j,
+            lines-same d e rooms (nth d 3 + 1) k few r,
+            placed-same d e rooms false (nth d 3 + 1) k few r,
+            placed-same d e rooms true
+                (nth d 3 + 1) k few r,
+          ) (s .rest);
     }
 
 -- A change among what serves the choice of a task.
 pub drawn-choice : {rooms k low high : ℕ} {d e : List ℕ} → KeptOutside low high d e → Drawn rooms k d → blockedAt rooms ≤ low → high ≤ rowAt rooms 0 → Drawn rooms k e
-drawn-choice {rooms} {k} c s a b = drawn-same (c .size) (same-before 0 (blockedAt rooms) c a) (same-behind (rowAt rooms 0) (rowAt rooms k) c b) (same-behind (farAt rooms) (memorySize rooms) c (omega arith)) s
+drawn-choice {rooms} {k} c s a b =
+    drawn-same (c .size) (same-before 0 (blockedAt rooms) c a) (same-behind (rowAt rooms 0) (rowAt rooms k) c b) (same-behind (largestDelayAt rooms) (memorySize rooms) c (omega arith)) s
 
 -- The clocks, when what serves the choice of a task changes.
-pub clocks-choice : {rooms k : ℕ} {d e : List ℕ} {clocks : Clocks} → KeptOutside (blockedAt rooms) (rowAt rooms 0) d e → Drawn rooms k d → ClocksHeld clocks (jobIn d) (earliesIn rooms k d) (latesIn rooms k d)
+pub clocks-choice : {rooms k : ℕ} {d e : List ℕ} {clocks : Clocks} → KeptOutside (blockedAt rooms) (rowAt rooms 0) d e → Drawn rooms k d
+    → ClocksHeld clocks (jobIn d) (earliesIn rooms k d) (latesIn rooms k d)
     → ClocksHeld clocks (jobIn e) (earliesIn rooms k e) (latesIn rooms k e)
 clocks-choice {rooms} {k} {d} {e} c s h =
     let w = sizes (s .standing .job) in
@@ -150,7 +168,7 @@ module _ {k t : ℕ} {d : List ℕ} where
       let n : length (ps ++ p ∷ []) ≡ suc c = length-append ps (p ∷ []) ∙ add-one c in
       let r : replicaIn a c e ≡ replicaOn rooms k d t p = rw (f .processor, f .early-finish, f .late-finish, ← early, ← late) in
       record {
-        kept = kept-then (b .kept) (kept-wider (rowAt rooms k) (farAt rooms) (f .kept) (omega arith) (omega arith));
+        kept = kept-then (b .kept) (kept-wider (rowAt rooms k) (largestDelayAt rooms) (f .kept) (omega arith) (omega arith));
         replicas = rw (n, replicas-same mem e a c (same-before a (processorAt a c) (f .kept) (omega arith)), r, b .replicas) (sym (map-append (replicaOn rooms k d t) ps (p ∷ [])));
       }
 
@@ -186,10 +204,11 @@ module _ {rooms k t : ℕ} {early late : List ℕ} {d : List ℕ} (o : Tried roo
           )
 
   -- All processors have been asked.
-  pub boxes-taken : {p : ℕ} {mem : List ℕ} → p ≡ nth d 1 → Begun rooms k t (keep takes (below p)) d mem → Begun rooms k t (boxesFor rooms k t d) d mem
+  pub boxes-taken : {p : ℕ} {mem : List ℕ} → p ≡ nth d 1 → Begun rooms k t (keep takes (below p)) d mem → Begun rooms k t (processorsFor rooms k t d) d mem
   unfolding jobIn finishOn
   boxes-taken {p} {mem} e b =
-      let same = chosen-same (jobIn d) (nth d 3 + 1) early (trial (jobIn d) (earliesIn rooms k d) t) (λ q l. ap tickOf (o .early-finishes q l) ∙ sym (trial-nth (jobIn d) (earliesIn rooms k d) t q l)) in
+      let same = chosen-same (jobIn d) (nth d 3 + 1) early (trial (jobIn d) (earliesIn rooms k d) t)
+      (λ q l. ap tickOf (o .early-finishes q l) ∙ sym (trial-nth (jobIn d) (earliesIn rooms k d) t q l)) in
       rw (← same) (rw e at b)
 
 -- The free tasks ----------------------------------------------------------------------------------------------------
@@ -259,7 +278,8 @@ module _ {rooms k : ℕ} {mem : List ℕ} (s : Drawn rooms k mem) (h : k < nth m
   turns : nth mem 0 - k ≡ suc left
   turns = omega arith
 
-  pub rest-here : linesIn rooms (nth mem 3 + 1) k mem ++ place (jobIn mem) (nth mem 3) (suc left) (waitingIn rooms mem) (earliesIn rooms k mem) (latesIn rooms k mem) ≡ planFor (jobIn mem) (nth mem 3) .lines
+  pub rest-here : linesIn rooms (nth mem 3 + 1) k mem ++ place (jobIn mem) (nth mem 3) (suc left) (waitingIn rooms mem) (earliesIn rooms k mem) (latesIn rooms k mem) ≡ planFor (jobIn mem)
+      (nth mem 3) .lines
   rest-here = rw turns at (s .rest)
 
   pub lines-left : 0 < length (place (jobIn mem) (nth mem 3) (suc left) (waitingIn rooms mem) (earliesIn rooms k mem) (latesIn rooms k mem))
@@ -292,7 +312,8 @@ module _ {rooms k : ℕ} {mem : List ℕ} (s : Drawn rooms k mem) (h : k < nth m
     task-below = in-below (nth mem 0) t (in-keep (isFree rooms mem) t (below (nth mem 0)) free .0)
 
     pub task-waits : nth mem (lineAt rooms + t) ≡ 0
-    task-waits = eqb-true (nth mem (lineAt rooms + t)) 0 (both (eqb (nth mem (lineAt rooms + t)) 0) (eqb (nth mem (blockedAt rooms + t)) 0) (in-keep (isFree rooms mem) t (below (nth mem 0)) free .1) .0)
+    task-waits =
+        eqb-true (nth mem (lineAt rooms + t)) 0 (both (eqb (nth mem (lineAt rooms + t)) 0) (eqb (nth mem (blockedAt rooms + t)) 0) (in-keep (isFree rooms mem) t (below (nth mem 0)) free .1) .0)
 
     pub task-fed : FedIn rooms t mem
     task-fed = free-fed s r t task-below (in-keep (isFree rooms mem) t (below (nth mem 0)) free .1)

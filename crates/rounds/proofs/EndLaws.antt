@@ -7,7 +7,7 @@ use Rattle.jobs.proofs.Held.{sizes}
 use Rattle.heads.specs.Layout.{lineAt, rowAt, timeAt}
 use Rattle.jobs.specs.Held.{jobIn}
 use Rattle.ticks.specs.Cells.{timeIn}
-use Rattle.plans.specs.Lines.{rowEnd, rowOutcomes, placedIn, rowOf, RowHeld, Standing}
+use Rattle.plans.specs.Lines.{rowEnd, rowOutcomes, placedIn, rowOf, RowHeld, LinesHeld}
 use Rattle.rounds.specs.Schedule.{choiceOf}
 use Rattle.rounds.proofs.Placed.{placed-rowOf, line-in}
 use Rattle.rounds.proofs.TimeLaws.{later-comm, later-assoc, later-zero}
@@ -50,7 +50,7 @@ chosen-next false a mem c x acc r e f g = g ∙ rw (f, e, add-one c)
 
 -- Where all tasks are placed ----------------------------------------------------------------------------------------
 
-module _ {rooms : ℕ} {mem : List ℕ} (s : Standing rooms (nth mem 0) mem) where
+module _ {rooms : ℕ} {mem : List ℕ} (s : LinesHeld rooms (nth mem 0) mem) where
   -- As many lines as tasks: every task has its line.
   pub all-placed : (t : ℕ) → t < nth mem 0 → 0 < nth mem (lineAt rooms + t)
   all-placed t h =
@@ -87,7 +87,7 @@ module _ {rooms : ℕ} {mem : List ℕ} (s : Standing rooms (nth mem 0) mem) whe
 abbrev pub exitTime : ℕ → Bool → List ℕ → ℕ → Time
 exitTime rooms late mem t = if empty (outgoing (jobIn mem) t) then choiceOf late (times (ofTask t (placedIn rooms late (nth mem 3 + 1) (nth mem 0) mem))) else tick 0
 
-module _ {rooms : ℕ} (late : Bool) {mem : List ℕ} (s : Standing rooms (nth mem 0) mem) (t : ℕ) (h : t < nth mem 0) {a b : ℕ} (r : Run a b mem (outgoing (jobIn mem) t)) where
+module _ {rooms : ℕ} (late : Bool) {mem : List ℕ} (s : LinesHeld rooms (nth mem 0) mem) (t : ℕ) (h : t < nth mem 0) {a b : ℕ} (r : Run a b mem (outgoing (jobIn mem) t)) where
   pub exit-end : (x : ℕ) → b ≤ a → timeIn x ≡ chosenIn late (rowOf rooms t mem) (nth mem 3 + 1) mem → timeIn x ≡ exitTime rooms late mem t
   exit-end x e f = rw (exit-yes r e, placed-rowOf s late (nth mem 3 + 1) (nth mem 0) (omega arith) t h (all-placed s t h) (row-of-task s t h .1)) f
 

@@ -1,10 +1,10 @@
 -- The first finish of a task, and the lowest processor that has it.
-use Rattle.lists.proofs.Prelude.{_≡_, refl, ap, _∙_, sym, _⊎_, inl, inr, ⊎-elim, List, [], _∷_, map, Bool, true, false, false≢true, ℕ, zero, suc, _+_, _*_, _-_, _<_, _≤_, min, arith, add-one, eqb-true, ltb-true, ltb-false, eqb, ltb, if_then_else_, nth, In, keep, Time, tick, never, sooner, same, least, Outcome, ofTask, times, firstFinish, lowest, firstBox}
+use Rattle.lists.proofs.Prelude.{_≡_, refl, ap, _∙_, sym, _⊎_, inl, inr, ⊎-elim, List, [], _∷_, map, Bool, true, false, false≢true, ℕ, zero, suc, _+_, _*_, _-_, _<_, _≤_, min, arith, add-one, eqb-true, ltb-true, ltb-false, eqb, ltb, if_then_else_, nth, In, keep, Time, tick, never, sooner, same, least, Outcome, ofTask, times, firstFinish, lowest, firstProcessor}
 use Rattle.definitions.proofs.Lists.{in-map, map-in, in-keep, keep-in}
 use Rattle.definitions.proofs.Guarantee.{time-same}
 use Rattle.heads.specs.Layout.{lineAt, rowAt, processorAt, earlyAt}
 use Rattle.ticks.specs.Cells.{neverCell, timeIn}
-use Rattle.plans.specs.Lines.{rowOutcomes, rowOf, Standing}
+use Rattle.plans.specs.Lines.{rowOutcomes, rowOf, LinesHeld}
 use Rattle.replicas.specs.Cells.{leastEarly, leastOn}
 use Rattle.replicas.proofs.TwiceLaws.{least-none, least-sooner, least-stays}
 use Rattle.rounds.specs.Replaying.{outcomesIn, RisingIn, FirstIn}
@@ -156,7 +156,7 @@ seen-none : (rooms : ℕ) (mem : List ℕ) (t p : ℕ) → Seen rooms mem t 0 ne
 unfolding rowOutcomes
 seen-none rooms mem t p = first-none p
 
-module _ {rooms : ℕ} {mem : List ℕ} (s : Standing rooms (nth mem 0) mem) (r : RisingIn rooms mem) (t : ℕ) (h : t < nth mem 0) where
+module _ {rooms : ℕ} {mem : List ℕ} (s : LinesHeld rooms (nth mem 0) mem) (r : RisingIn rooms mem) (t : ℕ) (h : t < nth mem 0) where
   module _ (c x p : ℕ) (f : Seen rooms mem t c x p) (g : c < nth mem 3 + 1) (m : x ≤ neverCell) where
     seen-sooner : nth mem (earlyAt (rowOf rooms t mem) c) < x → Seen rooms mem t (c + 1) (nth mem (earlyAt (rowOf rooms t mem) c)) (nth mem (processorAt (rowOf rooms t mem) c))
     unfolding rowOutcomes
@@ -170,7 +170,7 @@ module _ {rooms : ℕ} {mem : List ℕ} (s : Standing rooms (nth mem 0) mem) (r 
         (rising-row rooms mem r (nth mem (lineAt rooms + t) - 1) (omega (arith, all-placed s t h, row-of-task s t h .1)) c g))
 
   seen-all : (c x p : ℕ) → c ≡ nth mem 3 + 1 → Seen rooms mem t c x p → FirstIn rooms t x p mem
-  unfolding firstFinish firstBox
+  unfolding firstFinish firstProcessor
   seen-all c x p e f₀ =
       let own : ofTask t (outcomesIn rooms mem) ≡ rowOutcomes false (rowOf rooms t mem) (nth mem 3 + 1) mem = placed-rowOf s false (nth mem 3 + 1) (nth mem 0) (omega arith) t h
       (all-placed s t h) (row-of-task s t h .1) in

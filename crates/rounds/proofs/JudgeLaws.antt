@@ -54,7 +54,8 @@ module _ (late : Bool) (t : ℕ) where
   unfolding ofTask keep least largest
   chosen-more d ds = by late (eqb (d .task) t)
     where
-      by : (late b : Bool) → choiceOf late (times (if b then d ∷ ofTask t ds else ofTask t ds)) ≡ (if b then joined late (d .time) (choiceOf late (times (ofTask t ds))) else choiceOf late (times (ofTask t ds)))
+      by : (late b : Bool) → choiceOf late (times (if b then d ∷ ofTask t ds else ofTask t ds)) ≡
+          (if b then joined late (d .time) (choiceOf late (times (ofTask t ds))) else choiceOf late (times (ofTask t ds)))
       by true true = refl
       by true false = refl
       by false true = refl

@@ -1,11 +1,11 @@
 -- The longest answer of the replay: 255 R lines of at most 20 bytes each, and an L line of at most 13.
-use Rattle.lists.proofs.Prelude.{_≡_, refl, ap, inl, inr, ⊎-elim, List, [], _∷_, map, false, ℕ, zero, suc, _+_, _*_, _<_, _≤_, arith, length, length-append, bytes, nth, below, In, keep, document01, widthFrom, width, Job, Time, tick, never, same, Outcome, ofTask, firstFinish, lowest, firstBox, roundEnd, resultLine, resultLines, endLine, replayText}
+use Rattle.lists.proofs.Prelude.{_≡_, refl, ap, inl, inr, ⊎-elim, List, [], _∷_, map, false, ℕ, zero, suc, _+_, _*_, _<_, _≤_, arith, length, length-append, bytes, nth, below, In, keep, document01, widthFrom, width, Job, Time, tick, never, same, Outcome, ofTask, firstFinish, lowest, firstProcessor, roundEnd, resultLine, resultLines, endLine, replayText}
 use Rattle.definitions.proofs.Lists.{in-append, in-map, in-keep, in-below, length-count}
 use Rattle.definitions.proofs.Decimal.{width-powers, width-monotone, length-decimal, length-none, length-numbers, length-line}
 use Rattle.definitions.proofs.Tasks.{in-task}
 use Rattle.heads.specs.Layout.{rowAt, processorAt}
 use Rattle.jobs.specs.Held.{jobIn}
-use Rattle.plans.specs.Lines.{rowOutcomes, placedIn, Standing}
+use Rattle.plans.specs.Lines.{rowOutcomes, placedIn, LinesHeld}
 use Rattle.rounds.specs.Replaying.{outcomesIn}
 use Rattle.jobs.proofs.Held.{tasks-in, sizes}
 
@@ -51,8 +51,8 @@ lowest-within b (p ∷ []) h = h p (inl refl)
 lowest-within b (p ∷ q ∷ ps) h = omega (arith, h p (inl refl))
 
 module _ (ds : List Outcome) (h : (d : Outcome) → In d ds → d .processor ≤ 16) where
-  box-most : (t : ℕ) (x : Time) → firstBox t x ds ≤ 16
-  unfolding firstBox
+  box-most : (t : ℕ) (x : Time) → firstProcessor t x ds ≤ 16
+  unfolding firstProcessor
   box-most t x =
       lowest-within 16 (map (λ d. d .processor) (keep (λ d. same (d .time) x) (ofTask t ds)))
       (λ p i.
@@ -66,8 +66,8 @@ module _ (ds : List Outcome) (h : (d : Outcome) → In d ds → d .processor ≤
   lines-most (t ∷ ts) g =
       omega (
         arith,
-        length-append (resultLine document01 t (firstFinish t ds) (firstBox t (firstFinish t ds) ds)) (resultLines document01 ts ds),
-        result-most t (firstBox t (firstFinish t ds) ds) (firstFinish t ds) (g t (inl refl)) (box-most t (firstFinish t ds)),
+        length-append (resultLine document01 t (firstFinish t ds) (firstProcessor t (firstFinish t ds) ds)) (resultLines document01 ts ds),
+        result-most t (firstProcessor t (firstFinish t ds) ds) (firstFinish t ds) (g t (inl refl)) (box-most t (firstFinish t ds)),
         lines-most ts (λ u i. g u (inr i)),
       )
 
@@ -93,7 +93,7 @@ row-on a (suc c) mem h d i =
     (λ k. row-on a c mem (λ n l. h n (omega arith)) d k)
     i
 
-placed-on : {rooms n : ℕ} {mem : List ℕ} → Standing rooms n mem → (k : ℕ) → k ≤ n → (d : Outcome) → In d (placedIn rooms false (nth mem 3 + 1) k mem) → d .processor ≤ 16
+placed-on : {rooms n : ℕ} {mem : List ℕ} → LinesHeld rooms n mem → (k : ℕ) → k ≤ n → (d : Outcome) → In d (placedIn rooms false (nth mem 3 + 1) k mem) → d .processor ≤ 16
 unfolding placedIn
 placed-on s zero l d i = absurd i
 placed-on {rooms} {n} {mem} s (suc k) l d i =
@@ -102,6 +102,6 @@ placed-on {rooms} {n} {mem} s (suc k) l d i =
     (placed-on s k (omega arith) d)
     (in-append d (rowOutcomes false (rowAt rooms k) (nth mem 3 + 1) mem) (placedIn rooms false (nth mem 3 + 1) k mem) i)
 
-pub answer-most : {rooms : ℕ} {mem : List ℕ} → Standing rooms (nth mem 0) mem → length (replayText document01 (jobIn mem) (outcomesIn rooms mem)) ≤ 5113
+pub answer-most : {rooms : ℕ} {mem : List ℕ} → LinesHeld rooms (nth mem 0) mem → length (replayText document01 (jobIn mem) (outcomesIn rooms mem)) ≤ 5113
 answer-most {rooms} {mem} s =
     text-most (outcomesIn rooms mem) (placed-on s (nth mem 0) (omega arith)) (jobIn mem) (rw (tasks-in mem) (sizes (s .job) .tasks-most .0))

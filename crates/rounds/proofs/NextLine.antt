@@ -5,15 +5,15 @@ use lib.Seq.{append-snoc}
 use Rattle.definitions.proofs.Lists.{both, both-true, in-map, in-keep, map-same, map-keep, in-below}
 use Rattle.definitions.proofs.Tasks.{in-incoming}
 use Rattle.definitions.proofs.Chosen.{chosen-count, chosen-below, chosen-distinct}
-use Rattle.heads.specs.Layout.{memorySize, jobSize, levelAt, lineAt, blockedAt, priorityAt, rowAt, farAt, processorAt, earlyAt, lateAt}
+use Rattle.heads.specs.Layout.{memorySize, jobSize, levelAt, lineAt, blockedAt, priorityAt, rowAt, largestDelayAt, processorAt, earlyAt, lateAt}
 use Rattle.jobs.specs.Held.{jobIn}
 use Rattle.ticks.specs.Cells.{timeIn}
-use Rattle.plans.specs.Lines.{rowEnd, replicaIn, rowOutcomes, placedIn, rowReplicas, linesIn, RowHeld, Standing}
+use Rattle.plans.specs.Lines.{rowEnd, replicaIn, rowOutcomes, placedIn, rowReplicas, linesIn, RowHeld, LinesHeld}
 use Rattle.rounds.specs.Schedule.{choiceOf, FedIn, topIn, lineTicks}
 use Rattle.lists.specs.Kept.{KeptOutside}
 use Rattle.rounds.specs.Arrivals.{BothFinish}
 use Rattle.ticks.specs.declared.clocks.Clocks.{Clocks}
-use Rattle.rounds.specs.Planning.{isFree, freeIn, bestOf, waitingIn, replicaOn, Taken, boxesFor, Drawn, Ranked, Tried, Begun}
+use Rattle.rounds.specs.Planning.{isFree, freeIn, bestOf, waitingIn, replicaOn, Taken, processorsFor, Drawn, Ranked, Tried, Begun}
 use Rattle.rounds.specs.Clocks.{earliesIn, latesIn, finishOn, ClocksHeld}
 use Rattle.lists.proofs.Counting.{last-or-before}
 use Rattle.jobs.proofs.Held.{tasks-in, processors-in, Sizes, sizes, job-same, held-same}
@@ -40,10 +40,10 @@ and-true false = refl
 -- In e, d has line k besides: task t with its replicas.
 pub record Laid (rooms k t : ℕ) (d e : List ℕ) : Type 0 where
   pub size : length e ≡ length d
-  pub other : (i : ℕ) → (i ≡ lineAt rooms + t → ⊥) → (i < rowAt rooms k) ⊎ (farAt rooms ≤ i) → nth e i ≡ nth d i
+  pub other : (i : ℕ) → (i ≡ lineAt rooms + t → ⊥) → (i < rowAt rooms k) ⊎ (largestDelayAt rooms ≤ i) → nth e i ≡ nth d i
   pub line : nth e (lineAt rooms + t) ≡ suc k
   pub task : nth e (rowAt rooms k) ≡ t
-  pub replicas : rowReplicas (rowAt rooms k) (nth d 3 + 1) e ≡ map (replicaOn rooms k d t) (boxesFor rooms k t d)
+  pub replicas : rowReplicas (rowAt rooms k) (nth d 3 + 1) e ≡ map (replicaOn rooms k d t) (processorsFor rooms k t d)
 
 module _ {rooms k : ℕ} {d : List ℕ} (s : Drawn rooms k d) (h : k < nth d 0) (r : Ranked rooms [] d) (t : ℕ) (best : t ≡ bestOf (nth d 0) (freeIn rooms d)) where
   w : Sizes rooms d
@@ -61,14 +61,14 @@ module _ {rooms k : ℕ} {d : List ℕ} (s : Drawn rooms k d) (h : k < nth d 0) 
   fed : FedIn rooms t d
   fed = task-fed s h r t best
 
-  boxes-count : length (boxesFor rooms k t d) ≡ nth d 3 + 1
+  boxes-count : length (processorsFor rooms k t d) ≡ nth d 3 + 1
   unfolding jobIn
   boxes-count = chosen-count (jobIn d) (trial (jobIn d) (earliesIn rooms k d) t) (nth d 3 + 1) (w .enough)
 
-  box-below : (p : ℕ) → In p (boxesFor rooms k t d) → p < nth d 1
+  box-below : (p : ℕ) → In p (processorsFor rooms k t d) → p < nth d 1
   box-below p i = rw (processors-in d) at (chosen-below (jobIn d) (trial (jobIn d) (earliesIn rooms k d) t) (nth d 3 + 1) p i)
 
-  pub laid : (mem : List ℕ) → Begun rooms k t (boxesFor rooms k t d) d mem → Laid rooms k t d (set (set mem (rowAt rooms k) t) (lineAt rooms + t) (k + 1))
+  pub laid : (mem : List ℕ) → Begun rooms k t (processorsFor rooms k t d) d mem → Laid rooms k t d (set (set mem (rowAt rooms k) t) (lineAt rooms + t) (k + 1))
   laid mem b =
       let one = set mem (rowAt rooms k) t in
       let e = set one (lineAt rooms + t) (k + 1) in
@@ -83,15 +83,15 @@ module _ {rooms k : ℕ} {d : List ℕ} (s : Drawn rooms k d) (h : k < nth d 0) 
         line = getD-set-same one (lineAt rooms + t) (k + 1) 0 (omega arith) ∙ add-one k;
         task = getD-set-other one (lineAt rooms + t) (rowAt rooms k) (k + 1) 0 (λ q. omega arith) ∙ getD-set-same mem (rowAt rooms k) t 0 (omega (arith, b .kept .size, w .size, w .tasks-most));
         replicas = ap (λ (c : ℕ). rowReplicas (rowAt rooms k) c e) (sym n)
-            ∙ row-replicas mem e (rowAt rooms k) (length (boxesFor rooms k t d))
+            ∙ row-replicas mem e (rowAt rooms k) (length (processorsFor rooms k t d))
             (λ i p. getD-set-other one (lineAt rooms + t) i (k + 1) 0 (λ f. omega arith) ∙ getD-set-other mem (rowAt rooms k) i t 0 (λ f. omega arith))
             ∙ b .replicas;
       }
 
-  pub laid-kept : (mem : List ℕ) → Begun rooms k t (boxesFor rooms k t d) d mem → KeptOutside (lineAt rooms) (farAt rooms) d (set (set mem (rowAt rooms k) t) (lineAt rooms + t) (k + 1))
+  pub laid-kept : (mem : List ℕ) → Begun rooms k t (processorsFor rooms k t d) d mem → KeptOutside (lineAt rooms) (largestDelayAt rooms) d (set (set mem (rowAt rooms k) t) (lineAt rooms + t) (k + 1))
   laid-kept mem b =
       let m : t < 8 * rooms = few in
-      kept-set (lineAt rooms + t) (k + 1) (kept-set (rowAt rooms k) t (kept-wider (lineAt rooms) (farAt rooms) (b .kept) (omega arith) (omega arith)) (omega arith)
+      kept-set (lineAt rooms + t) (k + 1) (kept-set (rowAt rooms k) t (kept-wider (lineAt rooms) (largestDelayAt rooms) (b .kept) (omega arith) (omega arith)) (omega arith)
       (omega (arith, w .tasks-most))) (omega arith) (omega arith)
 
   -- The finishes that the code computes are the task's.
@@ -125,7 +125,7 @@ module _ {rooms k : ℕ} {d : List ℕ} (s : Drawn rooms k d) (h : k < nth d 0) 
     before-row : Same (blockedAt rooms) (rowAt rooms k) d e
     before-row = let m : t < 8 * rooms = few in record { cell = λ i p q. x .other i (λ f. omega arith) (inl (omega arith)) }
 
-    far-table : Same (farAt rooms) (memorySize rooms) d e
+    far-table : Same (largestDelayAt rooms) (memorySize rooms) d e
     far-table = let m : t < 8 * rooms = few in record { cell = λ i p q. x .other i (λ f. omega arith) (inr p) }
 
     job-cells : Same 0 (jobSize rooms) d e
@@ -153,7 +153,7 @@ module _ {rooms k : ℕ} {d : List ℕ} (s : Drawn rooms k d) (h : k < nth d 0) 
     -- What the new line's cells hold.
     new-cells : (c : ℕ) → c < nth d 3 + 1 → (p : ℕ) × (p < nth d 1) × (replicaOn rooms k d t p ≡ replicaIn (rowAt rooms k) c e)
     new-cells c l =
-        let (p, i, q) = in-map (replicaOn rooms k d t) (replicaIn (rowAt rooms k) c e) (boxesFor rooms k t d) (rw (← x .replicas) (in-replicas (rowAt rooms k) (nth d 3 + 1) c e l)) in
+        let (p, i, q) = in-map (replicaOn rooms k d t) (replicaIn (rowAt rooms k) c e) (processorsFor rooms k t d) (rw (← x .replicas) (in-replicas (rowAt rooms k) (nth d 3 + 1) c e l)) in
         (p, box-below p i, q)
 
     new-box : (c : ℕ) → c < nth d 3 + 1 → nth e (processorAt (rowAt rooms k) c) < nth d 1
@@ -189,9 +189,10 @@ module _ {rooms k : ℕ} {d : List ℕ} (s : Drawn rooms k d) (h : k < nth d 0) 
     has-line u l true f o = let q = eqb-true u t f in inr (k, omega arith, rw q (x .line), x .task ∙ sym q)
     has-line u l false f o =
         let n = line-other u l (eqb-false u t f) in
-        ⊎-elim (λ z. inl (n ∙ z)) (λ (g : (i : ℕ) × (i < k) × (nth d (lineAt rooms + u) ≡ suc i) × (nth d (rowAt rooms i) ≡ u)). inr (g .0, omega (arith, g .1), n ∙ g .2, old-task (g .0) (g .1) ∙ g .3)) o
+        ⊎-elim (λ z. inl (n ∙ z)) (λ (g : (i : ℕ) × (i < k) × (nth d (lineAt rooms + u) ≡ suc i) × (nth d (rowAt rooms i) ≡ u)). inr
+        (g .0, omega (arith, g .1), n ∙ g .2, old-task (g .0) (g .1) ∙ g .3)) o
 
-    standing-next : Standing rooms (suc k) e
+    standing-next : LinesHeld rooms (suc k) e
     standing-next =
         let st = s .standing in
         let old : (i : ℕ) → i < k → nth d (rowAt rooms i) ≡ t → ⊥ = λ i l f. let g = st .line-of i l in let z : nth d (lineAt rooms + t) ≡ suc i = rw f at g in omega (arith, waits) in
@@ -200,7 +201,9 @@ module _ {rooms k : ℕ} {d : List ℕ} (s : Drawn rooms k d) (h : k < nth d 0) 
           job = held-same (st .job) (x .size) job-cells;
           count = rw tasks-same (omega arith);
           task-of = λ i l. rw tasks-same (⊎-elim (λ (q : i ≡ k). rw (q, x .task) low) (λ q. rw (old-task i q) (st .task-of i q)) (last-or-before k i l));
-          line-of = λ i l. ⊎-elim (λ (q : i ≡ k). rw (q, x .task) (x .line)) (λ q. rw (old-task i q, line-other (nth d (rowAt rooms i)) (st .task-of i q) (old i q)) (st .line-of i q)) (last-or-before k i l);
+          line-of =
+              λ i l. ⊎-elim (λ (q : i ≡ k). rw (q, x .task) (x .line)) (λ q. rw (old-task i q, line-other (nth d (rowAt rooms i)) (st .task-of i q) (old i q)) (st .line-of i q))
+              (last-or-before k i l);
           placed = λ u l. let g : u < nth d 0 = rw tasks-same at l in has-line u g (eqb u t) refl (st .placed u g);
           row = λ i l. ⊎-elim (λ (q : i ≡ k). rw q new-row) (λ q. row-held-same (rowAt rooms i) w (same-part 0 4 before-lines (omega arith) (omega arith))
               (same-part (rowAt rooms i) (rowEnd (rowAt rooms i)) old-rows (omega arith) (omega arith)) (st .row i q)) (last-or-before k i l);
@@ -221,9 +224,10 @@ module _ {rooms k : ℕ} {d : List ℕ} (s : Drawn rooms k d) (h : k < nth d 0) 
     outcome-kind true p l = ap (λ (y : Time). record { task = t; processor = p; time = y }) (cell-time (finish-comes s t p fed low l true))
     outcome-kind false p l = ap (λ (y : Time). record { task = t; processor = p; time = y }) (cell-time (finish-comes s t p fed low l false))
 
-    outcomes-next : (late : Bool) → rowOutcomes late (rowAt rooms k) (nth d 3 + 1) e ≡ reverse (walk (jobIn d) (choiceOf late) [] (placedIn rooms late (nth d 3 + 1) k d) (copiesOf (jobIn d) t (boxesFor rooms k t d)))
+    outcomes-next : (late : Bool) → rowOutcomes late (rowAt rooms k) (nth d 3 + 1) e ≡ reverse
+        (walk (jobIn d) (choiceOf late) [] (placedIn rooms late (nth d 3 + 1) k d) (copiesOf (jobIn d) t (processorsFor rooms k t d)))
     outcomes-next late =
-        let ps = boxesFor rooms k t d in
+        let ps = processorsFor rooms k t d in
         let f = outcomeOn (jobIn d) (choiceOf late) (placedIn rooms late (nth d 3 + 1) k d) t in
         outcomes-row late (rowAt rooms k) (nth d 3 + 1) e
         ∙ rw (x .task, x .replicas) (ap reverse
@@ -235,19 +239,20 @@ module _ {rooms k : ℕ} {d : List ℕ} (s : Drawn rooms k d) (h : k < nth d 0) 
     placed-old late = placed-same d e rooms late (nth d 3 + 1) k (omega (arith, w .losses-most)) old-rows
 
     placed-next : (late : Bool) → placedIn rooms late (nth e 3 + 1) (suc k) e
-        ≡ reverseAux (walk (jobIn d) (choiceOf late) [] (placedIn rooms late (nth d 3 + 1) k d) (copiesOf (jobIn d) t (boxesFor rooms k t d))) (placedIn rooms late (nth d 3 + 1) k d)
+        ≡ reverseAux (walk (jobIn d) (choiceOf late) [] (placedIn rooms late (nth d 3 + 1) k d) (copiesOf (jobIn d) t (processorsFor rooms k t d))) (placedIn rooms late (nth d 3 + 1) k d)
     unfolding placedIn
     placed-next late =
-        let ds = walk (jobIn d) (choiceOf late) [] (placedIn rooms late (nth d 3 + 1) k d) (copiesOf (jobIn d) t (boxesFor rooms k t d)) in
+        let ds = walk (jobIn d) (choiceOf late) [] (placedIn rooms late (nth d 3 + 1) k d) (copiesOf (jobIn d) t (processorsFor rooms k t d)) in
         rw (losses-same, outcomes-next late, placed-old late) (sym (reverseAux-eq ds (placedIn rooms late (nth d 3 + 1) k d)))
 
     -- What is left to place ---------------------------------------------------------------------------------------------
 
     new-line : rowReplicas (rowAt rooms k) (nth d 3 + 1) e
-        ≡ replicas (walk (jobIn d) least [] (earliesIn rooms k d) (copiesOf (jobIn d) t (boxesFor rooms k t d))) (walk (jobIn d) largest [] (latesIn rooms k d) (copiesOf (jobIn d) t (boxesFor rooms k t d)))
+        ≡ replicas (walk (jobIn d) least [] (earliesIn rooms k d) (copiesOf (jobIn d) t (processorsFor rooms k t d)))
+        (walk (jobIn d) largest [] (latesIn rooms k d) (copiesOf (jobIn d) t (processorsFor rooms k t d)))
     unfolding finishOn
     new-line =
-        let ps = boxesFor rooms k t d in
+        let ps = processorsFor rooms k t d in
         let one = chosen-distinct (jobIn d) (trial (jobIn d) (earliesIn rooms k d) t) (nth d 3 + 1) in
         x .replicas
         ∙ sym (replicas-map (outcomeOn (jobIn d) least (earliesIn rooms k d) t) (outcomeOn (jobIn d) largest (latesIn rooms k d) t) ps)
@@ -262,21 +267,23 @@ module _ {rooms k : ℕ} {d : List ℕ} (s : Drawn rooms k d) (h : k < nth d 0) 
         ∙ sym (map-keep (waitingAt rooms d) (λ u. others (u .task)) (keep (waiting d) ts))
         ∙ ap (map (waitingAt rooms d)) (keep-keep others (waiting d) ts ∙ keep-same (λ u. waiting d u && others u) (waiting e) ts (λ u i. still u (in-below (nth d 0) u i) (eqb u t) refl))
         ∙ (map-same (waitingAt rooms d) (waitingAt rooms e) (keep (waiting e) ts)
-        (λ u i. ap (λ (y : ℕ). record { task = u; bottom = y }) (sym (before-lines .cell (levelAt rooms + u) (omega arith) (omega (arith, in-below (nth d 0) u (in-keep (waiting e) u ts i .0), w .tasks-most))))))
+        (λ u i. ap (λ (y : ℕ). record { task = u; bottom = y })
+        (sym (before-lines .cell (levelAt rooms + u) (omega arith) (omega (arith, in-below (nth d 0) u (in-keep (waiting e) u ts i .0), w .tasks-most))))))
         ∙ sym (waiting-map rooms e ∙ ap (λ (n : ℕ). map (waitingAt rooms e) (keep (waiting e) (below n))) tasks-same)
       where
         still : (u : ℕ) → u < nth d 0 → (b : Bool) → eqb u t ≡ b → (eqb (nth d (lineAt rooms + u)) 0 && not (eqb u t)) ≡ eqb (nth e (lineAt rooms + u)) 0
         still u l true f = let q = eqb-true u t f in rw (q, waits, eq-eqb t t refl, x .line, ne-eqb (suc k) 0 (λ z. omega arith))
         still u l false f = rw (f, line-other u l (eqb-false u t f)) (and-true (eqb (nth d (lineAt rooms + u)) 0))
 
-    rest-next : linesIn rooms (nth e 3 + 1) (suc k) e ++ place (jobIn e) (nth e 3) (nth e 0 - suc k) (waitingIn rooms e) (earliesIn rooms (suc k) e) (latesIn rooms (suc k) e) ≡ planFor (jobIn e) (nth e 3) .lines
+    rest-next : linesIn rooms (nth e 3 + 1) (suc k) e ++ place (jobIn e) (nth e 3) (nth e 0 - suc k) (waitingIn rooms e) (earliesIn rooms (suc k) e) (latesIn rooms (suc k) e) ≡ planFor (jobIn e)
+        (nth e 3) .lines
     unfolding linesIn
     rest-next =
         let n = nth d 0 - (k + 1) in
         let m : nth d 0 - suc k ≡ n = omega arith in
         let lines = linesIn rooms (nth d 3 + 1) k d in
-        let es = walk (jobIn d) least [] (earliesIn rooms k d) (copiesOf (jobIn d) t (boxesFor rooms k t d)) in
-        let ls = walk (jobIn d) largest [] (latesIn rooms k d) (copiesOf (jobIn d) t (boxesFor rooms k t d)) in
+        let es = walk (jobIn d) least [] (earliesIn rooms k d) (copiesOf (jobIn d) t (processorsFor rooms k t d)) in
+        let ls = walk (jobIn d) largest [] (latesIn rooms k d) (copiesOf (jobIn d) t (processorsFor rooms k t d)) in
         let line : Line = record { task = t; replicas = replicas es ls } in
         let others = place (jobIn d) (nth d 3) n (keep (λ u. not (eqb (u .task) t)) (waitingIn rooms d)) (reverseAux es (earliesIn rooms k d)) (reverseAux ls (latesIn rooms k d)) in
         let turn : place (jobIn d) (nth d 3) (suc n) (waitingIn rooms d) (earliesIn rooms k d) (latesIn rooms k d) ≡ line ∷ others =

@@ -6,7 +6,7 @@ use Rattle.definitions.proofs.Lists.{map-same, in-append, append-left, append-r
 use Rattle.heads.specs.Layout.{lineAt, rowAt, processorAt, timeAt}
 use Rattle.jobs.specs.Held.{jobIn}
 use Rattle.ticks.specs.Cells.{neverCell, timeIn}
-use Rattle.plans.specs.Lines.{replicaIn, rowOutcomes, placedIn, rowReplicas, Standing}
+use Rattle.plans.specs.Lines.{replicaIn, rowOutcomes, placedIn, rowReplicas, LinesHeld}
 use Rattle.rounds.specs.Schedule.{choiceOf, dataIn, lineTicks, ShortTo}
 use Rattle.rounds.specs.Arrivals.{lastShort, BothFed, ShortClocks}
 use Rattle.ticks.specs.declared.clocks.Clocks.{Clocks}
@@ -163,14 +163,14 @@ row-on late a (suc c) m mem h d (inl e) = rw (← e) (h c (omega arith))
 row-on late a (suc c) m mem h d (inr i) = row-on late a c m mem (λ i l. h i (omega arith)) d i
 
 -- From the tick at which p is ready: the finish of t on p is that of the definition.
-pub finish-at : {rooms n k : ℕ} {mem : List ℕ} → Standing rooms n mem → k ≤ n → (late : Bool) (t p x : ℕ) → FedBy rooms k t mem
+pub finish-at : {rooms n k : ℕ} {mem : List ℕ} → LinesHeld rooms n mem → k ≤ n → (late : Bool) (t p x : ℕ) → FedBy rooms k t mem
     → tick x ≡ ready (jobIn mem) p (placedIn rooms late (nth mem 3 + 1) k mem)
     → after (runTime (jobIn mem) t p) (later (tick x) (dataIn rooms late t p mem)) ≡ finishOn rooms late k mem t p
 unfolding finishOn finish stopTime
 finish-at {k = k} s l late t p x f e = rw (e, start-placed s k t l f late p)
 
 -- The first k lines have ticks that do not pass k times those of a line.
-module _ {rooms n k : ℕ} {mem : List ℕ} (s : Standing rooms n mem) (l : k ≤ n) (h : ShortTo rooms k mem) where
+module _ {rooms n k : ℕ} {mem : List ℕ} (s : LinesHeld rooms n mem) (l : k ≤ n) (h : ShortTo rooms k mem) where
   -- So they are short.
   pub short-most : k * lineTicks ≤ lastShort
   short-most = let w = sizes (s .job) in let c = s .count in omega arith

@@ -3,10 +3,10 @@ use Rattle.lists.proofs.Prelude.{_≡_, refl, ap, _∙_, sym, inl, inr, List, [
 use Rattle.definitions.proofs.Lists.{both, keep-every, nth-below, length-count, in-below}
 use Rattle.definitions.proofs.Tasks.{in-incoming}
 use Rattle.definitions.proofs.BottomLevels.{length-bottom-levels}
-use Rattle.heads.specs.Layout.{memorySize, jobSize, levelAt, lineAt, blockedAt, priorityAt, rowAt, farAt}
+use Rattle.heads.specs.Layout.{memorySize, jobSize, levelAt, lineAt, blockedAt, priorityAt, rowAt, largestDelayAt}
 use Rattle.jobs.specs.Held.{jobIn, JobHeld}
 use Rattle.plans.specs.Lines.{placedIn, linesIn}
-use Rattle.rounds.specs.Schedule.{topIn, FarFilled, LevelsFilled}
+use Rattle.rounds.specs.Schedule.{topIn, LargestDelaysFilled, LevelsFilled}
 use Rattle.lists.specs.Kept.{KeptOutside}
 use Rattle.rounds.specs.Planning.{waitingIn, Drawn, Ranked, Cleared}
 use Rattle.jobs.proofs.Held.{tasks-in, job-kept, held-kept}
@@ -48,7 +48,8 @@ module _ (rooms : ℕ) (j : Job) (mem : List ℕ) (t n x : ℕ) (h : t < 8 * roo
       }
 
   pub cleared-kept : (d : List ℕ) → KeptOutside (lineAt rooms) (rowAt rooms 0) d mem → KeptOutside (lineAt rooms) (rowAt rooms 0) d (set two (priorityAt rooms + t) x)
-  cleared-kept d k = kept-set (priorityAt rooms + t) x (kept-set (blockedAt rooms + t) n (kept-set (lineAt rooms + t) 0 k (omega arith) (omega arith)) (omega arith) (omega arith)) (omega arith) (omega arith)
+  cleared-kept d k =
+      kept-set (priorityAt rooms + t) x (kept-set (blockedAt rooms + t) n (kept-set (lineAt rooms + t) 0 k (omega arith) (omega arith)) (omega arith) (omega arith)) (omega arith) (omega arith)
 
 -- All of the plan is still to be drawn up ---------------------------------------------------------------------------
 
@@ -68,7 +69,7 @@ module _ {rooms : ℕ} {mem : List ℕ} (h : JobHeld rooms mem) (line : (t : ℕ
       ∙ ap (map (waitingAt rooms mem)) (keep-every (λ t. eqb (nth mem (lineAt rooms + t)) 0) ts (λ t i. eq-eqb (nth mem (lineAt rooms + t)) 0 (line t (in-below (nth mem 0) t i))))
       ∙ sym (waiting-from (λ t. nth mem (levelAt rooms + t)) 0 (nth mem 0)) ∙ ap (waitingFrom 0) (levels-list mem h f)
 
-  outset-drawn : FarFilled rooms mem → LevelsFilled rooms mem → Drawn rooms 0 mem
+  outset-drawn : LargestDelaysFilled rooms mem → LevelsFilled rooms mem → Drawn rooms 0 mem
   unfolding linesIn placedIn planFor
   outset-drawn c f =
       let n : nth mem 0 - 0 ≡ jobIn mem .tasks = omega (arith, tasks-in mem) in
@@ -109,7 +110,7 @@ module _ {rooms : ℕ} {mem : List ℕ} (h : JobHeld rooms mem) (line : (t : ℕ
 
 -- Levels, largest delays and cleared tasks, one after the other.
 module _ {rooms : ℕ} {a b c f : List ℕ} (h : JobHeld rooms a)
-    (levelled : KeptOutside (levelAt rooms) (lineAt rooms) a b × LevelsFilled rooms b) (spread : KeptOutside (farAt rooms) (memorySize rooms) b c × FarFilled rooms c)
+    (levelled : KeptOutside (levelAt rooms) (lineAt rooms) a b × LevelsFilled rooms b) (spread : KeptOutside (largestDelayAt rooms) (memorySize rooms) b c × LargestDelaysFilled rooms c)
     (cleared : KeptOutside (lineAt rooms) (rowAt rooms 0) c f × Cleared rooms (nth f 0) (jobIn c) f) where
   -- What came after the levels.
   after-levels : KeptOutside (lineAt rooms) (memorySize rooms) b f
@@ -129,8 +130,9 @@ module _ {rooms : ℕ} {a b c f : List ℕ} (h : JobHeld rooms a)
   pub outset : Drawn rooms 0 f
   outset =
       outset-drawn outset-held (cleared .1 .line)
-      (far-same held-c (same-before 0 (jobSize rooms) (cleared .0) (omega arith)) (same-behind (farAt rooms) (memorySize rooms) (cleared .0) (omega arith)) (spread .1))
-      (levels-same (held-kept h (levelled .0) (omega arith)) (same-before 0 (jobSize rooms) after-levels (omega arith)) (same-before (levelAt rooms) (lineAt rooms) after-levels (omega arith)) (levelled .1))
+      (far-same held-c (same-before 0 (jobSize rooms) (cleared .0) (omega arith)) (same-behind (largestDelayAt rooms) (memorySize rooms) (cleared .0) (omega arith)) (spread .1))
+      (levels-same (held-kept h (levelled .0) (omega arith)) (same-before 0 (jobSize rooms) after-levels (omega arith)) (same-before (levelAt rooms) (lineAt rooms) after-levels (omega arith))
+      (levelled .1))
 
   pub outset-counts : Ranked rooms [] f
   outset-counts = outset-ranked outset-held (cleared .1 .line) (λ t l. rw (job-kept held-c (cleared .0) (omega arith)) (cleared .1 .blocked t l)) (cleared .1 .priority)

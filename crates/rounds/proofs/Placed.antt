@@ -3,10 +3,10 @@ use Rattle.lists.proofs.Prelude.{_≡_, refl, ap, _∙_, sym, _⊎_, inl, inr, 
 use Rattle.definitions.specs.Times.{feeding}
 use Rattle.definitions.proofs.Lists.{map-same, in-append, append-left, append-right, in-has, has-not}
 use Rattle.definitions.proofs.Tasks.{in-incoming}
-use Rattle.heads.specs.Layout.{lineAt, farAt, rowAt, processorAt}
+use Rattle.heads.specs.Layout.{lineAt, largestDelayAt, rowAt, processorAt}
 use Rattle.jobs.specs.Held.{jobIn}
-use Rattle.rounds.specs.Schedule.{choiceOf, arrivalIn, dataIn, FedIn, topIn, FarFilled}
-use Rattle.plans.specs.Lines.{rowOutcomes, placedIn, rowOf, Standing}
+use Rattle.rounds.specs.Schedule.{choiceOf, arrivalIn, dataIn, FedIn, topIn, LargestDelaysFilled}
+use Rattle.plans.specs.Lines.{rowOutcomes, placedIn, rowOf, LinesHeld}
 use Rattle.lists.proofs.Counting.{last-or-before, zero-or-more}
 use Rattle.jobs.proofs.Held.{tasks-in}
 
@@ -77,7 +77,8 @@ module _ (late : Bool) (mem : List ℕ) (w : ℕ) where
   task-in rooms b (suc k) i h =
       rw (map-append (λ d. d .task) (rowOutcomes late (rowAt rooms k) w mem) (placedIn rooms late w k mem))
       (⊎-elim
-      (λ (e : i ≡ k). append-left (nth mem (rowAt rooms i)) (map (λ d. d .task) (rowOutcomes late (rowAt rooms k) w mem)) (map (λ d. d .task) (placedIn rooms late w k mem)) (rw e (row-task (rowAt rooms k) w b)))
+      (λ (e : i ≡ k). append-left (nth mem (rowAt rooms i)) (map (λ d. d .task) (rowOutcomes late (rowAt rooms k) w mem)) (map (λ d. d .task) (placedIn rooms late w k mem))
+      (rw e (row-task (rowAt rooms k) w b)))
       (λ (l : i < k). append-right (nth mem (rowAt rooms i)) (map (λ d. d .task) (rowOutcomes late (rowAt rooms k) w mem)) (map (λ d. d .task) (placedIn rooms late w k mem)) (task-in rooms b k i l))
       (last-or-before k i h))
 
@@ -96,7 +97,7 @@ module _ (late : Bool) (mem : List ℕ) (w : ℕ) where
 abbrev pub FedBy : ℕ → ℕ → ℕ → List ℕ → Type 0
 FedBy rooms k t mem = (e : Edge) → In e (incoming (jobIn mem) t) → (0 < nth mem (lineAt rooms + e .from)) × (nth mem (lineAt rooms + e .from) ≤ k)
 
-module _ {rooms n : ℕ} {mem : List ℕ} (s : Standing rooms n mem) where
+module _ {rooms n : ℕ} {mem : List ℕ} (s : LinesHeld rooms n mem) where
   -- The line of a task that is placed.
   pub line-in : (u i : ℕ) → u < nth mem 0 → nth mem (lineAt rooms + u) ≡ suc i → (i < n) × (nth mem (rowAt rooms i) ≡ u)
   line-in u i h e =
@@ -148,7 +149,8 @@ module _ {rooms n : ℕ} {mem : List ℕ} (s : Standing rooms n mem) where
   pub has-placed : (late : Bool) (w u : ℕ) → 0 < w → u < nth mem 0 → has u (map (λ d. d .task) (placedIn rooms late w n mem)) ≡ ltb 0 (nth mem (lineAt rooms + u))
   has-placed late w u b h =
       ⊎-elim
-      (λ (e : nth mem (lineAt rooms + u) ≡ 0). has-not u (map (λ d. d .task) (placedIn rooms late w n mem)) (placed-not late w n (omega arith) u e) ∙ sym (le-ltb 0 (nth mem (lineAt rooms + u)) (omega arith)))
+      (λ (e : nth mem (lineAt rooms + u) ≡ 0). has-not u (map (λ d. d .task) (placedIn rooms late w n mem)) (placed-not late w n (omega arith) u e) ∙ sym
+      (le-ltb 0 (nth mem (lineAt rooms + u)) (omega arith)))
       (λ (l : 0 < nth mem (lineAt rooms + u)).
       in-has u (map (λ d. d .task) (placedIn rooms late w n mem)) (placed-task late w n (omega arith) u (nth mem (lineAt rooms + u) - 1) h (omega arith) (omega (arith, line-most u h)) b)
       ∙ sym (lt-ltb 0 (nth mem (lineAt rooms + u)) l))
@@ -183,25 +185,25 @@ module _ {rooms n : ℕ} {mem : List ℕ} (s : Standing rooms n mem) where
     unfolding start
     start-placed late p = rw (data-placed late p)
 
-    row-far : FarFilled rooms mem → (volume b c : ℕ) → ((i : ℕ) → i < c → nth mem (processorAt b i) < nth mem 1)
-        → map (λ d. after (volume * nth mem (farAt rooms + d .processor)) (d .time)) (rowOutcomes false b c mem)
+    row-far : LargestDelaysFilled rooms mem → (volume b c : ℕ) → ((i : ℕ) → i < c → nth mem (processorAt b i) < nth mem 1)
+        → map (λ d. after (volume * nth mem (largestDelayAt rooms + d .processor)) (d .time)) (rowOutcomes false b c mem)
         ≡ map (λ d. after (volume * largestDelay (jobIn mem) (d .processor)) (d .time)) (rowOutcomes false b c mem)
     unfolding rowOutcomes
     row-far g volume b zero h = refl
     row-far g volume b (suc c) h = rw (g (nth mem (processorAt b c)) (h c (omega arith)), row-far g volume b c (λ i l. h i (omega arith)))
 
-    pub top-placed : FarFilled rooms mem
+    pub top-placed : LargestDelaysFilled rooms mem
         → topIn rooms t mem ≡ largest (map (λ e. least (map (λ d. after (e .volume * largestDelay (jobIn mem) (d .processor)) (d .time))
         (ofTask (e .from) (placedIn rooms false (nth mem 3 + 1) k mem)))) (incoming (jobIn mem) t))
     unfolding topIn
     top-placed g =
         ap largest
-        (map-same (λ e. least (map (λ d. after (e .volume * nth mem (farAt rooms + d .processor)) (d .time)) (rowOutcomes false (rowOf rooms (e .from) mem) (nth mem 3 + 1) mem)))
+        (map-same (λ e. least (map (λ d. after (e .volume * nth mem (largestDelayAt rooms + d .processor)) (d .time)) (rowOutcomes false (rowOf rooms (e .from) mem) (nth mem 3 + 1) mem)))
         (λ e. least (map (λ d. after (e .volume * largestDelay (jobIn mem) (d .processor)) (d .time)) (ofTask (e .from) (placedIn rooms false (nth mem 3 + 1) k mem)))) (incoming (jobIn mem) t)
         (λ e i.
         let (l, m) = f e i in
         rw (feeding-line false e i) (ap least (row-far g (e .volume) (rowOf rooms (e .from) mem) (nth mem 3 + 1) (s .row (nth mem (lineAt rooms + e .from) - 1) (omega arith) .processor-of)))))
 
-    pub level-placed : FarFilled rooms mem → topLevel (jobIn mem) (placedIn rooms false (nth mem 3 + 1) k mem) t ≡ tickOf (topIn rooms t mem) * scale (jobIn mem)
+    pub level-placed : LargestDelaysFilled rooms mem → topLevel (jobIn mem) (placedIn rooms false (nth mem 3 + 1) k mem) t ≡ tickOf (topIn rooms t mem) * scale (jobIn mem)
     unfolding topLevel
     level-placed g = rw (top-placed g)

@@ -9,7 +9,7 @@ use Rattle.jobs.specs.Answers.{Answered}
 use Rattle.jobs.specs.Loading.{JobLoaded}
 use Rattle.jobs.specs.Held.{jobIn, JobHeld, LinksHeld}
 use Rattle.ticks.specs.Cells.{timeIn}
-use Rattle.plans.specs.Lines.{placedIn, linesIn, Standing}
+use Rattle.plans.specs.Lines.{placedIn, linesIn, LinesHeld}
 use Rattle.rounds.specs.Schedule.{choiceOf}
 use Rattle.lists.specs.Kept.{KeptOutside}
 use Rattle.rounds.specs.Planning.{Drawn}
@@ -26,7 +26,7 @@ use Rattle.rounds.proofs.Drawing.{drawn-lines}
 use Rattle.rounds.proofs.JudgeLaws.{best-differs, worst-decides}
 
 -- The lines of the job's own plan stand in a memory.
-module _ {rooms : ℕ} {mem : List ℕ} (s : Standing rooms (nth mem 0) mem) (e : linesIn rooms (nth mem 3 + 1) (nth mem 0) mem ≡ planFor (jobIn mem) (jobIn mem .losses) .lines) where
+module _ {rooms : ℕ} {mem : List ℕ} (s : LinesHeld rooms (nth mem 0) mem) (e : linesIn rooms (nth mem 3 + 1) (nth mem 0) mem ≡ planFor (jobIn mem) (jobIn mem .losses) .lines) where
   abbrev own : Plan
   own = planFor (jobIn mem) (jobIn mem .losses)
 
@@ -123,7 +123,7 @@ module _ {rooms : ℕ} {d mem : List ℕ} (h : JobHeld rooms d) (k : KeptOutside
   unfolding jobIn
   own-lines = drawn-lines drawn-all
 
-  pub ends-asked : {links : List ℕ} → LinksHeld d links → Standing rooms (nth mem 0) mem × LinksHeld mem links
+  pub ends-asked : {links : List ℕ} → LinksHeld d links → LinesHeld rooms (nth mem 0) mem × LinksHeld mem links
   ends-asked l = (drawn-all .standing, links-kept h k (omega arith) l)
 
   module _ (x y : ℕ) (f : timeIn x ≡ end (jobIn mem) (choiceOf false) (placedIn rooms false (nth mem 3 + 1) (nth mem 0) mem))

@@ -6,9 +6,9 @@ use Rattle.heads.specs.Layout.{memorySize, levelAt, lineAt, blockedAt, priority
 use Rattle.orders.specs.Edges.{edgeIn}
 use Rattle.orders.proofs.Walk.{passed, pass-more, Passed, pass-at, pass-back}
 use Rattle.jobs.specs.Held.{edgeAt, jobIn, JobHeld, LinksHeld}
-use Rattle.rounds.specs.Schedule.{topIn, FedIn, FarFilled}
+use Rattle.rounds.specs.Schedule.{topIn, FedIn, LargestDelaysFilled}
 use Rattle.lists.specs.Kept.{KeptOutside}
-use Rattle.plans.specs.Lines.{Standing}
+use Rattle.plans.specs.Lines.{LinesHeld}
 use Rattle.rounds.specs.Planning.{FreeList, PutIn, Drawn, Ranked, blocking, entries, Releasing, Unblocks}
 use Rattle.rounds.specs.Clocks.{earliesIn}
 use Rattle.rounds.specs.Levels.{levelMost}
@@ -183,11 +183,16 @@ module _ {rooms n goes : ℕ} {here : Edge} {es : List Edge} {d mem : List ℕ} 
     released : FedIn rooms goes lowered
     released = fed-released (v .drawn) lowered-kept goes (omega (arith, lowered-here, lowered-blocked goes (v .task)))
 
-    pub release-asks : ((i : ℕ) × Standing rooms i lowered × ((j c : ℕ) → j < i → c < nth lowered 3 + 1 → nth lowered (earlyAt (rowAt rooms j) c) ≤ document01 .tick))
-        × (goes < nth lowered 0) × FedIn rooms goes lowered × FarFilled rooms lowered
+    pub release-asks : ((i : ℕ) × LinesHeld rooms i lowered × ((j c : ℕ) → j < i → c < nth lowered 3 + 1 → nth lowered (earlyAt (rowAt rooms j) c) ≤ document01 .tick))
+        × (goes < nth lowered 0) × FedIn rooms goes lowered × LargestDelaysFilled rooms lowered
     release-asks =
-        let x = drawn-choice lowered-kept (v .drawn) (omega arith) (omega arith) in
-        ((n, x .standing, λ j c l m. omega (arith, x .ticks j c l m .0, short-most (v .drawn .standing) (omega arith) (v .drawn .ticks))), rw (lowered-kept .before 0 (omega arith)) (v .task), released, x .far)
+        let x = drawn-choice lowered-kept (v .drawn) (omega arith) (omega arith) in (
+          (n, x .standing, λ j c l m. omega (arith, x .ticks j c l m .0, short-most (v .drawn .standing) (omega arith) (v .drawn .ticks))),
+          rw (lowered-kept .before 0 (omega arith))
+              (v .task),
+          released,
+          x .far,
+        )
 
     pub release-level : nth lowered (levelAt rooms + goes) ≤ levelMost
     release-level =
@@ -211,8 +216,10 @@ module _ {rooms n goes : ℕ} {here : Edge} {es : List Edge} {d mem : List ℕ} 
         rank u l i b true f =
             let q = eqb-true u goes f in
             rw q
-            (getD-set-same lowered (priorityAt rooms + goes) (x + nth lowered (levelAt rooms + goes)) 0 (omega (arith, v .task, size .tasks-most, length-set mem (blockedAt rooms + goes) count, release-within .1))
-            ∙ rw (lowered-kept .before (levelAt rooms + goes) (omega (arith, v .task, size .tasks-most))) (ap (λ (i : ℕ). i + nth d (levelAt rooms + goes)) (e ∙ top-released (v .drawn) lowered-kept goes released)))
+            (getD-set-same lowered (priorityAt rooms + goes) (x + nth lowered (levelAt rooms + goes)) 0
+            (omega (arith, v .task, size .tasks-most, length-set mem (blockedAt rooms + goes) count, release-within .1))
+            ∙ rw (lowered-kept .before (levelAt rooms + goes) (omega (arith, v .task, size .tasks-most)))
+            (ap (λ (i : ℕ). i + nth d (levelAt rooms + goes)) (e ∙ top-released (v .drawn) lowered-kept goes released)))
         rank u l i b false f =
             let q = eqb-false u goes f in
             getD-set-other lowered (priorityAt rooms + goes) (priorityAt rooms + u) (x + nth lowered (levelAt rooms + goes)) 0 (λ o. q (omega arith))

@@ -1,11 +1,11 @@
 -- The replay's answer: it does not depend on the order of the outcomes, and what the memory gives is what the texts say.
-use Rattle.lists.proofs.Prelude.{_≡_, refl, ap, ap₂, ⊎-elim, List, [], _∷_, _++_, map, reverse, Bool, ℕ, _<_, _≤_, arith, lt-ltb, le-ltb, eqb, length, nth, below, keep, In, Limits, document01, Result, good, bad, Job, Plan, Stop, readStops, Time, same, largest, Outcome, ofTask, exits, end, replay, firstFinish, firstBox, roundEnd, resultLines, endLine, replayText}
+use Rattle.lists.proofs.Prelude.{_≡_, refl, ap, ap₂, ⊎-elim, List, [], _∷_, _++_, map, reverse, Bool, ℕ, _<_, _≤_, arith, lt-ltb, le-ltb, eqb, length, nth, below, keep, In, Limits, document01, Result, good, bad, Job, Plan, Stop, readStops, Time, same, largest, Outcome, ofTask, exits, end, replay, firstFinish, firstProcessor, roundEnd, resultLines, endLine, replayText}
 use Rattle.definitions.proofs.Lists.{map-same, in-map, map-in, in-keep, keep-in, in-reverse, reverse-left}
 use Rattle.lists.specs.Over.{over}
 use Rattle.text.specs.declared.Step.the-variants.{Next, Refused}
 use Rattle.jobs.specs.Answers.{Answered}
 use Rattle.jobs.specs.Held.{jobIn, JobHeld, LinksHeld}
-use Rattle.plans.specs.Lines.{Standing}
+use Rattle.plans.specs.Lines.{LinesHeld}
 use Rattle.stops.specs.Loading.{stopsFrom, StopsLoaded}
 use Rattle.plans.specs.Loading.{planIn, BothLoaded, PlanHeld}
 use Rattle.rounds.specs.Tools.{replayBoth}
@@ -49,8 +49,8 @@ module _ {ds es : List Outcome} (a : Alike ds es) where
   unfolding firstFinish
   finish-alike t = let b = alike-map (task-alike t) (λ d. d .time) in least-same _ _ (b .there) (b .back)
 
-  box-alike : (t : ℕ) (x : Time) → firstBox t x ds ≡ firstBox t x es
-  unfolding firstBox
+  box-alike : (t : ℕ) (x : Time) → firstProcessor t x ds ≡ firstProcessor t x es
+  unfolding firstProcessor
   box-alike t x = let b = alike-map (alike-keep (task-alike t) (λ d. same (d .time) x)) (λ d. d .processor) in lowest-same _ _ (b .there) (b .back)
 
   end-alike : (j : Job) → roundEnd j ds ≡ roundEnd j es
@@ -87,7 +87,7 @@ stops-read (bad k) cells n z e = absurd (let z : _≡_ {A = ℕ} 0 1 = cc in ome
 
 -- The plan in d has run under the stops in the cells, and e is the memory after it.
 module _ {rooms : ℕ} {d e cells : List ℕ} (h : PlanHeld rooms d) (r : RoundRun rooms cells d e) where
-  pub run-asked : {links : List ℕ} → LinksHeld d links → Standing rooms (nth e 0) e × RisingIn rooms e × LinksHeld e links
+  pub run-asked : {links : List ℕ} → LinksHeld d links → LinesHeld rooms (nth e 0) e × RisingIn rooms e × LinksHeld e links
   run-asked l = (r .standing, r .rising, links-kept (h .standing .job) (r .outside) (omega arith) l)
 
   run-text : (ss : List Stop) → StopsIn ss cells

@@ -1,5 +1,5 @@
 -- The R lines and the L line, one after another.
-use Rattle.lists.proofs.Prelude.{_≡_, refl, ap, sym, ⊎-elim, List, [], _∷_, _++_, append-assoc, append-nil, ℕ, _+_, _-_, _<_, min, length, nth, countFrom, below, document01, Time, least, end, Outcome, firstFinish, firstBox, roundEnd, resultLine, resultLines, endLine, replayText}
+use Rattle.lists.proofs.Prelude.{_≡_, refl, ap, sym, ⊎-elim, List, [], _∷_, _++_, append-assoc, append-nil, ℕ, _+_, _-_, _<_, min, length, nth, countFrom, below, document01, Time, least, end, Outcome, firstFinish, firstProcessor, roundEnd, resultLine, resultLines, endLine, replayText}
 use borrow.Rule.Slice.PartMut.{putMid, midOf}
 use Rattle.lists.proofs.Upward.{below-more}
 use Rattle.text.specs.Told.{written}
@@ -22,13 +22,13 @@ task-line {t} {x} {p} f =
     (equal-or-not x neverCell)
 
 results-last : (ts : List ℕ) (t : ℕ) (ds : List Outcome)
-    → resultLines document01 (ts ++ t ∷ []) ds ≡ resultLines document01 ts ds ++ resultLine document01 t (firstFinish t ds) (firstBox t (firstFinish t ds) ds)
+    → resultLines document01 (ts ++ t ∷ []) ds ≡ resultLines document01 ts ds ++ resultLine document01 t (firstFinish t ds) (firstProcessor t (firstFinish t ds) ds)
 unfolding resultLines
-results-last [] t ds = append-nil (resultLine document01 t (firstFinish t ds) (firstBox t (firstFinish t ds) ds))
+results-last [] t ds = append-nil (resultLine document01 t (firstFinish t ds) (firstProcessor t (firstFinish t ds) ds))
 results-last (u ∷ ts) t ds =
     rw (results-last ts t ds)
-    (sym (append-assoc (resultLine document01 u (firstFinish u ds) (firstBox u (firstFinish u ds) ds)) (resultLines document01 ts ds)
-    (resultLine document01 t (firstFinish t ds) (firstBox t (firstFinish t ds) ds))))
+    (sym (append-assoc (resultLine document01 u (firstFinish u ds) (firstProcessor u (firstFinish u ds) ds)) (resultLines document01 ts ds)
+    (resultLine document01 t (firstFinish t ds) (firstProcessor t (firstFinish t ds) ds))))
 
 module _ (rooms : ℕ) (mem : List ℕ) where
   pub tasks-none : taskLines rooms 0 mem ≡ []

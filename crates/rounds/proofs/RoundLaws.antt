@@ -4,9 +4,9 @@ use lib.Seq.{getD-at}
 use Rattle.definitions.proofs.Lists.{in-append, nth-in}
 use Rattle.definitions.proofs.Ready.{first-ready}
 use Rattle.definitions.proofs.Doubled.{rising}
-use Rattle.heads.specs.Layout.{jobSize, lineAt, rowAt, farAt, processorAt}
+use Rattle.heads.specs.Layout.{jobSize, lineAt, rowAt, largestDelayAt, processorAt}
 use Rattle.jobs.specs.Held.{jobIn, JobHeld}
-use Rattle.plans.specs.Lines.{rowOutcomes, placedIn, rowReplicas, linesIn, Standing}
+use Rattle.plans.specs.Lines.{rowOutcomes, placedIn, rowReplicas, linesIn, LinesHeld}
 use Rattle.rounds.specs.Arrivals.{DelayTable}
 use Rattle.plans.specs.Loading.{planIn}
 use Rattle.rounds.specs.Replaying.{StopsIn, ranIn, Running, FedBefore, Retimed, copiesIn, walked, LineRun, RisingIn, RoundRun}
@@ -74,7 +74,7 @@ rising-at [] i d h = absurd (omega arith)
 rising-at (p ∷ ps) zero d h = rising p ps d .0 (nth ps 0) (nth-in ps 0 (omega arith))
 rising-at (p ∷ ps) (suc i) d h = rising-at ps i (rising p ps d .1) (omega arith)
 
-module _ {rooms : ℕ} {mem : List ℕ} (s : Standing rooms (nth mem 0) mem) (o : Ordered (jobIn mem) [] (linesIn rooms (nth mem 3 + 1) (nth mem 0) mem)) where
+module _ {rooms : ℕ} {mem : List ℕ} (s : LinesHeld rooms (nth mem 0) mem) (o : Ordered (jobIn mem) [] (linesIn rooms (nth mem 3 + 1) (nth mem 0) mem)) where
   pub fed-lines : (k : ℕ) → k < nth mem 0 → FedBefore rooms k mem
   fed-lines k h e m =
       let (before, f, g) = line-among (nth mem 3 + 1) mem rooms (jobIn mem) (nth mem 0) o k h in
@@ -116,7 +116,7 @@ pub record RoundRuns (rooms k : ℕ) (stops cells d e : List ℕ) : Type 0 where
   pub retimed : Retimed rooms 0 (nth d 0) d e
   pub outcomes : (ss : List Stop) → StopsIn ss stops → placedIn rooms false (nth e 3 + 1) k e ≡ walked (jobIn d) ss [] (copies (jobIn d) (linesIn rooms (nth d 3 + 1) k d))
 
-pub round-first : {rooms : ℕ} (stops : List ℕ) {mem : List ℕ} → Standing rooms (nth mem 0) mem → RoundRuns rooms 0 stops (replicate 16 0) mem mem
+pub round-first : {rooms : ℕ} (stops : List ℕ) {mem : List ℕ} → LinesHeld rooms (nth mem 0) mem → RoundRuns rooms 0 stops (replicate 16 0) mem mem
 unfolding ready ranIn rowOutcomes placedIn linesIn copies walked walk
 round-first stops {mem} s =
     let w = sizes (s .job) in
@@ -132,11 +132,16 @@ round-first stops {mem} s =
       outcomes = λ ss h. refl;
     }
 
-module _ {rooms : ℕ} (k : ℕ) {stops cells d e : List ℕ} (l : RoundRuns rooms k stops cells d e) (s : Standing rooms (nth d 0) d) (o : Ordered (jobIn d) [] (planIn rooms d .lines)) where
+module _ {rooms : ℕ} (k : ℕ) {stops cells d e : List ℕ} (l : RoundRuns rooms k stops cells d e) (s : LinesHeld rooms (nth d 0) d) (o : Ordered (jobIn d) [] (planIn rooms d .lines)) where
   -- What the next line asks for.
   pub round-asks : {delays : List ℕ} → DelayTable delays d → k < nth d 0 → DelayTable delays e × (k < nth e 0) × FedBefore rooms k e
   unfolding planIn
-  round-asks t h = (delays-kept (s .job) (same-before 0 (jobSize rooms) (l .retimed .outside) (omega arith)) t, rw (cell-retimed (l .retimed) 0 (omega arith)) h, fed-retimed (l .retimed) (s .job) k (fed-lines s o k h))
+  round-asks t h = (
+    delays-kept (s .job) (same-before 0 (jobSize rooms) (l .retimed .outside) (omega arith)) t,
+    rw (cell-retimed (l .retimed) 0 (omega arith)) h,
+    fed-retimed (l .retimed) (s .job) k
+        (fed-lines s o k h),
+  )
 
   pub round-next : {after f : List ℕ} → k < nth d 0 → Running rooms (suc k) 0 after f → LineRun rooms k stops e f → RoundRuns rooms (k + 1) stops after d f
   round-next {after} {f} h r q =
@@ -150,7 +155,8 @@ module _ {rooms : ℕ} (k : ℕ) {stops cells d e : List ℕ} (l : RoundRuns roo
         outcomes = λ ss g.
             q .outcomes ss g
             ∙ rw (j, l .outcomes ss g, three, copies-retimed (l .retimed) (s .job) k (nth d 3 + 1) (omega arith))
-            (sym (walked-append (jobIn d) ss [] (copies (jobIn d) (linesIn rooms (nth d 3 + 1) k d)) (copiesIn rooms k (nth d 3 + 1) d)) ∙ ap (walked (jobIn d) ss []) (lines-more rooms k (nth d 3 + 1) d));
+            (sym (walked-append (jobIn d) ss [] (copies (jobIn d) (linesIn rooms (nth d 3 + 1) k d)) (copiesIn rooms k (nth d 3 + 1) d)) ∙ ap (walked (jobIn d) ss [])
+            (lines-more rooms k (nth d 3 + 1) d));
       }
 
   pub round-done : k ≡ nth d 0 → RoundRun rooms stops d e
@@ -160,7 +166,7 @@ module _ {rooms : ℕ} (k : ℕ) {stops cells d e : List ℕ} (l : RoundRuns roo
       let zero-cell : nth e 0 ≡ nth d 0 = cell-retimed (l .retimed) 0 (omega arith) in
       let three : nth e 3 ≡ nth d 3 = cell-retimed (l .retimed) 3 (omega arith) in
       record {
-        outside = kept-wider (rowAt rooms 0) (farAt rooms) (l .retimed .outside) (omega arith) (omega arith);
+        outside = kept-wider (rowAt rooms 0) (largestDelayAt rooms) (l .retimed .outside) (omega arith) (omega arith);
         standing = l .running .standing;
         rising = λ i c h g.
             let u : i < nth d 0 = rw zero-cell at h in

@@ -8,7 +8,7 @@ use Rattle.definitions.proofs.Bounds.{weaker, trial-most}
 use Rattle.heads.specs.Layout.{lineAt, rowAt, processorAt, earlyAt, lateAt}
 use Rattle.jobs.specs.Held.{jobIn, JobHeld}
 use Rattle.ticks.specs.Cells.{neverCell, timeIn, Small}
-use Rattle.plans.specs.Lines.{rowOutcomes, placedIn, rowReplicas, rowOf, Standing}
+use Rattle.plans.specs.Lines.{rowOutcomes, placedIn, rowReplicas, rowOf, LinesHeld}
 use Rattle.rounds.specs.Schedule.{dataIn, lineTicks}
 use Rattle.lists.specs.Kept.{KeptOutside}
 use Rattle.rounds.specs.Arrivals.{lastShort, FirstFed}
@@ -60,7 +60,7 @@ module _ {rooms k n : ℕ} {d e : List ℕ} (z : Retimed rooms k n d e) where
         rw (cell-retimed (lineAt rooms + x .from) (omega arith)) (f x g)
 
   -- Lines whose early times are those of ticks still stand.
-  pub standing-retimed : Standing rooms (nth d 0) d → ((i c : ℕ) → i < nth d 0 → c < nth d 3 + 1 → Small (document01 .tick) (nth e (earlyAt (rowAt rooms i) c))) → Standing rooms (nth e 0) e
+  pub standing-retimed : LinesHeld rooms (nth d 0) d → ((i c : ℕ) → i < nth d 0 → c < nth d 3 + 1 → Small (document01 .tick) (nth e (earlyAt (rowAt rooms i) c))) → LinesHeld rooms (nth e 0) e
   standing-retimed s early =
       let w = sizes (s .job) in
       let j : Same 0 (rowAt rooms 0) d e = same-before 0 (rowAt rooms 0) (z .outside) (omega arith) in
@@ -158,7 +158,8 @@ module _ {rooms : ℕ} (k c : ℕ) {cells mem : List ℕ} (r : Running rooms k c
         let among : In here (trial j (ranIn rooms k c mem) runner) =
         map-in (λ y. tickOf (finish j least [] (ranIn rooms k c mem) y)) (copyOf j runner box) (copiesOf j runner (below (j .processors)))
         (map-in (copyOf j runner) box (below (j .processors)) (below-in (j .processors) box (rw (processors-in mem) box-below))) in
-        let most : here ≤ (k * 8 + c) * lineTicks + lineTicks = trial-most document01 j s ((k * 8 + c) * lineTicks) (ranIn rooms k c mem) runner (rw (tasks-in mem) (r .standing .task-of k a)) (r .within) here among in
+        let most : here ≤ (k * 8 + c) * lineTicks + lineTicks = trial-most document01 j s ((k * 8 + c) * lineTicks) (ranIn rooms k c mem) runner (rw (tasks-in mem) (r .standing .task-of k a))
+        (r .within) here among in
         ⊎-elim inl (λ n. let q : here ≡ x = ap tickOf (finish-ran [] ∙ time-tick x n) in inr (omega arith)) (equal-or-not x neverCell)
 
     -- Its outcome y takes the place of its early tick and becomes its processor's ready time.
@@ -237,11 +238,13 @@ unfolding walked walk
 walked-append j ss placed [] cs = refl
 walked-append j ss placed (b ∷ bs) cs = walked-append j ss (outcome b (finish j least ss placed b) ∷ placed) bs cs
 
-copies-next : (rooms : ℕ) (k c : ℕ) (mem : List ℕ) → copiesIn rooms k (c + 1) mem ≡ copiesIn rooms k c mem ++ copyOf (jobIn mem) (nth mem (rowAt rooms k)) (nth mem (processorAt (rowAt rooms k) c)) ∷ []
+copies-next : (rooms : ℕ) (k c : ℕ) (mem : List ℕ) → copiesIn rooms k (c + 1) mem ≡ copiesIn rooms k c mem ++ copyOf (jobIn mem) (nth mem (rowAt rooms k))
+    (nth mem (processorAt (rowAt rooms k) c)) ∷ []
 unfolding copiesIn rowReplicas
 copies-next rooms k c mem =
     let t = nth mem (rowAt rooms k) in
-    rw (add-one c, map-append (λ r. r .processor) (rowReplicas (rowAt rooms k) c mem) (_ ∷ [])) (map-append (copyOf (jobIn mem) t) (map (λ r. r .processor) (rowReplicas (rowAt rooms k) c mem)) (_ ∷ []))
+    rw (add-one c, map-append (λ r. r .processor) (rowReplicas (rowAt rooms k) c mem) (_ ∷ []))
+    (map-append (copyOf (jobIn mem) t) (map (λ r. r .processor) (rowReplicas (rowAt rooms k) c mem)) (_ ∷ []))
 
 -- The first data of line k comes from lines that have run.
 pub line-fed-short : {rooms : ℕ} (k : ℕ) {cells d : List ℕ} → Running rooms k 0 cells d → k < nth d 0 → FedBefore rooms k d → FirstFed rooms (nth d (rowAt rooms k)) d
@@ -272,7 +275,7 @@ pub record LineStep (p : ℕ) (cells d : List ℕ) : Type 0 where
   pub below : p < 16
   pub ready-small : Small 4294967295 (nth cells p)
 
-module _ {rooms : ℕ} (k c : ℕ) {stops cells d e : List ℕ} (l : LineRuns rooms k c stops cells d e) (s : Standing rooms (nth d 0) d) (a : k < nth d 0) (f : FedBefore rooms k d) where
+module _ {rooms : ℕ} (k c : ℕ) {stops cells d e : List ℕ} (l : LineRuns rooms k c stops cells d e) (s : LinesHeld rooms (nth d 0) d) (a : k < nth d 0) (f : FedBefore rooms k d) where
   abbrev ran : Running rooms k c cells e
   ran = l .running
 
@@ -328,7 +331,8 @@ module _ {rooms : ℕ} (k c : ℕ) {stops cells d e : List ℕ} (l : LineRuns ro
         let u = replica-below in
         let v = line-fed in
         let own : runTime (jobIn e) (nth e (rowAt rooms k)) its ≡ run = rw (job-retimed (l .retimed) (s .job), l .retimed .task k) (sym z) in
-        let p : timeIn x ≡ after (runTime (jobIn e) (nth e (rowAt rooms k)) its) (later (timeIn (nth cells its)) (dataIn rooms false (nth e (rowAt rooms k)) its e)) = rw (line-data its, ← o, own) p₀ in
+        let p : timeIn x ≡ after (runTime (jobIn e) (nth e (rowAt rooms k)) its) (later (timeIn (nth cells its)) (dataIn rooms false (nth e (rowAt rooms k)) its e)) = rw
+        (line-data its, ← o, own) p₀ in
         record {
           running = running-next k c ran g u v x p y n;
           retimed = retimed-set k c y (l .retimed) (omega arith) (omega arith) (omega arith);

@@ -1,8 +1,8 @@
 -- The tables beside the lines, after a change elsewhere.
 use Rattle.lists.proofs.Prelude.{List, ℕ, _+_, _-_, _<_, arith, nth}
-use Rattle.heads.specs.Layout.{memorySize, jobSize, levelAt, lineAt, farAt}
+use Rattle.heads.specs.Layout.{memorySize, jobSize, levelAt, lineAt, largestDelayAt}
 use Rattle.jobs.specs.Held.{JobHeld}
-use Rattle.rounds.specs.Schedule.{LevelsFilled, FarFilled}
+use Rattle.rounds.specs.Schedule.{LevelsFilled, LargestDelaysFilled}
 use Rattle.lists.proofs.Kept.{Same}
 use Rattle.jobs.proofs.Held.{sizes, job-same}
 
@@ -14,8 +14,8 @@ module _ {rooms : ℕ} {d e : List ℕ} (h : JobHeld rooms d) where
       let b : t < nth d 0 = rw (j .cell 0 (omega arith) (omega arith)) at g in
       rw (job-same w j, l .cell (levelAt rooms + t) (omega arith) (omega arith)) (f t b)
 
-  pub far-same : Same 0 (jobSize rooms) d e → Same (farAt rooms) (memorySize rooms) d e → FarFilled rooms d → FarFilled rooms e
+  pub far-same : Same 0 (jobSize rooms) d e → Same (largestDelayAt rooms) (memorySize rooms) d e → LargestDelaysFilled rooms d → LargestDelaysFilled rooms e
   far-same j l f p g =
       let w = sizes h in
       let b : p < nth d 1 = rw (j .cell 1 (omega arith) (omega arith)) at g in
-      rw (job-same w j, l .cell (farAt rooms + p) (omega arith) (omega arith)) (f p b)
+      rw (job-same w j, l .cell (largestDelayAt rooms + p) (omega arith) (omega arith)) (f p b)

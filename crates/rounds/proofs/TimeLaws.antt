@@ -6,7 +6,7 @@ use Rattle.orders.proofs.Walk.{passed, pass-none, pass-more, Passed, pass-done}
 use Rattle.heads.specs.Layout.{lineAt, rowAt}
 use Rattle.jobs.specs.Held.{runAt, delayAt, jobIn, JobHeld}
 use Rattle.ticks.specs.Cells.{neverCell, timeIn, Small}
-use Rattle.plans.specs.Lines.{rowOutcomes, rowOf, Standing}
+use Rattle.plans.specs.Lines.{rowOutcomes, rowOf, LinesHeld}
 use Rattle.rounds.specs.Schedule.{choiceOf, arrivalIn, FedIn}
 use Rattle.rounds.specs.Walks.{Feeds}
 use Rattle.lists.proofs.Counting.{equal-or-not}
@@ -144,7 +144,7 @@ largest-reverse f (x ∷ xs) ys =
     largest-reverse f xs (x ∷ ys) ∙ sym (later-assoc (largest (map f xs)) (f x) (largest (map f ys)))
     ∙ ap (λ (z : Time). later z (largest (map f ys))) (later-comm (largest (map f xs)) (f x))
 
-pub feeds : {rooms : ℕ} (k t : ℕ) (e : Edge) (mem : List ℕ) → Standing rooms k mem → FedIn rooms t mem → In e (incoming (jobIn mem) t) → Feeds rooms e mem
+pub feeds : {rooms : ℕ} (k t : ℕ) (e : Edge) (mem : List ℕ) → LinesHeld rooms k mem → FedIn rooms t mem → In e (incoming (jobIn mem) t) → Feeds rooms e mem
 feeds {rooms} k t e mem s f i =
     let (m, _) = in-incoming (jobIn mem) t e i in
     let b : e .from < nth mem 0 = rw (tasks-in mem) at (s .job .facts .from-task e m) in

@@ -2,11 +2,11 @@
 use Rattle.lists.proofs.Prelude.{_≡_, ap, _∙_, sym, List, ℕ, suc, _+_, _*_, _-_, _<_, _≤_, min, max, arith, mul-le-mul, add-one, eq-eqb, ne-eqb, nth, document01, Edge, incoming, Time, tick, later, sooner, least, tickOf, scale}
 use Rattle.orders.proofs.Walk.{Passed}
 use Rattle.definitions.proofs.Bounds.{largestDelay-most}
-use Rattle.heads.specs.Layout.{lineAt, rowAt, farAt, processorAt, earlyAt}
+use Rattle.heads.specs.Layout.{lineAt, rowAt, largestDelayAt, processorAt, earlyAt}
 use Rattle.jobs.specs.Held.{jobIn, JobHeld}
 use Rattle.ticks.specs.Cells.{timeIn}
-use Rattle.plans.specs.Lines.{rowOutcomes, rowOf, Standing}
-use Rattle.rounds.specs.Schedule.{topIn, FarFilled}
+use Rattle.plans.specs.Lines.{rowOutcomes, rowOf, LinesHeld}
+use Rattle.rounds.specs.Schedule.{topIn, LargestDelaysFilled}
 use Rattle.rounds.specs.Planning.{Sends, spreadIn}
 use Rattle.jobs.proofs.Held.{processors-in, sizes}
 use Rattle.rounds.specs.Walks.{Feeds}
@@ -20,15 +20,15 @@ module _ {rooms a volume : ℕ} {mem : List ℕ} (h : JobHeld rooms mem) (s : Se
   sent-on = omega (arith, s .row .processor-of c l, sizes h .processors-most)
 
   -- What the message to the farthest processor takes.
-  pub sent-little : volume * nth mem (farAt rooms + nth mem (processorAt a c)) ≤ 1044225
+  pub sent-little : volume * nth mem (largestDelayAt rooms + nth mem (processorAt a c)) ≤ 1044225
   sent-little =
       let p = nth mem (processorAt a c) in
       let g = s .row .processor-of c l in
-      let m : nth mem (farAt rooms + p) ≤ 255 = rw (s .far p g) (largestDelay-most document01 (jobIn mem) (h .facts) p (rw (processors-in mem) g)) in
-      mul-le-mul {n₁ = volume} {m₁ = nth mem (farAt rooms + p)} {n₂ = 4095} {m₂ = 255} (s .little) m
+      let m : nth mem (largestDelayAt rooms + p) ≤ 255 = rw (s .far p g) (largestDelay-most document01 (jobIn mem) (h .facts) p (rw (processors-in mem) g)) in
+      mul-le-mul {n₁ = volume} {m₁ = nth mem (largestDelayAt rooms + p)} {n₂ = 4095} {m₂ = 255} (s .little) m
 
   abbrev sentAt : ℕ
-  sentAt = nth mem (earlyAt a c) + volume * nth mem (farAt rooms + nth mem (processorAt a c))
+  sentAt = nth mem (earlyAt a c) + volume * nth mem (largestDelayAt rooms + nth mem (processorAt a c))
 
   spread-cons : spreadIn rooms volume a (suc c) mem ≡ sooner (tick sentAt) (spreadIn rooms volume a c mem)
   unfolding spreadIn rowOutcomes least
@@ -40,7 +40,7 @@ module _ {rooms a volume : ℕ} {mem : List ℕ} (h : JobHeld rooms mem) (s : Se
 
 -- The first replica.
 pub spread-first : {rooms a volume : ℕ} {mem : List ℕ} → JobHeld rooms mem → Sends rooms a volume mem → (x : ℕ)
-    → x ≡ nth mem (earlyAt a 0) + volume * nth mem (farAt rooms + nth mem (processorAt a 0)) → tick x ≡ spreadIn rooms volume a 1 mem
+    → x ≡ nth mem (earlyAt a 0) + volume * nth mem (largestDelayAt rooms + nth mem (processorAt a 0)) → tick x ≡ spreadIn rooms volume a 1 mem
 unfolding spreadIn rowOutcomes least
 spread-first {a} {volume} {mem} h s x e = rw e (sym (spread-cons h s 0 (omega arith)))
 
@@ -51,8 +51,8 @@ abbrev pub spreads : ℕ → List ℕ → Edge → Time
 spreads rooms mem e = spreadIn rooms (e .volume) (rowOf rooms (e .from) mem) (nth mem 3 + 1) mem
 
 -- The line of a predecessor is one that the code may ask.
-pub feeds-sends : {rooms k : ℕ} {mem : List ℕ} {e : Edge} → Standing rooms k mem → ((i c : ℕ) → i < k → c < nth mem 3 + 1 → nth mem (earlyAt (rowAt rooms i) c) ≤ document01 .tick)
-    → FarFilled rooms mem → Feeds rooms e mem → Sends rooms (rowOf rooms (e .from) mem) (e .volume) mem
+pub feeds-sends : {rooms k : ℕ} {mem : List ℕ} {e : Edge} → LinesHeld rooms k mem → ((i c : ℕ) → i < k → c < nth mem 3 + 1 → nth mem (earlyAt (rowAt rooms i) c) ≤ document01 .tick)
+    → LargestDelaysFilled rooms mem → Feeds rooms e mem → Sends rooms (rowOf rooms (e .from) mem) (e .volume) mem
 feeds-sends {rooms} {k} {mem} {e} s t f d =
     let i = nth mem (lineAt rooms + e .from) - 1 in
     let (l, _) = line-in s (e .from) i (d .from-below) (omega (arith, d .line-some)) in

@@ -8,7 +8,7 @@ use Rattle.definitions.specs.Lists.{nth}
 use Rattle.definitions.specs.Job.{Job}
 use Rattle.definitions.specs.Times.{Time, tick, Outcome, ready, finish, copyOf}
 use Rattle.heads.specs.Layout.{earlyAt, lateAt}
-use Rattle.jobs.specs.Held.{jobIn, JobStands}
+use Rattle.jobs.specs.Held.{jobIn, SomeJobHeld}
 use Rattle.rounds.specs.Schedule.{choiceOf}
 use Rattle.plans.specs.Lines.{rowEnd, rowOutcomes, placedIn, RowHeld}
 use Rattle.ticks.specs.declared.clocks.Clocks.{Clocks}
@@ -33,7 +33,7 @@ pub record ClocksHeld (clocks : Clocks) (j : Job) (es ls : List Outcome) : Type 
 
 -- The line at a has ticks that clocks can show.
 pub record LineTimed (a : ℕ) (mem : List ℕ) : Type 0 where
-  pub job : JobStands mem
+  pub job : SomeJobHeld mem
   pub row : RowHeld a mem
   pub within : rowEnd a ≤ length mem
   pub ticks : (c : ℕ) → c < nth mem 3 + 1 → (nth mem (earlyAt a c) ≤ 4294967295) × (nth mem (lateAt a c) ≤ 4294967295)

@@ -12,11 +12,11 @@ use Rattle.definitions.specs.Job.{Edge, Job, incoming}
 use Rattle.definitions.specs.Plan.{Replica}
 use Rattle.definitions.specs.Times.{Time, tick, after, least, finish}
 use Rattle.definitions.specs.Planner.{tickOf, greatestOf, Waiting, waitingFrom, scale, topLevel, trial, chosen, place, planFor}
-use Rattle.heads.specs.Layout.{levelAt, lineAt, blockedAt, priorityAt, rowAt, farAt, processorAt, earlyAt, lateAt, replicaEnd}
+use Rattle.heads.specs.Layout.{levelAt, lineAt, blockedAt, priorityAt, rowAt, largestDelayAt, processorAt, earlyAt, lateAt, replicaEnd}
 use Rattle.jobs.specs.Held.{jobIn}
 use Rattle.rounds.specs.Clocks.{earliesIn, latesIn, finishOn}
-use Rattle.rounds.specs.Schedule.{topIn, FarFilled, LevelsFilled, ShortTo}
-use Rattle.plans.specs.Lines.{rowEnd, rowOutcomes, rowReplicas, linesIn, RowHeld, Standing}
+use Rattle.rounds.specs.Schedule.{topIn, LargestDelaysFilled, LevelsFilled, ShortTo}
+use Rattle.plans.specs.Lines.{rowEnd, rowOutcomes, rowReplicas, linesIn, RowHeld, LinesHeld}
 use Rattle.lists.specs.Kept.{KeptOutside}
 
 -- The choice of a task ------------------------------------------------------------------------------------------
@@ -81,11 +81,11 @@ pub record Sends (rooms a volume : ℕ) (mem : List ℕ) : Type 0 where
   pub narrow : nth mem 3 ≤ document01 .losses
   pub ticks : (c : ℕ) → c < nth mem 3 + 1 → nth mem (earlyAt a c) ≤ document01 .tick
   pub little : volume ≤ document01 .volume
-  pub far : FarFilled rooms mem
+  pub far : LargestDelaysFilled rooms mem
 
 -- When the data of one of the first c replicas of the line at a is everywhere, for an edge of this volume.
 unfoldable pub spreadIn : ℕ → ℕ → ℕ → ℕ → List ℕ → Time
-spreadIn rooms volume a c mem = least (map (λ d. after (volume * nth mem (farAt rooms + d .processor)) (d .time)) (rowOutcomes false a c mem))
+spreadIn rooms volume a c mem = least (map (λ d. after (volume * nth mem (largestDelayAt rooms + d .processor)) (d .time)) (rowOutcomes false a c mem))
 
 -- What is placed ------------------------------------------------------------------------------------------------
 
@@ -95,8 +95,8 @@ replicaOn rooms k mem t p = record { processor = p; early = tickOf (finishOn roo
 
 -- k lines of the plan are drawn up, and what is left to place gives the rest of it.
 pub record Drawn (rooms k : ℕ) (mem : List ℕ) : Type 0 where
-  pub standing : Standing rooms k mem
-  pub far : FarFilled rooms mem
+  pub standing : LinesHeld rooms k mem
+  pub far : LargestDelaysFilled rooms mem
   pub levels : LevelsFilled rooms mem
   pub ticks : ShortTo rooms k mem
   pub rest : linesIn rooms (nth mem 3 + 1) k mem
@@ -121,8 +121,8 @@ pub record Tried (rooms k t : ℕ) (early late : List ℕ) (mem : List ℕ) : Ty
   pub late-finishes : (p : ℕ) → p < nth mem 1 → tick (nth late p) ≡ finishOn rooms true k mem t p
 
 -- The processors of line k, if it is of task t.
-abbrev pub boxesFor : ℕ → ℕ → ℕ → List ℕ → List ℕ
-boxesFor rooms k t mem = chosen (jobIn mem) (nth mem 3 + 1) (trial (jobIn mem) (earliesIn rooms k mem) t)
+abbrev pub processorsFor : ℕ → ℕ → ℕ → List ℕ → List ℕ
+processorsFor rooms k t mem = chosen (jobIn mem) (nth mem 3 + 1) (trial (jobIn mem) (earliesIn rooms k mem) t)
 
 -- Replica c of the line at a was written, on p with these finishes, and nothing else.
 pub record Wrote (a c p early late : ℕ) (d mem : List ℕ) : Type 0 where
@@ -133,7 +133,7 @@ pub record Wrote (a c p early late : ℕ) (d mem : List ℕ) : Type 0 where
 
 -- Line k of a memory d has its replicas, of task t on the processors ps.
 pub record Begun (rooms k t : ℕ) (ps : List ℕ) (d mem : List ℕ) : Type 0 where
-  pub kept : KeptOutside (rowAt rooms k) (farAt rooms) d mem
+  pub kept : KeptOutside (rowAt rooms k) (largestDelayAt rooms) d mem
   pub replicas : rowReplicas (rowAt rooms k) (length ps) mem ≡ map (replicaOn rooms k d t) ps
 
 -- The first n tasks have no line, all their edges counted, and their bottom levels for priorities.

@@ -10,14 +10,14 @@ use Rattle.definitions.specs.Text.{Result, andThen}
 use Rattle.definitions.specs.Job.{Edge, Job, incoming}
 use Rattle.definitions.specs.Stops.{Stop, readStops}
 use Rattle.definitions.specs.Times.{least, Copy, Outcome, ready, stopTime, walk, copiesOf}
-use Rattle.definitions.specs.Replay.{replay, firstFinish, firstBox, replayText}
+use Rattle.definitions.specs.Replay.{replay, firstFinish, firstProcessor, replayText}
 use Rattle.definitions.specs.Tools.{fitting}
 use Rattle.definitions.specs.Claims.{PlacedWithin}
-use Rattle.heads.specs.Layout.{lineAt, rowAt, farAt, processorAt, lateAt}
+use Rattle.heads.specs.Layout.{lineAt, rowAt, largestDelayAt, processorAt, lateAt}
 use Rattle.jobs.specs.Held.{jobIn}
 use Rattle.rounds.specs.Schedule.{lineTicks}
 use Rattle.ticks.specs.Cells.{neverCell, timeIn, Small}
-use Rattle.plans.specs.Lines.{rowOutcomes, placedIn, rowReplicas, Standing}
+use Rattle.plans.specs.Lines.{rowOutcomes, placedIn, rowReplicas, LinesHeld}
 use Rattle.lists.specs.Kept.{KeptOutside}
 use Rattle.plans.specs.Loading.{planIn}
 
@@ -31,7 +31,7 @@ ranIn rooms k c mem = rowOutcomes false (rowAt rooms k) c mem ++ placedIn rooms 
 
 -- k lines of 8 replicas at most and c of the next have run, and the cells hold the processors' ready times after them.
 pub record Running (rooms k c : ℕ) (cells mem : List ℕ) : Type 0 where
-  pub standing : Standing rooms (nth mem 0) mem
+  pub standing : LinesHeld rooms (nth mem 0) mem
   pub size : length cells ≡ 16
   pub ready-of : (p : ℕ) → p < nth mem 1 → timeIn (nth cells p) ≡ ready (jobIn mem) p (ranIn rooms k c mem)
   pub ready-small : (p : ℕ) → p < nth mem 1 → Small ((k * 8 + c) * lineTicks) (nth cells p)
@@ -73,15 +73,15 @@ RisingIn rooms mem = (i c : ℕ) → i < nth mem 0 → c < nth mem 3 → nth mem
 
 -- All lines have run under the stops in the cells.
 pub record RoundRun (rooms : ℕ) (stops d e : List ℕ) : Type 0 where
-  pub outside : KeptOutside (rowAt rooms 0) (farAt rooms) d e
-  pub standing : Standing rooms (nth e 0) e
+  pub outside : KeptOutside (rowAt rooms 0) (largestDelayAt rooms) d e
+  pub standing : LinesHeld rooms (nth e 0) e
   pub rising : RisingIn rooms e
   pub outcomes : (ss : List Stop) → StopsIn ss stops → outcomesIn rooms e ≡ reverse (replay (jobIn d) ss (planIn rooms d .lines))
 
 -- The first finish of t, and the lowest processor that has it.
 pub record FirstIn (rooms t time processor : ℕ) (mem : List ℕ) : Type 0 where
   pub finish : timeIn time ≡ firstFinish t (outcomesIn rooms mem)
-  pub box : (time ≡ neverCell → ⊥) → processor ≡ firstBox t (timeIn time) (outcomesIn rooms mem)
+  pub box : (time ≡ neverCell → ⊥) → processor ≡ firstProcessor t (timeIn time) (outcomesIn rooms mem)
 
 -- The replay of the plan in a memory under the stops of a text, into an output of this size: the stops, then 8.
 unfoldable pub replayIn : ℕ → List ℕ → List ℕ → ℕ → Result (List ℕ)

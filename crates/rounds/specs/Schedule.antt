@@ -10,7 +10,7 @@ use Rattle.definitions.specs.Times.{Time, after, least, largest, arrival}
 use Rattle.definitions.specs.Planner.{largestDelay, bottomLevels}
 use Rattle.jobs.specs.Held.{jobIn}
 use Rattle.plans.specs.Lines.{rowOutcomes, rowOf}
-use Rattle.heads.specs.Layout.{levelAt, lineAt, farAt, rowAt, earlyAt, lateAt}
+use Rattle.heads.specs.Layout.{levelAt, lineAt, largestDelayAt, rowAt, earlyAt, lateAt}
 
 -- The choice among a predecessor's copies: the least early, the largest late.
 abbrev pub choiceOf : Bool → List Time → Time
@@ -47,12 +47,12 @@ FedIn rooms t mem = (e : Edge) → In e (incoming (jobIn mem) t) → 0 < nth mem
 unfoldable pub topIn : ℕ → ℕ → List ℕ → Time
 topIn rooms t mem =
     largest
-    (map (λ e. least (map (λ d. after (e .volume * nth mem (farAt rooms + d .processor)) (d .time)) (rowOutcomes false (rowOf rooms (e .from) mem) (nth mem 3 + 1) mem)))
+    (map (λ e. least (map (λ d. after (e .volume * nth mem (largestDelayAt rooms + d .processor)) (d .time)) (rowOutcomes false (rowOf rooms (e .from) mem) (nth mem 3 + 1) mem)))
     (incoming (jobIn mem) t))
 
 -- The table of largest delays is filled.
-abbrev pub FarFilled : ℕ → List ℕ → Type 0
-FarFilled rooms mem = (p : ℕ) → p < nth mem 1 → nth mem (farAt rooms + p) ≡ largestDelay (jobIn mem) p
+abbrev pub LargestDelaysFilled : ℕ → List ℕ → Type 0
+LargestDelaysFilled rooms mem = (p : ℕ) → p < nth mem 1 → nth mem (largestDelayAt rooms + p) ≡ largestDelay (jobIn mem) p
 
 -- Bottom levels are filled.
 abbrev pub LevelsFilled : ℕ → List ℕ → Type 0

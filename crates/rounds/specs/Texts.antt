@@ -6,7 +6,7 @@ use Rattle.definitions.specs.Lists.{bytes, nth, below}
 use Rattle.definitions.specs.Limits.{document01}
 use Rattle.definitions.specs.Text.{lineText}
 use Rattle.definitions.specs.Plan.{planLinesText}
-use Rattle.definitions.specs.Replay.{firstFinish, firstBox, resultLine, resultLines}
+use Rattle.definitions.specs.Replay.{firstFinish, firstProcessor, resultLine, resultLines}
 use Rattle.heads.specs.Layout.{bestAt, worstAt, rowAt}
 use Rattle.plans.specs.Lines.{linesIn}
 use Rattle.rounds.specs.Replaying.{outcomesIn}
@@ -29,7 +29,7 @@ rowLines rooms k mem = planLinesText document01 (linesIn rooms (nth mem 3 + 1) k
 unfoldable pub taskLine : ℕ → ℕ → List ℕ → List ℕ
 taskLine rooms t mem =
     let x = firstFinish t (outcomesIn rooms mem) in
-    resultLine document01 t x (firstBox t x (outcomesIn rooms mem))
+    resultLine document01 t x (firstProcessor t x (outcomesIn rooms mem))
 
 unfoldable pub taskLines : ℕ → ℕ → List ℕ → List ℕ
 taskLines rooms k mem = resultLines document01 (below k) (outcomesIn rooms mem)

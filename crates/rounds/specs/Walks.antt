@@ -4,7 +4,7 @@ use mathlib.Core.List.{List}
 use Prim.Native.Nat.{ℕ, _+_, _*_, _<_, _≤_}
 use Rattle.definitions.specs.Lists.{nth}
 use Rattle.definitions.specs.Job.{Edge}
-use Rattle.heads.specs.Layout.{lineAt, farAt}
+use Rattle.heads.specs.Layout.{lineAt, largestDelayAt}
 use Rattle.plans.specs.Lines.{rowEnd, rowOf, RowHeld}
 
 -- What a line gives that the code asks for: the edge leaves a task that has a line.
@@ -18,7 +18,7 @@ pub record Feeds (rooms : ℕ) (e : Edge) (mem : List ℕ) : Type 0 where
 -- Its task's line and its volume, as the code may ask them.
 pub record Entered (rooms : ℕ) (e : Edge) (mem : List ℕ) (row volume : ℕ) : Type 0 where
   pub row-of : row ≡ rowOf rooms (e .from) mem
-  pub within : rowEnd row ≤ farAt rooms
+  pub within : rowEnd row ≤ largestDelayAt rooms
   pub held : RowHeld row mem
   pub volume-of : volume ≡ e .volume
   pub little : volume ≤ 4095

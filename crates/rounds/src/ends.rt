@@ -6,9 +6,9 @@ ghost use lib.ListN.{length};
 ghost use Rattle.definitions.specs.Lists.{if_then_else_, nth, empty};
 ghost use Rattle.definitions.specs.Job.{outgoing};
 ghost use Rattle.definitions.specs.Times.{tick, times, ofTask, end};
-ghost use Rattle.jobs.specs.Held.{jobIn, JobStands, LinksHeld};
+ghost use Rattle.jobs.specs.Held.{jobIn, SomeJobHeld, LinksHeld};
 ghost use Rattle.ticks.specs.Cells.{timeIn};
-ghost use Rattle.plans.specs.Lines.{rowEnd, rowOutcomes, placedIn, Standing};
+ghost use Rattle.plans.specs.Lines.{rowEnd, rowOutcomes, placedIn, LinesHeld};
 ghost use Rattle.rounds.specs.Schedule.{choiceOf};
 use crate::row;
 use crate::times;
@@ -26,7 +26,7 @@ fn chosen_of_none(late: bool) -> u64
 
 // The least early, or the largest late, of the times in the line at `a`.
 fn chosen_in(mem: &[u64], late: bool, a: usize) -> u64
-    requires { ⌜ JobStands (now mem) × (rowEnd a ≤ length (now mem)) ⌝ }
+    requires { ⌜ SomeJobHeld (now mem) × (rowEnd a ≤ length (now mem)) ⌝ }
     ensures { λ r. ⌜ timeIn r ≡ choiceOf late (times (rowOutcomes late a (nth (now (mem .entry)) 3 + 1) (now (mem .entry)))) ⌝ }
 {
     let w = mem[3] as usize + 1;
@@ -41,7 +41,7 @@ fn chosen_in(mem: &[u64], late: bool, a: usize) -> u64
 
 // The end of t, if no edge leaves it, else 0.
 fn exit_time(mem: &[u64], links: &[u64], rooms: usize, late: bool, t: usize) -> u64
-    requires { ⌜ Standing rooms (nth (now mem) 0) (now mem) × LinksHeld (now mem) (now links) × (t < nth (now mem) 0) ⌝ }
+    requires { ⌜ LinesHeld rooms (nth (now mem) 0) (now mem) × LinksHeld (now mem) (now links) × (t < nth (now mem) 0) ⌝ }
     ensures { λ r. ⌜ timeIn r ≡ (if empty (outgoing (jobIn (now (mem .entry))) t) then choiceOf late
         (times (ofTask t (placedIn rooms late (nth (now (mem .entry)) 3 + 1) (nth (now (mem .entry)) 0) (now (mem .entry))))) else tick 0) ⌝ }
 {
@@ -54,7 +54,7 @@ fn exit_time(mem: &[u64], links: &[u64], rooms: usize, late: bool, t: usize) -> 
 
 // The end of all tasks, each of which is placed.
 pub fn end_of(mem: &[u64], links: &[u64], rooms: usize, late: bool) -> u64
-    requires { ⌜ Standing rooms (nth (now mem) 0) (now mem) × LinksHeld (now mem) (now links) ⌝ }
+    requires { ⌜ LinesHeld rooms (nth (now mem) 0) (now mem) × LinksHeld (now mem) (now links) ⌝ }
     ensures { λ r. ⌜ timeIn r ≡ end (jobIn (now (mem .entry))) (choiceOf late) (placedIn rooms late (nth (now (mem .entry)) 3 + 1) (nth (now (mem .entry)) 0) (now (mem .entry))) ⌝ }
 {
     let v = mem[0] as usize;

@@ -6,7 +6,7 @@ ghost use Rattle.definitions.specs.Lists.{nth, In, greatest};
 ghost use Rattle.definitions.specs.Job.{Edge, outgoing};
 ghost use Rattle.definitions.specs.Planner.{scaledRun, totalDelay};
 ghost use Rattle.heads.specs.Layout.{levelAt, lineAt};
-ghost use Rattle.jobs.specs.Held.{jobIn, JobHeld, JobStands, LinksHeld};
+ghost use Rattle.jobs.specs.Held.{jobIn, JobHeld, SomeJobHeld, LinksHeld};
 ghost use Rattle.rounds.specs.Schedule.{LevelsFilled};
 ghost use Rattle.lists.specs.Kept.{KeptOutside};
 ghost use Rattle.rounds.specs.Levels.{levelMost, sent};
@@ -16,7 +16,7 @@ use heads::layout::LEVEL;
 
 // The scaled average run time of t.
 fn scaled_run(mem: &[u64], t: usize) -> u64
-    requires { ⌜ JobStands (now mem) × (t < nth (now mem) 0) ⌝ }
+    requires { ⌜ SomeJobHeld (now mem) × (t < nth (now mem) 0) ⌝ }
     ensures { λ r. ⌜ r ≡ scaledRun (jobIn (now (mem .entry))) t ⌝ }
 {
     let m = mem[1];
@@ -29,7 +29,7 @@ fn scaled_run(mem: &[u64], t: usize) -> u64
 
 // The sum of all delays between different processors.
 fn total_delay(mem: &[u64]) -> u64
-    requires { ⌜ JobStands (now mem) ⌝ }
+    requires { ⌜ SomeJobHeld (now mem) ⌝ }
     ensures { λ r. ⌜ r ≡ totalDelay (jobIn (now (mem .entry))) ⌝ }
 {
     let v = mem[0] as usize;

@@ -4,11 +4,11 @@ ghost use mathlib.Core.List.{List, [], reverse};
 ghost use Prim.Native.Nat.{ℕ, _+_, _-_, _*_, _<_};
 ghost use Rattle.definitions.specs.Lists.{nth};
 ghost use Rattle.definitions.specs.Job.{outgoing, Edge};
-ghost use Rattle.heads.specs.Layout.{memorySize, lineAt, blockedAt, rowAt, farAt, levelAt};
+ghost use Rattle.heads.specs.Layout.{memorySize, lineAt, blockedAt, rowAt, largestDelayAt, levelAt};
 ghost use Rattle.jobs.specs.Held.{jobIn, JobHeld, LinksHeld};
 ghost use Rattle.lists.specs.Kept.{KeptOutside};
 ghost use Rattle.rounds.specs.Arrivals.{DelayTable};
-ghost use Rattle.rounds.specs.Planning.{freeIn, bestOf, FreeList, Taken, boxesFor, Drawn, Ranked, Tried, Begun, Cleared, Releasing, Unblocks};
+ghost use Rattle.rounds.specs.Planning.{freeIn, bestOf, FreeList, Taken, processorsFor, Drawn, Ranked, Tried, Begun, Cleared, Releasing, Unblocks};
 ghost use Rattle.rounds.specs.Clocks.{earliesIn, latesIn, ClocksHeld};
 use crate::clocks;
 use crate::free;
@@ -47,7 +47,7 @@ fn clear_tasks(mem: &mut [u64], links: &[u64], rooms: usize)
 // The replicas of line k: t on the processors of least early finish.
 fn fill_line(mem: &mut [u64], rooms: usize, k: usize, t: usize, early: [u32; 16], late: [u32; 16])
     requires { ⌜ Tried rooms k t early late (now mem) ⌝ }
-    ensures { λ _. ⌜ Begun rooms k t (boxesFor rooms k t (now (mem .entry))) (now (mem .entry)) (now (mem .exit)) ⌝ }
+    ensures { λ _. ⌜ Begun rooms k t (processorsFor rooms k t (now (mem .entry))) (now (mem .entry)) (now (mem .exit)) ⌝ }
 {
     let m = mem[1] as usize;
     let w = mem[3] as usize + 1;
@@ -75,7 +75,7 @@ fn place_task(
 ) -> Clocks
     requires { ⌜ DelayTable (now delays) (now mem) × Drawn rooms k (now mem) × Ranked rooms [] (now mem) × (k < nth (now mem) 0) × (t ≡ bestOf (nth (now mem) 0) (freeIn rooms (now mem)))
         × ClocksHeld clocks (jobIn (now mem)) (earliesIn rooms k (now mem)) (latesIn rooms k (now mem)) × LinksHeld (now mem) (now links) ⌝ }
-    ensures { λ r. ⌜ KeptOutside (lineAt rooms) (farAt rooms) (now (mem .entry)) (now (mem .exit)) × Drawn rooms (k + 1) (now (mem .exit))
+    ensures { λ r. ⌜ KeptOutside (lineAt rooms) (largestDelayAt rooms) (now (mem .entry)) (now (mem .exit)) × Drawn rooms (k + 1) (now (mem .exit))
         × Ranked rooms (reverse (outgoing (jobIn (now (mem .exit))) t)) (now (mem .exit))
         × ClocksHeld r (jobIn (now (mem .exit))) (earliesIn rooms (k + 1) (now (mem .exit))) (latesIn rooms (k + 1) (now (mem .exit)))
         × Taken rooms t (now (mem .entry)) (now (mem .exit)) ⌝ }
@@ -150,7 +150,7 @@ fn prepare(mem: &mut [u64], links: &[u64], rooms: usize)
     ensures { λ _. ⌜ KeptOutside (levelAt rooms) (memorySize rooms) (now (mem .entry)) (now (mem .exit)) × Drawn rooms 0 (now (mem .exit)) × Ranked rooms [] (now (mem .exit)) ⌝ }
 {
     levels::fill_levels(mem, links, rooms);
-    priority::fill_far(mem, rooms);
+    priority::fill_largest_delays(mem, rooms);
     clear_tasks(mem, links, rooms);
 }
 

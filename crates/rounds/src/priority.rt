@@ -5,20 +5,20 @@ ghost use Rattle.definitions.specs.Lists.{nth};
 ghost use Rattle.definitions.specs.Limits.{document01};
 ghost use Rattle.definitions.specs.Times.{tick};
 ghost use Rattle.definitions.specs.Planner.{tickOf, scale, largestDelay};
-ghost use Rattle.heads.specs.Layout.{memorySize, farAt, rowAt, processorAt, earlyAt};
-ghost use Rattle.jobs.specs.Held.{jobIn, JobHeld, JobStands, LinksHeld};
-ghost use Rattle.rounds.specs.Schedule.{topIn, FarFilled, FedIn};
+ghost use Rattle.heads.specs.Layout.{memorySize, largestDelayAt, rowAt, processorAt, earlyAt};
+ghost use Rattle.jobs.specs.Held.{jobIn, JobHeld, SomeJobHeld, LinksHeld};
+ghost use Rattle.rounds.specs.Schedule.{topIn, LargestDelaysFilled, FedIn};
 ghost use Rattle.lists.specs.Kept.{KeptOutside};
-ghost use Rattle.plans.specs.Lines.{Standing};
+ghost use Rattle.plans.specs.Lines.{LinesHeld};
 ghost use Rattle.rounds.specs.Planning.{Sends, spreadIn};
 use crate::numbers;
 use crate::row;
 use crate::walk;
-use heads::layout::FAR;
+use heads::layout::LARGEST_DELAY;
 
 // The largest of the delays from processor p.
 fn largest_delay(mem: &[u64], p: usize) -> u64
-    requires { ⌜ JobStands (now mem) × (p < nth (now mem) 1) ⌝ }
+    requires { ⌜ SomeJobHeld (now mem) × (p < nth (now mem) 1) ⌝ }
     ensures { λ r. ⌜ r ≡ largestDelay (jobIn (now (mem .entry))) p ⌝ }
 {
     let m = mem[1] as usize;
@@ -35,11 +35,11 @@ fn largest_delay(mem: &[u64], p: usize) -> u64
 }
 
 // Fills the table of largest delays.
-pub fn fill_far(mem: &mut [u64], rooms: usize)
+pub fn fill_largest_delays(mem: &mut [u64], rooms: usize)
     requires { ⌜ JobHeld rooms (now mem) ⌝ }
-    ensures { λ _. ⌜ KeptOutside (farAt rooms) (memorySize rooms) (now (mem .entry)) (now (mem .exit)) × FarFilled rooms (now (mem .exit)) ⌝ }
+    ensures { λ _. ⌜ KeptOutside (largestDelayAt rooms) (memorySize rooms) (now (mem .entry)) (now (mem .exit)) × LargestDelaysFilled rooms (now (mem .exit)) ⌝ }
 {
-    let far = FAR * rooms;
+    let far = LARGEST_DELAY * rooms;
     let m = mem[1] as usize;
     let mut p = 0;
     while p < m {
@@ -52,9 +52,9 @@ pub fn fill_far(mem: &mut [u64], rooms: usize)
 // The first tick at which the data of replica c of the line at `a` is everywhere.
 fn sent(mem: &[u64], rooms: usize, a: usize, c: usize, volume: u64) -> u64
     requires { ⌜ JobHeld rooms (now mem) × Sends rooms a volume (now mem) × (c < nth (now mem) 3 + 1) ⌝ }
-    ensures { λ r. ⌜ (r ≡ nth (now (mem .entry)) (earlyAt a c) + volume * nth (now (mem .entry)) (farAt rooms + nth (now (mem .entry)) (processorAt a c))) × (r ≤ 4296011520) ⌝ }
+    ensures { λ r. ⌜ (r ≡ nth (now (mem .entry)) (earlyAt a c) + volume * nth (now (mem .entry)) (largestDelayAt rooms + nth (now (mem .entry)) (processorAt a c))) × (r ≤ 4296011520) ⌝ }
 {
-    let far = FAR * rooms;
+    let far = LARGEST_DELAY * rooms;
     let x = row::replica_at(mem, a, c);
     let p = x.processor;
     x.early + volume * mem[far + p]
@@ -80,8 +80,8 @@ fn spread(mem: &[u64], rooms: usize, a: usize, volume: u64) -> u64
 
 // The scaled top level of t, whose predecessors all have a line.
 pub fn top_level(mem: &[u64], links: &[u64], rooms: usize, t: usize) -> u64
-    requires { ⌜ ((k : ℕ) × Standing rooms k (now mem) × ((i c : ℕ) → i < k → c < nth (now mem) 3 + 1 → nth (now mem) (earlyAt (rowAt rooms i) c) ≤ document01 .tick))
-        × LinksHeld (now mem) (now links) × (t < nth (now mem) 0) × FedIn rooms t (now mem) × FarFilled rooms (now mem) ⌝ }
+    requires { ⌜ ((k : ℕ) × LinesHeld rooms k (now mem) × ((i c : ℕ) → i < k → c < nth (now mem) 3 + 1 → nth (now mem) (earlyAt (rowAt rooms i) c) ≤ document01 .tick))
+        × LinksHeld (now mem) (now links) × (t < nth (now mem) 0) × FedIn rooms t (now mem) × LargestDelaysFilled rooms (now mem) ⌝ }
     ensures { λ r. ⌜ (r ≡ tickOf (topIn rooms t (now (mem .entry))) * scale (jobIn (now (mem .entry)))) × (r ≤ 1100000000000) ⌝ }
 {
     let span = orders::entering(links, mem[0] as usize, t);

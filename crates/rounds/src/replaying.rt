@@ -8,7 +8,7 @@ ghost use Rattle.definitions.specs.Times.{unlessStopped};
 ghost use Rattle.definitions.specs.Facts.{Ordered};
 ghost use Rattle.jobs.specs.Held.{jobIn, LinksHeld};
 ghost use Rattle.ticks.specs.Cells.{timeIn, Small};
-ghost use Rattle.plans.specs.Lines.{Standing};
+ghost use Rattle.plans.specs.Lines.{LinesHeld};
 ghost use Rattle.rounds.specs.Arrivals.{DelayTable};
 ghost use Rattle.plans.specs.Loading.{planIn};
 ghost use Rattle.rounds.specs.Replaying.{Running, FedBefore, LineRun, RisingIn, RoundRun, FirstIn};
@@ -64,7 +64,7 @@ fn run_line(
 
 // All lines of the plan in memory.
 pub fn run_round(mem: &mut [u64], links: &[u64], rooms: usize, stops: &[u64])
-    requires { ⌜ Standing rooms (nth (now mem) 0) (now mem) × Ordered (jobIn (now mem)) [] (planIn rooms (now mem) .lines) × (length (now stops) ≡ 16) × LinksHeld (now mem) (now links) ⌝ }
+    requires { ⌜ LinesHeld rooms (nth (now mem) 0) (now mem) × Ordered (jobIn (now mem)) [] (planIn rooms (now mem) .lines) × (length (now stops) ≡ 16) × LinksHeld (now mem) (now links) ⌝ }
     ensures { λ _. ⌜ RoundRun rooms (now (stops .entry)) (now (mem .entry)) (now (mem .exit)) ⌝ }
 {
     let v = mem[0] as usize;
@@ -80,7 +80,7 @@ pub fn run_round(mem: &mut [u64], links: &[u64], rooms: usize, stops: &[u64])
 
 // The first finish of t, on the lowest processor that has it.
 pub fn first_finish(mem: &[u64], rooms: usize, t: usize) -> First
-    requires { ⌜ Standing rooms (nth (now mem) 0) (now mem) × RisingIn rooms (now mem) × (t < nth (now mem) 0) ⌝ }
+    requires { ⌜ LinesHeld rooms (nth (now mem) 0) (now mem) × RisingIn rooms (now mem) × (t < nth (now mem) 0) ⌝ }
     ensures { λ r. ⌜ FirstIn rooms t (r .time) (r .processor) (now (mem .entry)) ⌝ }
 {
     let a = row::row_of(mem, rooms, t);

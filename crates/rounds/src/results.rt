@@ -8,7 +8,7 @@ ghost use Rattle.definitions.specs.Replay.{replayText};
 ghost use Rattle.text.specs.Told.{written};
 ghost use Rattle.printing.specs.Rendered.{Rendered};
 ghost use Rattle.jobs.specs.Held.{jobIn, LinksHeld};
-ghost use Rattle.plans.specs.Lines.{Standing};
+ghost use Rattle.plans.specs.Lines.{LinesHeld};
 ghost use Rattle.rounds.specs.Replaying.{outcomesIn, RisingIn};
 ghost use Rattle.rounds.specs.Texts.{taskLine};
 use crate::ends;
@@ -16,7 +16,7 @@ use crate::replaying;
 
 // The R line of task t, written from `at` on, if it fits. The answer is the place after it in either case.
 fn task_line(out: &mut [u8], at: usize, mem: &[u64], rooms: usize, t: usize) -> usize
-    requires { ⌜ Standing rooms (nth (now mem) 0) (now mem) × RisingIn rooms (now mem) × (t < nth (now mem) 0) × (at ≤ 35 * t) ⌝ }
+    requires { ⌜ LinesHeld rooms (nth (now mem) 0) (now mem) × RisingIn rooms (now mem) × (t < nth (now mem) 0) × (at ≤ 35 * t) ⌝ }
     ensures { λ r. ⌜ (r ≡ at + length (taskLine rooms t (now (mem .entry)))) × (r ≤ at + 35) ⌝ }
     ensures holds { λ r. ⌜ now (out .exit) ≡ written (now (out .entry)) at (taskLine rooms t (now (mem .entry))) ⌝ }
 {
@@ -27,7 +27,7 @@ fn task_line(out: &mut [u8], at: usize, mem: &[u64], rooms: usize, t: usize) -> 
 
 // The answer, written at the front of `out`, if it fits. What comes back is its length in either case.
 pub fn render(out: &mut [u8], mem: &[u64], links: &[u64], rooms: usize) -> usize
-    requires { ⌜ Standing rooms (nth (now mem) 0) (now mem) × RisingIn rooms (now mem) × LinksHeld (now mem) (now links) ⌝ }
+    requires { ⌜ LinesHeld rooms (nth (now mem) 0) (now mem) × RisingIn rooms (now mem) × LinksHeld (now mem) (now links) ⌝ }
     ensures { λ r. ⌜ Rendered (replayText document01 (jobIn (now (mem .entry))) (outcomesIn rooms (now (mem .entry)))) (now (out .entry)) (now (out .exit)) r ⌝ }
 {
     let v = mem[0] as usize;

@@ -8,9 +8,9 @@ ghost use Rattle.definitions.specs.Lists.{if_then_else_, nth};
 ghost use Rattle.definitions.specs.Limits.{document01};
 ghost use Rattle.definitions.specs.Times.{later, sooner, after};
 ghost use Rattle.ticks.specs.Cells.{timeIn, Small};
-ghost use Rattle.plans.specs.Lines.{rowEnd, RowHeld, Standing};
+ghost use Rattle.plans.specs.Lines.{rowEnd, RowHeld, LinesHeld};
 ghost use Rattle.rounds.specs.Schedule.{arrivalIn, dataIn};
-ghost use Rattle.jobs.specs.Held.{JobStands, LinksHeld};
+ghost use Rattle.jobs.specs.Held.{SomeJobHeld, LinksHeld};
 ghost use Rattle.rounds.specs.Arrivals.{shortIn, DelayTable, FirstShort, BothShort, FirstFed, BothFed, BothRaised, BothReady, ShortClocks, RunsOf, BothFinish};
 use crate::numbers;
 use crate::row;
@@ -51,7 +51,7 @@ fn put_off(x: u64, n: u64) -> u64
 
 // The delays of the job in memory, as a table.
 pub fn delay_table(mem: &[u64]) -> [u16; 256]
-    requires { ⌜ JobStands (now mem) ⌝ }
+    requires { ⌜ SomeJobHeld (now mem) ⌝ }
     ensures { λ r. ⌜ DelayTable r (now (mem .entry)) ⌝ }
 {
     let m = mem[1] as usize;
@@ -72,7 +72,7 @@ pub fn delay_table(mem: &[u64]) -> [u16; 256]
 
 // When the first data of a predecessor whose line is at `a` is on each processor.
 fn first_arrivals(mem: &[u64], delays: &[u16; 256], a: usize, volume: u16) -> [u32; 16]
-    requires { ⌜ JobStands (now mem) × DelayTable (now delays) (now mem) × RowHeld a (now mem) × (rowEnd a ≤ length (now mem)) × (volume ≤ document01 .volume) × FirstShort a (now mem) ⌝ }
+    requires { ⌜ SomeJobHeld (now mem) × DelayTable (now delays) (now mem) × RowHeld a (now mem) × (rowEnd a ≤ length (now mem)) × (volume ≤ document01 .volume) × FirstShort a (now mem) ⌝ }
     ensures { λ r. ⌜ (length r ≡ 16) × ((p : ℕ) → p < nth (now (mem .entry)) 1 → shortIn (nth r p) ≡ arrivalIn false volume p a (now (mem .entry))) ⌝ }
 {
     let w = mem[3] as usize + 1;
@@ -96,7 +96,7 @@ pub fn first_data(
     delays: &[u16; 256],
     t: usize,
 ) -> [u64; 16]
-    requires { ⌜ ((k : ℕ) × Standing rooms k (now mem)) × LinksHeld (now mem) (now links) × DelayTable (now delays) (now mem) × (t < nth (now mem) 0) × FirstFed rooms t (now mem) ⌝ }
+    requires { ⌜ ((k : ℕ) × LinesHeld rooms k (now mem)) × LinksHeld (now mem) (now links) × DelayTable (now delays) (now mem) × (t < nth (now mem) 0) × FirstFed rooms t (now mem) ⌝ }
     ensures { λ r. ⌜ (length r ≡ 16) × ((p : ℕ) → p < nth (now (mem .entry)) 1 → (timeIn (nth r p) ≡ dataIn rooms false t p (now (mem .entry))) × Small 5000000000 (nth r p)) ⌝ }
 {
     let span = orders::entering(links, mem[0] as usize, t);
@@ -128,7 +128,7 @@ fn both_arrivals(
     early: &mut [u32; 16],
     late: &mut [u32; 16],
 )
-    requires { ⌜ JobStands (now mem) × DelayTable (now delays) (now mem) × RowHeld a (now mem) × (rowEnd a ≤ length (now mem)) × (volume ≤ document01 .volume) × BothShort a (now mem)
+    requires { ⌜ SomeJobHeld (now mem) × DelayTable (now delays) (now mem) × RowHeld a (now mem) × (rowEnd a ≤ length (now mem)) × (volume ≤ document01 .volume) × BothShort a (now mem)
         × (length (now early) ≡ 16) × (length (now late) ≡ 16) ⌝ }
     ensures { λ _. ⌜ BothRaised volume a (now (mem .entry)) (now (early .entry)) (now (early .exit)) (now (late .entry)) (now (late .exit)) ⌝ }
 {
@@ -153,7 +153,7 @@ fn both_arrivals(
 
 // When all data of t is on each processor, by the first replicas and by the last.
 fn both_data(mem: &[u64], links: &[u64], rooms: usize, delays: &[u16; 256], t: usize) -> Both
-    requires { ⌜ ((k : ℕ) × Standing rooms k (now mem)) × LinksHeld (now mem) (now links) × DelayTable (now delays) (now mem) × (t < nth (now mem) 0) × BothFed rooms t (now mem) ⌝ }
+    requires { ⌜ ((k : ℕ) × LinesHeld rooms k (now mem)) × LinksHeld (now mem) (now links) × DelayTable (now delays) (now mem) × (t < nth (now mem) 0) × BothFed rooms t (now mem) ⌝ }
     ensures { λ r. ⌜ BothReady rooms t (now (mem .entry)) (r .early) (r .late) ⌝ }
 {
     let span = orders::entering(links, mem[0] as usize, t);
@@ -168,7 +168,7 @@ fn both_data(mem: &[u64], links: &[u64], rooms: usize, delays: &[u16; 256], t: u
 
 // The run times of t, one for each processor of the job.
 pub fn run_times(mem: &[u64], t: usize) -> [u32; 16]
-    requires { ⌜ JobStands (now mem) × (t < nth (now mem) 0) ⌝ }
+    requires { ⌜ SomeJobHeld (now mem) × (t < nth (now mem) 0) ⌝ }
     ensures { λ r. ⌜ RunsOf t (now (mem .entry)) r ⌝ }
 {
     let m = mem[1] as usize;
@@ -190,7 +190,7 @@ pub fn finishes(
     t: usize,
     clocks: Clocks,
 ) -> Both
-    requires { ⌜ ((k : ℕ) × Standing rooms k (now mem)) × DelayTable (now delays) (now mem) × (t < nth (now mem) 0) × BothFed rooms t (now mem) × ShortClocks clocks (now mem)
+    requires { ⌜ ((k : ℕ) × LinesHeld rooms k (now mem)) × DelayTable (now delays) (now mem) × (t < nth (now mem) 0) × BothFed rooms t (now mem) × ShortClocks clocks (now mem)
         × LinksHeld (now mem) (now links) ⌝ }
     ensures { λ r. ⌜ BothFinish rooms t clocks (now (mem .entry)) (r .early) (r .late) ⌝ }
 {

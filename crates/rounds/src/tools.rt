@@ -10,7 +10,7 @@ ghost use Rattle.definitions.specs.Replay.{replayText};
 ghost use Rattle.definitions.specs.Tools.{fitting, planned};
 ghost use Rattle.jobs.specs.Held.{jobIn, JobHeld, LinksHeld};
 ghost use Rattle.jobs.specs.Answers.{Answered};
-ghost use Rattle.plans.specs.Lines.{Standing};
+ghost use Rattle.plans.specs.Lines.{LinesHeld};
 ghost use Rattle.plans.specs.Loading.{planIn, PlanHeld};
 ghost use Rattle.rounds.specs.Replaying.{outcomesIn, RisingIn, replayIn};
 use crate::ends;
@@ -55,7 +55,7 @@ pub fn put_plan(mem: &mut [u64], links: &[u64], rooms: usize, out: &mut [u8]) ->
 
 // The replay's answer fits an output of this size; the longest has 5,113 bytes.
 fn replay_fits(mem: &[u64], links: &[u64], rooms: usize, room: usize) -> bool
-    requires { ⌜ Standing rooms (nth (now mem) 0) (now mem) × RisingIn rooms (now mem) × LinksHeld (now mem) (now links) ⌝ }
+    requires { ⌜ LinesHeld rooms (nth (now mem) 0) (now mem) × RisingIn rooms (now mem) × LinksHeld (now mem) (now links) ⌝ }
     ensures { λ r. ⌜ r ≡ leb (length (replayText document01 (jobIn (now (mem .entry))) (outcomesIn rooms (now (mem .entry))))) room ⌝ }
 {
     if room >= 5113 {

@@ -1,13 +1,13 @@
 // Where a task's edges are read.
 ghost use mathlib.Core.Path.{_≡_};
 ghost use Rattle.orders.specs.Edges.{edgeIn};
-ghost use Rattle.jobs.specs.Held.{edgeAt, JobHeld, JobStands};
+ghost use Rattle.jobs.specs.Held.{edgeAt, JobHeld, SomeJobHeld};
 ghost use Rattle.rounds.specs.Walks.{Feeds, Entered};
 use crate::row;
 
 // Where the edges stand among the job's cells.
 pub fn edges_at(mem: &[u64]) -> usize
-    requires { ⌜ JobStands (now mem) ⌝ }
+    requires { ⌜ SomeJobHeld (now mem) ⌝ }
     ensures { λ r. ⌜ r ≡ edgeAt (now (mem .entry)) 0 ⌝ }
 {
     let v = mem[0];

@@ -25,7 +25,8 @@ returns-2 c =
     let k = c .before .before .before .before .before .before .before .check in
     let t = c .before .before .before .before .before .t in
     let w = c .before .before .write-doubled in
-    shown (verdict document01 (a .job .now) (a .plan .now)) (12 ∷ t .given .0 .0 ∷ []) (a .out .now) (w .last .0) (w .result) (rw (t .given .1) at (k .ensures .0)) (omega arith) pre (w .ensures .0) (w .ensures .1)
+    shown (verdict document01 (a .job .now) (a .plan .now)) (12 ∷ t .given .0 .0 ∷ []) (a .out .now) (w .last .0) (w .result) (rw (t .given .1) at (k .ensures .0)) (omega arith) pre
+    (w .ensures .0) (w .ensures .1)
 
 returns-3 : tie.Need-returns-3
 returns-3 c =
@@ -34,7 +35,8 @@ returns-3 c =
     let k = c .before .before .before .before .before .before .before .check in
     let x = c .before .before .before .before .before .x in
     let w = c .before .before .write-refusal in
-    shown (verdict document01 (a .job .now) (a .plan .now)) (x .given .0 .0 ∷ []) (a .out .now) (w .last .0) (w .result) (rw (x .given .1) at (k .ensures .0)) (omega arith) pre (w .ensures .0) (w .ensures .1)
+    shown (verdict document01 (a .job .now) (a .plan .now)) (x .given .0 .0 ∷ []) (a .out .now) (w .last .0) (w .result) (rw (x .given .1) at (k .ensures .0)) (omega arith) pre (w .ensures .0)
+    (w .ensures .1)
 
 pub answer-spec : {M : Type 1} → statement M
 answer-spec = tie.close (tie.spec

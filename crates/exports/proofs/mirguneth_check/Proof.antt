@@ -8,8 +8,11 @@ use Rattle.mirguneth.proofs.check.Reads as check-reads
 
 returns : tie.Need-returns
 returns c =
-    let args = c .before .before .before .before .before .args in
-    (verdict-accepted (verdict document01 (args .job .now) (args .plan .now)) (args .task .now) 0 (rw (c .enum-told .given .1) at (c .before .before .check .ensures .0)), c .before .before .check .ensures .1)
+    let args = c .before .before .before .before .before .args in (
+      verdict-accepted (verdict document01 (args .job .now) (args .plan .now)) (args .task .now) 0
+          (rw (c .enum-told .given .1) at (c .before .before .check .ensures .0)),
+      c .before .before .check .ensures .1,
+    )
 
 returns-2 : tie.Need-returns-2
 returns-2 c =

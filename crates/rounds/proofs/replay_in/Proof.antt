@@ -24,7 +24,8 @@ returns c =
     let l = c .before .before .before .before .before .before .before .before .before .before .before .before .before .before .load-both in
     let enum-told = c .before .before .before .before .before .before .before .before .enum-told in
     let p = c .before .before .before .before .put-replay in
-    let a = c .before .before .before .before .before .before .before .before .before .before .before .before .before .before .before .before .before .before .before .before .before .before .before .args in
+    let here = c .before .before .before .before .before .before .before .before .before .before .before in
+    let a = here .before .before .before .before .before .before .before .before .before .before .before .before .args in
     let x = withPlan (jobFrom (a .rooms) (length (a .mem .now)) (length (a .links .now)) (headOf (a .head)) (drop (a .at) (a .job .now))) (a .plan .now) in
     replay-put (a .rooms) x (l .last .1 .1 .1 .1 .0) (l .last .1 .1 .1 .1 .1 .0) (a .stops .now) (a .out .now) _ (rw (enum-told .given .1) at (l .ensures))
     (p .last .1 .1 .1 .1 .0) (p .result) (p .ensures)

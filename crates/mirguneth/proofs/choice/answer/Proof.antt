@@ -42,7 +42,8 @@ returns-3 c =
     let rooms-for = c .before .before .before .before .before .before .before .before .before .before .before .rooms-for in
     let run3 = c .before .before .before .before .run3 in
     let o = rw (head .given .1) at (read-head .ensures) in
-    tool-page (args .tool) (args .job .now) (head .given .0 .0) (head .given .0 .1 .0) 8 _ _ o (sym (if3 .taken) ∙ rooms-for .ensures) (length-replicate {A = ℕ} 3400 0) (length-replicate {A = ℕ} 544 0)
+    tool-page (args .tool) (args .job .now) (head .given .0 .0) (head .given .0 .1 .0) 8 _ _ o (sym (if3 .taken) ∙ rooms-for .ensures) (length-replicate {A =
+    ℕ} 3400 0) (length-replicate {A = ℕ} 544 0)
     (args .plan .now) (args .stops .now) _ _ (run3 .result) (run3 .ensures)
 
 returns-4 : tie.Need-returns-4
@@ -57,7 +58,8 @@ returns-4 c =
     let run4 = c .before .before .before .before .run4 in
     let o = rw (head .given .1) at (read-head .ensures) in
     tool-page (args .tool) (args .job .now) (head .given .0 .0) (head .given .0 .1 .0) 32 _ _ o
-    (sym (rooms-last _ (λ q. if1 .left (rooms-for .ensures ∙ q)) (λ q. if2 .left (rooms-for .ensures ∙ q)) (λ q. if3 .left (rooms-for .ensures ∙ q)))) (length-replicate {A = ℕ} 13600 0) (length-replicate {A = ℕ} 2176 0)
+    (sym (rooms-last _ (λ q. if1 .left (rooms-for .ensures ∙ q)) (λ q. if2 .left (rooms-for .ensures ∙ q)) (λ q. if3 .left (rooms-for .ensures ∙ q)))) (length-replicate {A = ℕ} 13600 0)
+    (length-replicate {A = ℕ} 2176 0)
     (args .plan .now) (args .stops .now) _ _ (run4 .result) (run4 .ensures)
 
 returns-5 : tie.Need-returns-5

@@ -9,7 +9,9 @@ returns-4 : tie.Need-returns-4
 returns-4 c = let a = c .before .before .before .before .args in head-processors-high (a .tasks) (a .processors) (a .losses) (a .best) (a .worst) (omega arith) (omega arith) (c .if4 .taken)
 
 returns-5 : tie.Need-returns-5
-returns-5 c = let a = c .before .before .before .before .before .args in head-losses (a .tasks) (a .processors) (a .losses) (a .best) (a .worst) (omega arith) (omega arith) (omega arith) (omega arith) (c .if5 .taken)
+returns-5 c =
+    let a = c .before .before .before .before .before .args in
+    head-losses (a .tasks) (a .processors) (a .losses) (a .best) (a .worst) (omega arith) (omega arith) (omega arith) (omega arith) (c .if5 .taken)
 
 returns-6 : tie.Need-returns-6
 returns-6 c =

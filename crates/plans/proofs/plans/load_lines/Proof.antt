@@ -1,7 +1,7 @@
 -- The table of lines is cleared, the lines are read, and then M* and M are stored.
 use Rattle.lists.proofs.Prelude.{sym, ap, _∙_, _+_, arith, needs, length-set, nth}
 use Rattle.text.specs.Told.{told}
-use Rattle.heads.specs.Layout.{lineAt, farAt}
+use Rattle.heads.specs.Layout.{lineAt, largestDelayAt}
 use Rattle.jobs.proofs.Held.{sizes, links-kept}
 use Rattle.lists.proofs.Kept.{kept-then, kept-wider}
 use Rattle.plans.specs.Lines.{linesIn}
@@ -25,7 +25,7 @@ returns c =
     let mem = read-plan-lines .last .1 .1 .0 in
     let ns = linesIn (args .rooms) (nth mem 3 + 1) (nth mem 0) mem in
     let g = sym (ap (told (args .s .now) ns) (p .given .1)) ∙ read-plan-lines .ensures .1 ∙ cleared-lines (pre .0) (clear-lines .ensures .0) (args .s .now) (args .at) in (
-      kept-then (kept-wider (lineAt (args .rooms)) (farAt (args .rooms)) (clear-lines .ensures .0) (omega arith) (omega arith)) (read-plan-lines .ensures .0),
+      kept-then (kept-wider (lineAt (args .rooms)) (largestDelayAt (args .rooms)) (clear-lines .ensures .0) (omega arith) (omega arith)) (read-plan-lines .ensures .0),
       plan-left-over (args .mem .now) (args .s .now) _ _ (args .at) ns (p .given .0 .0) g _ mem (c .if1 .taken),
     )
 
@@ -66,8 +66,8 @@ returns-2 c =
     let ns = linesIn (args .rooms) (nth mem 3 + 1) (nth mem 0) mem in
     let g = sym (ap (told (args .s .now) ns) (p .given .1)) ∙ read-plan-lines .ensures .1 ∙ cleared-lines (pre .0) (clear-lines .ensures .0) (args .s .now) (args .at) in
     let t = read-plan-lines .ensures .2 (p .given .0 .0) (p .given .1) in (
-      kept-then (kept-wider (lineAt (args .rooms)) (farAt (args .rooms)) (clear-lines .ensures .0) (omega arith) (omega arith))
-          (kept-then (read-plan-lines .ensures .0) (kept-wider (lineAt (args .rooms)) (farAt (args .rooms)) (stored-kept mem best worst t) (omega arith) (omega arith))),
+      kept-then (kept-wider (lineAt (args .rooms)) (largestDelayAt (args .rooms)) (clear-lines .ensures .0) (omega arith) (omega arith))
+          (kept-then (read-plan-lines .ensures .0) (kept-wider (lineAt (args .rooms)) (largestDelayAt (args .rooms)) (stored-kept mem best worst t) (omega arith) (omega arith))),
       plan-good (args .mem .now) (args .s .now) best worst (args .at) ns (p .given .0 .0) g _ (c .if1 .left) (stored-plan mem best worst t) (stored-standing mem best worst t),
     )
 
@@ -80,7 +80,7 @@ returns-3 c =
     let mem = read-plan-lines .last .1 .1 .0 in
     let ns = linesIn (args .rooms) (nth mem 3 + 1) (nth mem 0) mem in
     let g = sym (ap (told (args .s .now) ns) (c .before .x .given .1)) ∙ read-plan-lines .ensures .1 ∙ cleared-lines (pre .0) (clear-lines .ensures .0) (args .s .now) (args .at) in (
-      kept-then (kept-wider (lineAt (args .rooms)) (farAt (args .rooms)) (clear-lines .ensures .0) (omega arith) (omega arith)) (read-plan-lines .ensures .0),
+      kept-then (kept-wider (lineAt (args .rooms)) (largestDelayAt (args .rooms)) (clear-lines .ensures .0) (omega arith) (omega arith)) (read-plan-lines .ensures .0),
       plan-lines-bad (args .mem .now) (args .s .now) _ _ (args .at) _ mem _ g,
     )
 

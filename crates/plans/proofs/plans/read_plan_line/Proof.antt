@@ -65,7 +65,8 @@ returns-2 c =
     let check-line = c .before .before .before .before .before .before .check-line in
     let if1 = c .before .before .before .before .before .if1 in
     let a = c .before .before .before .before .before .before .before .before .before .before .before .before .before .before .before .before .before .before .before .before .before .before .args in
-    let (u, g, h) = c .before .before .before .before .before .before .before .before .before .before .before .before .before .before .before .before .before .before .before .before .before .before .pre in
+    let here = c .before .before .before .before .before .before .before .before .before .before .before in
+    let (u, g, h) = here .before .before .before .before .before .before .before .before .before .before .before .pre in
     let z = c .before .before .before .before .before .before .before .before .before .before .before .before .before .before .before .before .row-at .ensures in
     let q = line-cells .ensures in let n = line-cells .result in
     let ys = read-line .last .1 .1 .1 .1 .0 in let l = read-line .kept .1 .1 .1 .1 .0 in

@@ -10,14 +10,16 @@ returns c =
     let args = c .before .before .before .before .before .before .args in
     let pre = c .before .before .before .before .before .before .pre in
     let ticks-agree = c .before .before .before .ticks-agree in
-    answer-accepted (jobIn (args .mem .now)) (planIn (args .rooms) (args .mem .now)) (pre .2) (sym (ticks-agree .ensures) ∙ c .before .before .if1 .taken) (sym (c .before .ends-agree .ensures) ∙ c .if2 .taken)
+    answer-accepted (jobIn (args .mem .now)) (planIn (args .rooms) (args .mem .now)) (pre .2) (sym (ticks-agree .ensures) ∙ c .before .before .if1 .taken)
+    (sym (c .before .ends-agree .ensures) ∙ c .if2 .taken)
 
 returns-2 : tie.Need-returns-2
 returns-2 c =
     let args = c .before .before .before .before .before .before .args in
     let pre = c .before .before .before .before .before .before .pre in
     let ticks-agree = c .before .before .before .ticks-agree in
-    answer-ends (jobIn (args .mem .now)) (planIn (args .rooms) (args .mem .now)) (pre .2) (sym (ticks-agree .ensures) ∙ c .before .before .if1 .taken) (sym (c .before .ends-agree .ensures) ∙ c .if2 .left)
+    answer-ends (jobIn (args .mem .now)) (planIn (args .rooms) (args .mem .now)) (pre .2) (sym (ticks-agree .ensures) ∙ c .before .before .if1 .taken)
+    (sym (c .before .ends-agree .ensures) ∙ c .if2 .left)
 
 returns-3 : tie.Need-returns-3
 returns-3 c =

@@ -50,8 +50,16 @@ unfolding placedIn
 loop-holds c =
     let prepare = c .before .before .before .before .before .before .before .before .before .before .prepare in
     let new = c .before .before .before .before .new in
-    let s = prepare .ensures in
-    (search needs, refl, kept-all, s .1, s .2, outset-clocks (rw (processors-in (prepare .last .0)) (sizes (s .1 .standing .job) .processors-most)) (new .ensures .0) (new .ensures .1), c .before .list-free .ensures)
+    let s = prepare .ensures in (
+      search needs,
+      refl,
+      kept-all,
+      s .1,
+      s .2,
+      outset-clocks (rw (processors-in (prepare .last .0)) (sizes (s .1 .standing .job) .processors-most)) (new .ensures .0)
+          (new .ensures .1),
+      c .before .list-free .ensures,
+    )
 
 array-read-t : tie.Need-array-read-t Inv-loop μ-loop
 array-read-t c =

@@ -16,8 +16,12 @@ loop-again c =
     let pre = c .before .before .before .before .before .before .before .pre in
     let l = c .before .before .before .loop in
     let y = c .before .sent2 .result in
-    let e : c .if1 .x ≡ min y (l .x) = ⊎-elim (λ w. omega (arith, w .0 .taken, w .1)) (λ w. omega (arith, w .0 .left, w .1)) (c .if1 .came) in
-    (search needs, omega (arith, c .before .sent2 .ensures .1), spread-more (pre .0) (pre .1) (l .c) (c .before .before .loop-test .taken) (l .x) y (c .if1 .x) (c .before .sent2 .ensures .0) (l .inv .2) e)
+    let e : c .if1 .x ≡ min y (l .x) = ⊎-elim (λ w. omega (arith, w .0 .taken, w .1)) (λ w. omega (arith, w .0 .left, w .1)) (c .if1 .came) in (
+      search needs,
+      omega (arith, c .before .sent2 .ensures .1),
+      spread-more (pre .0) (pre .1) (l .c) (c .before .before .loop-test .taken) (l .x) y (c .if1 .x) (c .before .sent2 .ensures .0)
+          (l .inv .2) e,
+    )
 
 pub spread-spec : {M : Type 1} → statement M
 spread-spec = tie.close (tie.spec

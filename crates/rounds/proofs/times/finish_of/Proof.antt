@@ -6,8 +6,11 @@ use Rattle.rounds.proofs.times.finish_of.Tie as tie
 
 put-off-requires : tie.Need-put-off-requires
 put-off-requires c κs =
-    let a = c .before .args in let h = c .before .pre .2 in
-    (small-one 5000000000 (c .chosen-of .result) (a .ready) (a .supplied) (c .chosen-of .ensures .1) (small-wider 4294967295 5000000000 (a .ready) (omega arith) (c .before .pre .0)) (c .before .pre .1), omega arith)
+    let a = c .before .args in let h = c .before .pre .2 in (
+      small-one 5000000000 (c .chosen-of .result) (a .ready) (a .supplied) (c .chosen-of .ensures .1) (small-wider 4294967295 5000000000 (a .ready) (omega arith) (c .before .pre .0))
+          (c .before .pre .1),
+      omega arith,
+    )
 
 returns : tie.Need-returns
 returns c =

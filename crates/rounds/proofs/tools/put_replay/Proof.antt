@@ -29,11 +29,13 @@ render-requires c κs =
 
 returns : tie.Need-returns
 returns c =
-    let args = c .before .before .before .before .before .before .before .before .before .before .before .before .before .before .before .before .before .before .before .before .before .before .before .args in
+    let here = c .before .before .before .before .before .before .before .before .before .before .before in
+    let args = here .before .before .before .before .before .before .before .before .before .before .before .before .args in
     let render = c .before .before .render in
     let replay-fits = c .before .before .before .before .before .before .replay-fits in
     let if1 = c .before .before .before .before .before .if1 in
-    let pre = c .before .before .before .before .before .before .before .before .before .before .before .before .before .before .before .before .before .before .before .before .before .before .before .pre in
+    let here = c .before .before .before .before .before .before .before .before .before .before .before in
+    let pre = here .before .before .before .before .before .before .before .before .before .before .before .before .pre in
     let run-round = c .before .before .before .before .before .before .before .before .before .before .run-round in
     let load-stops = c .before .before .before .before .before .before .before .before .before .before .before .before .before .before .before .before .load-stops in
     let enum-told = c .before .before .before .before .before .before .before .before .before .before .before .before .before .enum-told in

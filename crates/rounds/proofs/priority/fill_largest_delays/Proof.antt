@@ -1,18 +1,18 @@
 -- The places passed hold the largest delays, and nothing else changed.
 use Rattle.lists.proofs.Prelude.{_≡_, ℕ, _≤_, _<_, _-_, _+_, arith, needs, length, nth, largestDelay}
-use Rattle.heads.specs.Layout.{memorySize, farAt}
+use Rattle.heads.specs.Layout.{memorySize, largestDelayAt}
 use Rattle.jobs.specs.Held.{jobIn}
 use Rattle.lists.specs.Kept.{KeptOutside}
 use Rattle.jobs.proofs.Held.{sizes, job-kept, held-kept}
 use Rattle.lists.proofs.Kept.{kept-all, kept-set}
 use Rattle.lists.proofs.Upward.{table-more}
-use Rattle.rounds.proofs.priority.fill_far.Statement.{statement}
-use Rattle.rounds.proofs.priority.fill_far.Tie as tie
+use Rattle.rounds.proofs.priority.fill_largest_delays.Statement.{statement}
+use Rattle.rounds.proofs.priority.fill_largest_delays.Tie as tie
 
 abbrev Inv-loop : tie.InvT-loop
 Inv-loop mem₀ rooms far m p₀ mem p =
-    (p ≤ m) × (m ≤ 16) × (length mem ≡ memorySize rooms) × KeptOutside (farAt rooms) (memorySize rooms) mem₀ mem
-    × ((q : ℕ) → q < p → nth mem (farAt rooms + q) ≡ largestDelay (jobIn mem₀) q)
+    (p ≤ m) × (m ≤ 16) × (length mem ≡ memorySize rooms) × KeptOutside (largestDelayAt rooms) (memorySize rooms) mem₀ mem
+    × ((q : ℕ) → q < p → nth mem (largestDelayAt rooms + q) ≡ largestDelay (jobIn mem₀) q)
 
 abbrev μ-loop : tie.MeasureT-loop
 μ-loop mem₀ rooms far m p₀ mem p = m - p
@@ -30,8 +30,8 @@ loop-again c =
       search needs,
       search needs,
       search needs,
-      kept-set (farAt (args .rooms) + loop .p) (x .result) (loop .inv .3) (omega arith) (omega arith),
-      table-more (largestDelay (jobIn (args .mem .now))) (loop .mem) (farAt (args .rooms)) (loop .p) (x .result) (loop .inv .4) (omega arith) (rw new at (x .ensures)),
+      kept-set (largestDelayAt (args .rooms) + loop .p) (x .result) (loop .inv .3) (omega arith) (omega arith),
+      table-more (largestDelay (jobIn (args .mem .now))) (loop .mem) (largestDelayAt (args .rooms)) (loop .p) (x .result) (loop .inv .4) (omega arith) (rw new at (x .ensures)),
     )
 
 returns : tie.Need-returns Inv-loop μ-loop
@@ -39,8 +39,8 @@ returns c =
     let loop = c .before .loop in
     (loop .inv .3, λ p h. rw (job-kept (c .before .before .before .before .pre) (loop .inv .3) (omega arith)) (loop .inv .4 p (omega (arith, loop .inv .3 .before 1 (omega arith)))))
 
-pub fill-far-spec : {M : Type 1} → statement M
-fill-far-spec = tie.close (tie.spec
+pub fill-largest-delays-spec : {M : Type 1} → statement M
+fill-largest-delays-spec = tie.close (tie.spec
     Inv-loop μ-loop (λ c. let s = sizes (c .before .pre) in omega arith) (λ c. let s = sizes (c .before .before .pre) in omega arith)
     (λ c. let s = sizes (c .before .before .pre) in (search needs, s .processors-most, s .size, kept-all, λ q h. absurd (omega arith)))
     largest-delay-requires (λ c. let s = sizes (c .before .before .before .before .before .before .pre) in omega arith)
