@@ -57,11 +57,10 @@ module _ (job plan : List ℕ) where
 
 -- The memory that the head asks for -----------------------------------------------------------------------------------
 
-pub tool-page : (tool : Tool) (job : List ℕ) (h : Head) (at rooms size links : ℕ) → HeadRead document01 job (Opened h at) → rooms ≡ roomsFor (headOf h)
-    → size ≡ memorySize rooms → links ≡ linksRoom rooms
-    → (plan stops d z : List ℕ) (r : Said) → Answers tool (jobFrom rooms size links (headOf h) (drop at job)) plan stops d z r
+pub tool-page : (tool : Tool) (job : List ℕ) (h : Head) (at rooms : ℕ) → HeadRead document01 job (Opened h at) → rooms ≡ roomsFor (headOf h)
+    → (plan stops d z : List ℕ) (r : Said) → Answers tool (jobFrom rooms (memorySize rooms) (linksRoom rooms) (headOf h) (drop at job)) plan stops d z r
     → Answers tool (readJob document01 job) plan stops d z r
-tool-page tool job h at rooms size links o e l k plan stops d z r a = rw (job-from job h at rooms size links o e l (omega (arith, k))) at a
+tool-page tool job h at rooms o e plan stops d z r a = rw (job-from job h at rooms (memorySize rooms) (linksRoom rooms) o e refl (omega arith)) at a
 
 -- The job's text was refused.
 pub tool-refused : (tool : Tool) (x : Result Job) (n : ℕ) → x ≡ bad n → (plan stops d : List ℕ) → Answers tool x plan stops d d (Said.Refused n)

@@ -4,6 +4,7 @@ ghost use lib.ListN.{length, drop};
 ghost use Rattle.definitions.specs.Limits.{document01};
 ghost use Rattle.definitions.specs.Job.{readJob};
 ghost use Rattle.heads.specs.Heads.{headOf};
+ghost use Rattle.heads.specs.Layout.{memorySize, linksRoom};
 ghost use Rattle.jobs.specs.Answers.{resultOf};
 ghost use Rattle.jobs.specs.Loading.{jobFrom};
 ghost use Rattle.rounds.specs.Verdicts.{refusalOf};
@@ -104,6 +105,122 @@ fn run(
     }
 }
 
+// The same in a memory of one room.
+fn in_one(
+    tool: Tool,
+    job: &[u8],
+    at: usize,
+    head: Head,
+    plan: &[u8],
+    stops: &[u8],
+    out: &mut [u8],
+) -> Said
+    ensures { λ r. ⌜ Answers tool (jobFrom 1 (memorySize 1) (linksRoom 1) (headOf head) (drop at (now (job .entry)))) (now (plan .entry)) (now (stops .entry))
+        (now (out .entry)) (now (out .exit)) r ⌝ }
+{
+    let mut mem = [0u64; 425];
+    let mut links = [0u64; 68];
+    run(
+        tool,
+        job,
+        at,
+        head,
+        plan,
+        stops,
+        &mut mem,
+        &mut links,
+        1,
+        out,
+    )
+}
+
+// The same in a memory of two rooms.
+fn in_two(
+    tool: Tool,
+    job: &[u8],
+    at: usize,
+    head: Head,
+    plan: &[u8],
+    stops: &[u8],
+    out: &mut [u8],
+) -> Said
+    ensures { λ r. ⌜ Answers tool (jobFrom 2 (memorySize 2) (linksRoom 2) (headOf head) (drop at (now (job .entry)))) (now (plan .entry)) (now (stops .entry))
+        (now (out .entry)) (now (out .exit)) r ⌝ }
+{
+    let mut mem = [0u64; 850];
+    let mut links = [0u64; 136];
+    run(
+        tool,
+        job,
+        at,
+        head,
+        plan,
+        stops,
+        &mut mem,
+        &mut links,
+        2,
+        out,
+    )
+}
+
+// The same in a memory of eight rooms.
+fn in_eight(
+    tool: Tool,
+    job: &[u8],
+    at: usize,
+    head: Head,
+    plan: &[u8],
+    stops: &[u8],
+    out: &mut [u8],
+) -> Said
+    ensures { λ r. ⌜ Answers tool (jobFrom 8 (memorySize 8) (linksRoom 8) (headOf head) (drop at (now (job .entry)))) (now (plan .entry)) (now (stops .entry))
+        (now (out .entry)) (now (out .exit)) r ⌝ }
+{
+    let mut mem = [0u64; 3400];
+    let mut links = [0u64; 544];
+    run(
+        tool,
+        job,
+        at,
+        head,
+        plan,
+        stops,
+        &mut mem,
+        &mut links,
+        8,
+        out,
+    )
+}
+
+// The same in a memory of 32 rooms, which every job fits.
+fn in_all(
+    tool: Tool,
+    job: &[u8],
+    at: usize,
+    head: Head,
+    plan: &[u8],
+    stops: &[u8],
+    out: &mut [u8],
+) -> Said
+    ensures { λ r. ⌜ Answers tool (jobFrom 32 (memorySize 32) (linksRoom 32) (headOf head) (drop at (now (job .entry)))) (now (plan .entry)) (now (stops .entry))
+        (now (out .entry)) (now (out .exit)) r ⌝ }
+{
+    let mut mem = [0u64; 13600];
+    let mut links = [0u64; 2176];
+    run(
+        tool,
+        job,
+        at,
+        head,
+        plan,
+        stops,
+        &mut mem,
+        &mut links,
+        32,
+        out,
+    )
+}
+
 // A tool's answer to texts, in the smallest working memory that the job fits: 1, 2, 8 or 32 rooms, of 425 cells and 68 for links each.
 pub fn answer(tool: Tool, job: &[u8], plan: &[u8], stops: &[u8], out: &mut [u8]) -> Said
     ensures { λ r. ⌜ Answers tool (readJob document01 (now (job .entry))) (now (plan .entry)) (now (stops .entry)) (now (out .entry)) (now (out .exit)) r ⌝ }
@@ -112,67 +229,15 @@ pub fn answer(tool: Tool, job: &[u8], plan: &[u8], stops: &[u8], out: &mut [u8])
         Opening::Opened(head, at) => {
             let rooms = heads::rooms_for(head);
             if rooms == 1 {
-                let mut mem = [0u64; 425];
-                let mut links = [0u64; 68];
-                return run(
-                    tool,
-                    job,
-                    at,
-                    head,
-                    plan,
-                    stops,
-                    &mut mem,
-                    &mut links,
-                    1,
-                    out,
-                );
+                return in_one(tool, job, at, head, plan, stops, out);
             }
             if rooms == 2 {
-                let mut mem = [0u64; 850];
-                let mut links = [0u64; 136];
-                return run(
-                    tool,
-                    job,
-                    at,
-                    head,
-                    plan,
-                    stops,
-                    &mut mem,
-                    &mut links,
-                    2,
-                    out,
-                );
+                return in_two(tool, job, at, head, plan, stops, out);
             }
             if rooms == 8 {
-                let mut mem = [0u64; 3400];
-                let mut links = [0u64; 544];
-                return run(
-                    tool,
-                    job,
-                    at,
-                    head,
-                    plan,
-                    stops,
-                    &mut mem,
-                    &mut links,
-                    8,
-                    out,
-                );
+                return in_eight(tool, job, at, head, plan, stops, out);
             }
-            let mut mem = [0u64; 13600];
-            let mut links = [0u64; 2176];
-            run(
-                tool,
-                job,
-                at,
-                head,
-                plan,
-                stops,
-                &mut mem,
-                &mut links,
-                32,
-                out,
-            )
+            in_all(tool, job, at, head, plan, stops, out)
         }
         Opening::Refused(x) => Said::Refused(x),
     }

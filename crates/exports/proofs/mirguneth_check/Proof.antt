@@ -2,9 +2,6 @@ use Rattle.lists.proofs.Prelude.{_-_, needs, document01, verdict}
 use Rattle.exports.proofs.ExportLaws.{verdict-accepted, verdict-doubled, verdict-refused}
 use Rattle.exports.proofs.mirguneth_check.Statement.{statement}
 use Rattle.exports.proofs.mirguneth_check.Tie as tie
-use Rattle.exports.proofs.mirguneth_check.Reads as reads
-use Rattle.exports.proofs.mirguneth_check.Lts as lts
-use Rattle.mirguneth.proofs.check.Reads as check-reads
 
 returns : tie.Need-returns
 returns c =

@@ -2,9 +2,6 @@ use Rattle.lists.proofs.Prelude.{_-_, needs, length, document01, planAnswer}
 use Rattle.exports.proofs.ExportLaws.{answer-written, answer-refused}
 use Rattle.exports.proofs.mirguneth_plan.Statement.{statement}
 use Rattle.exports.proofs.mirguneth_plan.Tie as tie
-use Rattle.exports.proofs.mirguneth_plan.Reads as reads
-use Rattle.exports.proofs.mirguneth_plan.Lts as lts
-use Rattle.mirguneth.proofs.plan.Reads as plan-reads
 
 returns : tie.Need-returns
 returns c =

@@ -2,9 +2,6 @@ use Rattle.lists.proofs.Prelude.{_-_, needs, length, document01, replayAnswer}
 use Rattle.exports.proofs.ExportLaws.{answer-written, answer-refused}
 use Rattle.exports.proofs.mirguneth_replay.Statement.{statement}
 use Rattle.exports.proofs.mirguneth_replay.Tie as tie
-use Rattle.exports.proofs.mirguneth_replay.Reads as reads
-use Rattle.exports.proofs.mirguneth_replay.Lts as lts
-use Rattle.mirguneth.proofs.replay.Reads as replay-reads
 
 returns : tie.Need-returns
 returns c =

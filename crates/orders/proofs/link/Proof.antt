@@ -5,11 +5,6 @@ use Rattle.orders.proofs.CircleLaws.{order-short, linked-all}
 use Rattle.orders.proofs.PairLaws.{ascending-parts, linkable-few, linkable-rest}
 use Rattle.orders.proofs.link.Statement.{statement}
 use Rattle.orders.proofs.link.Tie as tie
-use Rattle.orders.proofs.link.Reads as reads
-use Rattle.orders.proofs.link.Lts as lts
-use Rattle.orders.proofs.runs.make_runs.Reads as make-runs-reads
-use Rattle.orders.proofs.runs.ascending.Reads as ascending-reads
-use Rattle.orders.proofs.sorting.arrange.Reads as arrange-reads
 
 returns : tie.Need-returns
 returns c =

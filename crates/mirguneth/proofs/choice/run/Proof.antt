@@ -6,13 +6,6 @@ use Rattle.rounds.specs.Tools.{planOf, replayBoth}
 use Rattle.mirguneth.proofs.Page.{answered-wrote}
 use Rattle.mirguneth.proofs.choice.run.Statement.{statement}
 use Rattle.mirguneth.proofs.choice.run.Tie as tie
-use Rattle.mirguneth.proofs.choice.run.Reads as reads
-use Rattle.mirguneth.proofs.choice.run.Lts as lts
-use Rattle.mirguneth.proofs.choice.judged.Reads as judged-reads
-use Rattle.mirguneth.proofs.choice.written.Reads as written-reads
-use Rattle.rounds.proofs.check_in.Reads as check-in-reads
-use Rattle.rounds.proofs.plan_in.Reads as plan-in-reads
-use Rattle.rounds.proofs.replay_in.Reads as replay-in-reads
 
 enum-told : tie.Need-enum-told
 enum-told c = search needs

@@ -2,9 +2,6 @@ use Rattle.lists.proofs.Prelude.{sym, _∙_, _-_, needs, planHeadOf}
 use Rattle.plans.proofs.PlanLaws.{head-range, head-tasks, head-processors, head-others, head-good}
 use Rattle.plans.proofs.plans.check_head.Statement.{statement}
 use Rattle.plans.proofs.plans.check_head.Tie as tie
-use Rattle.plans.proofs.plans.check_head.Reads as reads
-use Rattle.plans.proofs.plans.check_head.Lts as lts
-use Rattle.plans.proofs.plans.head_strays.Reads as head-strays-reads
 
 returns : tie.Need-returns
 returns c =

@@ -5,8 +5,6 @@ use Rattle.lists.proofs.Kept.{kept-all, kept-set}
 use Rattle.plans.proofs.PlanReading.{cleared-more}
 use Rattle.plans.proofs.plans.clear_lines.Statement.{statement}
 use Rattle.plans.proofs.plans.clear_lines.Tie as tie
-use Rattle.plans.proofs.plans.clear_lines.Reads as reads
-use Rattle.plans.proofs.plans.clear_lines.Lts as lts
 
 abbrev Inv-loop : tie.InvT-loop
 Inv-loop mem₀ rooms line n t₀ mem t = (t ≤ 8 * rooms) × (length mem ≡ length mem₀) × KeptOutside (lineAt rooms) (blockedAt rooms) mem₀ mem × ((u : ℕ) → u < t → nth mem (lineAt rooms + u) ≡ 0)

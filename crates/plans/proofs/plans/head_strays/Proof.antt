@@ -2,8 +2,6 @@ use Rattle.lists.proofs.Prelude.{_-_, arith}
 use Rattle.plans.proofs.PlanLaws.{head-tasks-low, head-tasks-high, head-processors-low, head-processors-high, head-losses, head-best, head-worst}
 use Rattle.plans.proofs.plans.head_strays.Statement.{statement}
 use Rattle.plans.proofs.plans.head_strays.Tie as tie
-use Rattle.plans.proofs.plans.head_strays.Reads as reads
-use Rattle.plans.proofs.plans.head_strays.Lts as lts
 
 returns-4 : tie.Need-returns-4
 returns-4 c = let a = c .before .before .before .before .args in head-processors-high (a .tasks) (a .processors) (a .losses) (a .best) (a .worst) (omega arith) (omega arith) (c .if4 .taken)
