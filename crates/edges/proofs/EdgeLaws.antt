@@ -10,7 +10,7 @@ use Rattle.text.specs.Told.{ruled}
 use Rattle.lines.proofs.LineLaws.{ruled-no, ruled-yes}
 use Rattle.orders.specs.Edges.{edgeCell, edgeIn, pairIn}
 use Rattle.orders.proofs.PairLaws.{pair-same, pair-smaller}
-use Rattle.edges.specs.Pairs.{edgeLines, edgesFit, edgesInto}
+use Rattle.edges.specs.EdgeLines.{edgeLines, edgesFit, edgesInto}
 
 -- An edge between v tasks in a cell, and back.
 pub edge-of-cell : (l : Limits) → Suited l → (v : ℕ) (e : Edge) → v ≤ l .tasks → e .from < v → e .to < v → edgeIn (edgeCell e) ≡ e

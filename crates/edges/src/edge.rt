@@ -9,7 +9,7 @@ ghost use Rattle.definitions.specs.Text.{firstOf};
 ghost use Rattle.definitions.specs.Job.{Ascends, samePair, edgeOrder, edgeLine, edgeRule};
 ghost use Rattle.text.specs.Told.{told, ruled};
 ghost use Rattle.orders.specs.Edges.{edgeCell, edgeIn};
-ghost use Rattle.edges.specs.Pairs.{edgeLines, edgesFit};
+ghost use Rattle.edges.specs.EdgeLines.{edgeLines, edgesFit};
 use orders::edge_pair;
 use text::Step;
 use text::limits::TASKS;

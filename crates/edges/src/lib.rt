@@ -5,7 +5,7 @@ ghost use lib.ListN.{length, take, drop};
 ghost use Rattle.definitions.specs.Limits.{document01};
 ghost use Rattle.text.specs.Told.{told};
 ghost use Rattle.orders.specs.Edges.{edgeIn};
-ghost use Rattle.edges.specs.Pairs.{edgesInto};
+ghost use Rattle.edges.specs.EdgeLines.{edgesInto};
 use text::Step;
 
 mod edge;

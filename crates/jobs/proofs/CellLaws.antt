@@ -5,7 +5,7 @@ use Rattle.definitions.proofs.Lists.{passed}
 use Rattle.definitions.proofs.Reading.{Ruled, lines-found, line-found}
 use Rattle.orders.specs.Edges.{edgeCell, edgeIn}
 use Rattle.lists.proofs.Over.{drop-lent}
-use Rattle.edges.specs.Pairs.{edgesInto}
+use Rattle.edges.specs.EdgeLines.{edgesInto}
 use Rattle.edges.proofs.EdgeLaws.{cell-of-edge, edges-enough}
 use Rattle.rows.specs.Rows.{rows, ruleOf, rowsInto}
 use Rattle.rows.proofs.RowLaws.{rows-fit}

@@ -3,7 +3,7 @@ use Rattle.lists.proofs.Prelude.{_≡_, refl, sym, ap, _∙_, [], map, ℕ, _�
 use Rattle.text.specs.Told.{told}
 use Rattle.lines.proofs.LineLaws.{lines-end, lines-no, lines-next}
 use Rattle.orders.specs.Edges.{edgeIn}
-use Rattle.edges.specs.Pairs.{edgeLines}
+use Rattle.edges.specs.EdgeLines.{edgeLines}
 use Rattle.edges.proofs.EdgeLaws.{edges-more, edge-passed}
 use Rattle.edges.proofs.edge.fill_edges.Statement.{statement}
 use Rattle.edges.proofs.edge.fill_edges.Tie as tie
