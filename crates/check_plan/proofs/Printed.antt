@@ -2,7 +2,7 @@
 use Rattle.lists.proofs.Prelude.{_≡_, List, [], _∷_, ℕ, _≤_, arith, length, document01, Verdict, Says}
 use Rattle.definitions.specs.Tools.{checkPrinted}
 use Rattle.lists.specs.Over.{over}
-use Rattle.text.specs.Told.{written}
+use Rattle.text.specs.Meaning.{written}
 use Rattle.console.proofs.Shown.{refusal-most, written-front}
 use Rattle.io.specs.Counts.{Counts}
 

@@ -2,7 +2,7 @@
 use Rattle.lists.proofs.Prelude.{_≡_, ap, _∙_, List, [], _∷_, ℕ, _+_, _*_, _%_, _^_, _≤_, arith, length, bytes, document01, Result, lineText, printed}
 use Rattle.lists.specs.Over.{over}
 use Rattle.lists.proofs.Over.{length-over}
-use Rattle.text.specs.Told.{written}
+use Rattle.text.specs.Meaning.{written}
 use Rattle.text.proofs.Writing.{written-fits}
 use Rattle.jobs.specs.Answers.{Answered}
 use Rattle.jobs.specs.declared.Answer.the-variants.{Done, Refusal}

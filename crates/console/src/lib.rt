@@ -6,7 +6,7 @@ ghost use Rattle.definitions.specs.Limits.{document01};
 ghost use Rattle.definitions.specs.Lists.{bytes};
 ghost use Rattle.definitions.specs.Text.{lineText};
 ghost use Rattle.io.specs.Counts.{Counts};
-ghost use Rattle.text.specs.Told.{written};
+ghost use Rattle.text.specs.Meaning.{written};
 
 // What the file holds, from the start of buf on, and how many bytes; 0 if it cannot be opened.
 pub fn load(path: &[u8], buf: &mut [u8]) -> usize

@@ -14,13 +14,13 @@ use Rattle.definitions.specs.Limits.{Limits}
 use Rattle.definitions.specs.Job.{Edge, Job, runTime, delay, incoming, outgoing}
 use Rattle.definitions.specs.Plan.{Replica, Line, Plan, processorsOf}
 use Rattle.definitions.specs.Stops.{Stop}
-use Rattle.definitions.specs.Times.{Time, tick, never, later, sooner, after, least, largest, Copy, Outcome, outcome, ofTask, times, ready, message, arrival, dataReady, start, stopTime, unlessStopped, finish, walk, copiesOf, copies, earlies, lates, exits, end, bestEnd, worstEnd, copyOf}
+use Rattle.definitions.specs.Times.{Time, tick, never, later, sooner, after, least, largest, Placement, Outcome, outcome, ofTask, times, ready, message, arrival, dataReady, start, stopTime, unlessStopped, finish, walk, placementsOf, placements, earlies, lates, exits, makespan, lowerBound, upperBound, placementOf}
 use Rattle.definitions.specs.Refusals.{replicasOf, sameTimes, ticksAgree, planRefusal}
 use Rattle.definitions.specs.Planner.{tickOf, Waiting, waitingFrom, scale, scaledRun, totalDelay, scaledMessage, raised, settled, bottomLevels, largestDelay, topLevel, ranked, trial}
 use Rattle.definitions.specs.Replay.{replay}
 use Rattle.definitions.specs.Claims.{Within, AllWithin, PlacedWithin, planTicks, replayTicks, PlanWithin}
 use Rattle.definitions.proofs.Lists.{both, append-left, append-right, in-map, map-in, in-keep, keep-length, fits, distinct-keep, length-count, in-below, NumbersMost, nth-most, sum-most, greatest-most}
-use Rattle.definitions.specs.Facts.{JobFacts, Fed, Ordered, Apart}
+use Rattle.definitions.specs.Facts.{JobFacts, PredecessorsIn, Ordered, Apart}
 use Rattle.definitions.proofs.Tasks.{in-incoming, in-outgoing, in-task, line-facts}
 use Rattle.definitions.proofs.Ready.{first-ready}
 use Rattle.definitions.proofs.Stopping.{stopped}
@@ -70,15 +70,15 @@ chosen-within : {A : Type 0} (b : ℕ) (choose : List Time → Time) → Bounded
     → ((x : A) → In x xs → Within b (f x)) → Within b (choose (map f xs))
 chosen-within b choose k f xs h = k b (map f xs) (λ y i. let (x, m, e) = in-map f y xs i in rw (← e) (h x m))
 
--- A copy after which n ticks are left: it starts at the later of r and d, and runs u ticks, if it is not stopped.
+-- A replica after which n ticks are left: it starts at the later of r and d, and runs u ticks, if it is not stopped.
 run-within : (b n u v : ℕ) (r d : Time) → u ≤ v → Within b (after (n + v) r) → Within b (after (n + v) d) → Within b (after n (after u (later r d)))
 run-within b n u v (tick r) (tick d) h a c = omega arith
 run-within b n u v (tick r) never h a c = tt
 run-within b n u v never d h a c = tt
 
-copy-within : (b n u v : ℕ) (s r d : Time) → u ≤ v → Within b (after (n + v) r) → Within b (after (n + v) d)
+replica-within : (b n u v : ℕ) (s r d : Time) → u ≤ v → Within b (after (n + v) r) → Within b (after (n + v) d)
     → Within b (after n (unlessStopped s (after u (later r d))))
-copy-within b n u v s r d h a c = ⊎-elim (λ q. rw q (run-within b n u v r d h a c)) (λ q. rw q tt) (stopped s (after u (later r d)))
+replica-within b n u v s r d h a c = ⊎-elim (λ q. rw q (run-within b n u v r d h a c)) (λ q. rw q tt) (stopped s (after u (later r d)))
 
 -- How often ---------------------------------------------------------------------------------------------------
 
@@ -123,11 +123,11 @@ ready-within j b p (d ∷ ds) h = by (eqb (d .processor) p) (ready-within j b p 
     by true r = h d (inl refl) .1
     by false r = r
 
--- The data of a task's copies, each sent on at w ticks for its processor, of which none passes v.
-fed-within : (b v : ℕ) (choose : List Time → Time) → Bounded choose → (w : ℕ → ℕ) (t : ℕ) (ds : List Outcome)
+-- The data of a task's replicas, each sent on at w ticks for its processor, of which none passes v.
+predecessors-within : (b v : ℕ) (choose : List Time → Time) → Bounded choose → (w : ℕ → ℕ) (t : ℕ) (ds : List Outcome)
     → ((d : Outcome) → In d ds → d .task ≡ t → (w (d .processor) ≤ v) × Within b (d .time))
     → Within (b + v) (choose (map (λ d. after (w (d .processor)) (d .time)) (ofTask t ds)))
-fed-within b v choose k w t ds h =
+predecessors-within b v choose k w t ds h =
     chosen-within (b + v) choose k (λ d. after (w (d .processor)) (d .time)) (ofTask t ds) λ d m.
     let (o, e) = in-task t d ds m in
     let (u, a) = h d o e in
@@ -143,18 +143,18 @@ module _ (l : Limits) (j : Job) (jf : JobFacts l j) (choose : List Time → Time
       → p < j .processors → Within (b + longest) (arrival j choose ds p e)
   unfolding arrival
   arrival-within b seen ds p e s i f h =
-      fed-within b longest choose k (λ q. message j e q p) (e .from) ds λ d o q.
+      predecessors-within b longest choose k (λ q. message j e q p) (e .from) ds λ d o q.
       let (g, a) = s d o in
       (mul-le-mul (jf .volume-most e i) (jf .delay-most (d .processor) p g h), a (rw q f))
 
-  data-within : (b : ℕ) (seen : List ℕ) (ds : List Outcome) (t p : ℕ) → SuppliedWithin j b seen ds → Fed j t seen
+  data-within : (b : ℕ) (seen : List ℕ) (ds : List Outcome) (t p : ℕ) → SuppliedWithin j b seen ds → PredecessorsIn j t seen
       → p < j .processors → Within (b + longest) (dataReady j choose ds t p)
   unfolding dataReady
   data-within b seen ds t p s f h =
       chosen-within (b + longest) largest largest-within (arrival j choose ds p) (incoming j t)
       (λ e i. arrival-within b seen ds p e s (in-incoming j t e i .0) (f e i) h)
 
--- A processor's ready tick after one more copy, with the runs that are still to come in the line.
+-- A processor's ready tick after one more replica, with the runs that are still to come in the line.
 next-ready : (j : Job) (c run q : ℕ) (ps : List ℕ) (ds : List Outcome) (d : Outcome) → Within c (after (often (d .processor) ps * run) (d .time))
     → Within c (after (often q (d .processor ∷ ps) * run) (ready j q ds)) → Within c (after (often q ps * run) (ready j q (d ∷ ds)))
 unfolding ready keep
@@ -167,42 +167,42 @@ next-ready j c run q ps ds d a h = by (eqb (d .processor) q) refl h
     by false e h = h
 
 module _ (l : Limits) (j : Job) (jf : JobFacts l j) (choose : List Time → Time) (k : Bounded choose) (stops : List Stop) where
-  -- A copy's finish, with the runs that are still to come on its processor in the line.
+  -- A replica's finish, with the runs that are still to come on its processor in the line.
   finish-within : (b c n : ℕ) (seen : List ℕ) (ds : List Outcome) (t p : ℕ) → SuppliedWithin j b seen ds
-      → Fed j t seen → t < j .tasks → p < j .processors
+      → PredecessorsIn j t seen → t < j .tasks → p < j .processors
       → b + l .volume * l .delay + (n + l .runTime) ≤ c → Within c (after (n + l .runTime) (ready j p ds))
-      → Within c (after n (finish j choose stops ds (copyOf j t p)))
+      → Within c (after n (finish j choose stops ds (placementOf j t p)))
   unfolding finish start
   finish-within b c n seen ds t p s f ht hp h a =
       let there = dataReady j choose ds t p in
-      copy-within c n (runTime j t p) (l .runTime) (stopTime stops p) (ready j p ds) there (jf .run-most t p ht hp) a
+      replica-within c n (runTime j t p) (l .runTime) (stopTime stops p) (ready j p ds) there (jf .run-most t p ht hp) a
       (weaker (after (n + l .runTime) there) h (after-within (b + l .volume * l .delay) (n + l .runTime) there (data-within l j jf choose k b seen ds t p s f hp)))
 
-  -- A copy's finish after what is placed: a run and a message later at most.
+  -- A replica's finish after what is placed: a run and a message later at most.
   pub finish-most : (b : ℕ) (ds : List Outcome) (t p : ℕ) → t < j .tasks → p < j .processors → PlacedWithin j b ds
-      → Within (b + (l .runTime + l .volume * l .delay)) (finish j choose stops ds (copyOf j t p))
+      → Within (b + (l .runTime + l .volume * l .delay)) (finish j choose stops ds (placementOf j t p))
   finish-most b ds t p ht hp h =
       let c = b + (l .runTime + l .volume * l .delay) in
       let soon = weaker {c = c} (after (0 + l .runTime) (ready j p ds)) (omega arith) (after-within b (0 + l .runTime) (ready j p ds) (ready-within j b p ds h)) in
-      before-within c 0 (finish j choose stops ds (copyOf j t p))
+      before-within c 0 (finish j choose stops ds (placementOf j t p))
       (finish-within b c 0 (map (λ e. e .from) (incoming j t)) ds t p (λ d i. let (u, v) = h d i in (u, λ _. v)) (λ e i. map-in (λ e. e .from) e (incoming j t) i) ht hp (omega arith) soon)
 
-  -- A line's copies, with the runs that are still to come, and what follows them.
-  line-runs : (b c g : ℕ) (seen : List ℕ) (t : ℕ) → t < j .tasks → (In t seen → ⊥) → Fed j t seen
-      → c ≤ g → (rest : List Copy) → ((ds : List Outcome) → PlacedWithin j c ds → PlacedWithin j g (walk j choose stops ds rest))
+  -- A line's replicas, with the runs that are still to come, and what follows them.
+  line-runs : (b c g : ℕ) (seen : List ℕ) (t : ℕ) → t < j .tasks → (In t seen → ⊥) → PredecessorsIn j t seen
+      → c ≤ g → (rest : List Placement) → ((ds : List Outcome) → PlacedWithin j c ds → PlacedWithin j g (walk j choose stops ds rest))
       → (ps : List ℕ) → ((p : ℕ) → In p ps → p < j .processors) → ((p : ℕ) → b + l .volume * l .delay + often p ps * l .runTime ≤ c)
       → (ds : List Outcome) → SuppliedWithin j b seen ds → PlacedWithin j c ds
       → ((p : ℕ) → Within c (after (often p ps * l .runTime) (ready j p ds)))
-      → PlacedWithin j g (walk j choose stops ds (copiesOf j t ps ++ rest))
+      → PlacedWithin j g (walk j choose stops ds (placementsOf j t ps ++ rest))
   unfolding walk
   line-runs b c g seen t ht new f hg rest go [] below h ds s m r = go ds m
   line-runs b c g seen t ht new f hg rest go (p ∷ ps) below h ds s m r =
       let n = often p ps * l .runTime in
       let hp = below p (inl refl) in
       let e : often p (p ∷ ps) * l .runTime ≡ n + l .runTime = rw (often-here p ps) (suc-mul (often p ps) (l .runTime)) in
-      let x = finish j choose stops ds (copyOf j t p) in
+      let x = finish j choose stops ds (placementOf j t p) in
       let a : Within c (after n x) = finish-within b c n seen ds t p s f ht hp (rw e at (h p)) (rw e at (r p)) in
-      let d : Outcome = outcome (copyOf j t p) x in
+      let d : Outcome = outcome (placementOf j t p) x in
       let y : Within c x = before-within c n x a in
       let after-it = line-runs b c g seen t ht new f hg rest go ps (λ q i. below q (inr i))
       (λ q. let u = mul-le-mul-right (l .runTime) (often-more q p ps) in omega (arith, h q))
@@ -214,15 +214,15 @@ module _ (l : Limits) (j : Job) (jf : JobFacts l j) (choose : List Time → Time
 
   -- A line with no processor more than w times adds at most w runs and a message.
   walk-within : (w b : ℕ) (seen : List ℕ) (ns : List Line) → Ordered j seen ns → Repeats w ns → (ds : List Outcome) → PlacedWithin j b ds
-      → PlacedWithin j (b + length ns * (w * l .runTime + l .volume * l .delay)) (walk j choose stops ds (copies j ns))
-  unfolding walk copies
+      → PlacedWithin j (b + length ns * (w * l .runTime + l .volume * l .delay)) (walk j choose stops ds (placements j ns))
+  unfolding walk placements
   walk-within w b seen [] o h ds m = λ d i. absurd i
   walk-within w b seen (n ∷ ns) (o, os) h ds m =
       let s = w * l .runTime + l .volume * l .delay in
       let g = b + suc (length ns) * s in
       let e : b + s + length ns * s ≡ g = omega (arith, suc-mul (length ns) s) in
       let few : (p : ℕ) → often p (processorsOf n) * l .runTime ≤ w * l .runTime = λ p. mul-le-mul-right (l .runTime) (h n (inl refl) p) in
-      line-runs b (b + s) g seen (n .task) (o .task-below) (o .new) (o .fed) (omega arith) (copies j ns)
+      line-runs b (b + s) g seen (n .task) (o .task-below) (o .new) (o .predecessors) (omega arith) (placements j ns)
       (λ ds′ m′. rw e at (walk-within w (b + s) (n .task ∷ seen) ns os (λ x i. h x (inr i)) ds′ m′))
       (processorsOf n)
       (o .processors-below)
@@ -236,7 +236,7 @@ module _ (l : Limits) (j : Job) (jf : JobFacts l j) (choose : List Time → Time
 
   -- So do lines from the start.
   pub lines-within : (w : ℕ) (ns : List Line) → Ordered j [] ns → Repeats w ns
-      → PlacedWithin j (length ns * (w * l .runTime + l .volume * l .delay)) (walk j choose stops [] (copies j ns))
+      → PlacedWithin j (length ns * (w * l .runTime + l .volume * l .delay)) (walk j choose stops [] (placements j ns))
   lines-within w ns o h =
       let b = length ns * (w * l .runTime + l .volume * l .delay) in
       let e : 0 + b ≡ b = omega arith in
@@ -244,7 +244,7 @@ module _ (l : Limits) (j : Job) (jf : JobFacts l j) (choose : List Time → Time
 
 -- The replay, the early and the late finishes -----------------------------------------------------------------
 
--- A processor is in a line as often as the line is wide, at most; once at most, where no task has two copies on it.
+-- A processor is in a line as often as the line is wide, at most; once at most, where no task has two replicas on it.
 repeats-width : (j : Job) (ns : List Line) → Ordered j [] ns → Repeats (j .losses + 1) ns
 repeats-width j ns o n i p =
     let (before, f, _) = line-facts j [] ns o n i in
@@ -254,9 +254,9 @@ repeats-apart : (ns : List Line) → Apart ns → Repeats 1 ns
 repeats-apart ns h n i p = often-distinct p (processorsOf n) (h n i)
 
 -- The ends chosen among such outcomes.
-end-within : (j : Job) (b : ℕ) (choose : List Time → Time) → Bounded choose → (ds : List Outcome) → AllWithin b ds → Within b (end j choose ds)
-unfolding end
-end-within j b choose k ds h =
+makespan-within : (j : Job) (b : ℕ) (choose : List Time → Time) → Bounded choose → (ds : List Outcome) → AllWithin b ds → Within b (makespan j choose ds)
+unfolding makespan
+makespan-within j b choose k ds h =
     chosen-within b largest largest-within (λ t. choose (times (ofTask t ds))) (exits j)
     (λ t i. chosen-within b choose k (λ d. d .time) (ofTask t ds) (λ d i. h d (in-task t d ds i .0)))
 
@@ -279,7 +279,7 @@ written-within b written ds ns e h n i r k =
 module _ (l : Limits) (j : Job) (jf : JobFacts l j) where
   -- Lines that have no processor twice: n of them take n runs and n messages at most; so the first bound is not passed.
   pub apart-within : (choose : List Time → Time) → Bounded choose → (ns : List Line) → Ordered j [] ns → Apart ns
-      → PlacedWithin j (length ns * (l .runTime + l .volume * l .delay)) (walk j choose [] [] (copies j ns))
+      → PlacedWithin j (length ns * (l .runTime + l .volume * l .delay)) (walk j choose [] [] (placements j ns))
   apart-within choose k ns o h = rw (one-mul (l .runTime)) at (lines-within l j jf choose k [] 1 ns o (repeats-apart ns h))
 
   pub plan-bound : (n : ℕ) → n ≤ j .tasks → n * (l .runTime + l .volume * l .delay) ≤ planTicks l
@@ -287,12 +287,12 @@ module _ (l : Limits) (j : Job) (jf : JobFacts l j) where
 
   -- No tick of an accepted plan passes it.
   module _ (p : Plan) (o : Ordered j [] (p .lines)) (c : length (p .lines) ≡ j .tasks) (h : planRefusal j p ≡ 0) where
-    walk-most : (choose : List Time → Time) → Bounded choose → AllWithin (planTicks l) (walk j choose [] [] (copies j (p .lines)))
+    walk-most : (choose : List Time → Time) → Bounded choose → AllWithin (planTicks l) (walk j choose [] [] (placements j (p .lines)))
     walk-most choose k d i =
         weaker (d .time) (plan-bound (length (p .lines)) (omega arith)) (apart-within choose k (p .lines) o (accepted-facts j p h .apart) d i .1)
 
     pub plan-within : PlanWithin l j p
-    unfolding earlies lates bestEnd worstEnd ticksAgree
+    unfolding earlies lates lowerBound upperBound ticksAgree
     plan-within =
         let f = accepted-facts j p h in
         let (e, x) = both _ _ (f .ticks) in
@@ -305,8 +305,8 @@ module _ (l : Limits) (j : Job) (jf : JobFacts l j) where
             written-within (planTicks l) (λ r. r .early) (earlies j (p .lines)) (p .lines) e es n i r k,
             written-within (planTicks l) (λ r. r .late) (lates j (p .lines)) (p .lines) x ls n i r k,
           );
-          best-most = rw (f .best-end) at (end-within j (planTicks l) least least-within (earlies j (p .lines)) es);
-          worst-most = rw (f .worst-end) at (end-within j (planTicks l) largest largest-within (lates j (p .lines)) ls);
+          lower-most = rw (f .lower-bound) at (makespan-within j (planTicks l) least least-within (earlies j (p .lines)) es);
+          upper-most = rw (f .upper-bound) at (makespan-within j (planTicks l) largest largest-within (lates j (p .lines)) ls);
         }
 
   -- No tick of a replay passes the second.
@@ -421,19 +421,19 @@ module _ (l : Limits) (j : Job) (jf : JobFacts l j) where
       all-sent : Within (b + l .volume * l .delay) (largest (map sent (incoming j t)))
       all-sent =
           chosen-within (b + l .volume * l .delay) largest largest-within sent (incoming j t) λ e i.
-          fed-within b (l .volume * l .delay) least least-within (λ p. e .volume * largestDelay j p) (e .from) placed λ d o q.
+          predecessors-within b (l .volume * l .delay) least least-within (λ p. e .volume * largestDelay j p) (e .from) placed λ d o q.
           let (g, a) = h d o in
           (mul-le-mul (jf .volume-most e (in-incoming j t e i .0)) (largestDelay-most (d .processor) g), a)
 
-  -- A task's early finishes on all boxes.
+  -- A task's early finishes on all processors.
   pub trial-most : (b : ℕ) (placed : List Outcome) (t : ℕ) → t < j .tasks → PlacedWithin j b placed
       → NumbersMost (b + (l .runTime + l .volume * l .delay)) (trial j placed t)
   unfolding trial
   trial-most b placed t ht h x i =
-      let (c, o, e) = in-map (λ c. tickOf (finish j least [] placed c)) x (copiesOf j t (below (j .processors))) i in
-      let (p, q, r) = in-map (copyOf j t) c (below (j .processors)) o in
+      let (c, o, e) = in-map (λ c. tickOf (finish j least [] placed c)) x (placementsOf j t (below (j .processors))) i in
+      let (p, q, r) = in-map (placementOf j t) c (below (j .processors)) o in
       let most = finish-most l j jf least least-within [] b placed t p ht (in-below (j .processors) p q) h in
-      rw (← e, ← r) (tickOf-most (b + (l .runTime + l .volume * l .delay)) (finish j least [] placed (copyOf j t p)) most)
+      rw (← e, ← r) (tickOf-most (b + (l .runTime + l .volume * l .delay)) (finish j least [] placed (placementOf j t p)) most)
 
   -- A waiting task's bottom level is one of those given.
   in-waiting : (k : ℕ) (w : Waiting) (xs : List ℕ) → In w (waitingFrom k xs) → In (w .bottom) xs

@@ -11,7 +11,7 @@ use Rattle.definitions.specs.Job.{Job}
 use Rattle.definitions.specs.Plan.{Plan}
 use Rattle.definitions.specs.Stops.{Stop}
 use Rattle.definitions.specs.Times.{tick, never, Outcome}
-use Rattle.definitions.specs.Replay.{replay, firstFinish, firstProcessor, roundEnd, resultLine, resultLines, endLine, replayText}
+use Rattle.definitions.specs.Replay.{replay, firstFinish, firstProcessor, replayMakespan, resultLine, resultLines, endLine, replayText}
 use Rattle.definitions.specs.Answers.{replayed}
 use Rattle.definitions.specs.Claims.{Done, resultsText, undoneText, Read}
 use Rattle.definitions.proofs.Lists.{in-below}
@@ -62,7 +62,7 @@ module _ (l : Limits) where
       results-append ds ts (t ∷ us) ∙ rw e (sym (append-assoc (resultLines l ts ds) (undoneText l t) (resultLines l us ds)))
 
   -- The answer where every task has a first finish and the round ends at x.
-  pub answer-done : (j : Job) (ds : List Outcome) (x : ℕ) → ((t : ℕ) → t < j .tasks → (x : ℕ) × (firstFinish t ds ≡ tick x)) → roundEnd j ds ≡ tick x
+  pub answer-done : (j : Job) (ds : List Outcome) (x : ℕ) → ((t : ℕ) → t < j .tasks → (x : ℕ) × (firstFinish t ds ≡ tick x)) → replayMakespan j ds ≡ tick x
       → (rs : List Done) × (map (λ r. r .task) rs ≡ below (j .tasks)) × (replayText l j ds ≡ resultsText l rs ++ lineText l (bytes "L,") (x ∷ []))
   unfolding replayText
   answer-done j ds x h e =
@@ -72,11 +72,11 @@ module _ (l : Limits) where
   -- The answer where task t is undone.
   pub answer-undone : (j : Job) (ds : List Outcome) (t : ℕ) → t < j .tasks → firstFinish t ds ≡ never
       → (after : List ℕ) × (replayText l j ds ≡ resultLines l (below t) ds ++ undoneText l t ++ after)
-      × (roundEnd j ds ≡ never → (others : List ℕ) × (after ≡ others ++ bytes "L,-\n"))
+      × (replayMakespan j ds ≡ never → (others : List ℕ) × (after ≡ others ++ bytes "L,-\n"))
   unfolding replayText
   answer-undone j ds t h e =
       let (us, q) = count-parts 0 t (j .tasks) t (omega arith) (omega arith) in
-      let z = endLine l (roundEnd j ds) in (
+      let z = endLine l (replayMakespan j ds) in (
         resultLines l us ds ++ z,
         ap (λ ts. resultLines l ts ds ++ z) q
             ∙ ap (λ s. s ++ z) (results-parts ds t (below t) us e)

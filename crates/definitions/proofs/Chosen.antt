@@ -1,4 +1,4 @@
--- The boxes that the planner chooses for a task: as many as are asked for, ascending, each once.
+-- The processors that the planner chooses for a task: as many as are asked for, ascending, each once.
 use mathlib.Core.Path.{_≡_, refl, _∙_}
 use mathlib.Core.Logic.{_⊎_, inl, ⊎-elim}
 use mathlib.Core.List.{List, [], _∷_, map}
@@ -37,14 +37,14 @@ keep-ascends f k (suc n) = by (f k) (keep-ascends f (suc k) n)
     by true d = ascends-cons k (keep f (countFrom (suc k) n)) (λ q i. let r = in-count (suc k) n q (in-keep f q (countFrom (suc k) n) i .0) in omega arith) d
     by false d = d
 
--- The order of the boxes --------------------------------------------------------------------------------------
+-- The order of the processors --------------------------------------------------------------------------------------
 
 module _ (j : Job) (finishes : List ℕ) where
-  -- How many boxes go before p.
+  -- How many processors go before p.
   abbrev rank : ℕ → ℕ
   rank p = length (keep (goesBefore finishes p) (below (j .processors)))
 
-  -- A box q goes before a box p if its early finish and its number are the lesser pair.
+  -- A processor q goes before a processor p if its early finish and its number are the lesser pair.
   goes-apart : (p : ℕ) → goesBefore finishes p p ≡ true → ⊥
   goes-apart p h = less-once (nth finishes p) p (nth finishes p) p h h
 
@@ -78,7 +78,7 @@ module _ (j : Job) (finishes : List ℕ) where
           (λ s. absurd (omega (arith, rank-less p q g s)))
           (one-goes p q (eqb-false p q t))
 
-  -- Every number below m is the rank of a box.
+  -- Every number below m is the rank of a processor.
   ranks : (r : ℕ) → r < j .processors → (p : ℕ) × In p (below (j .processors)) × (rank p ≡ r)
   ranks r h =
       let m = j .processors in

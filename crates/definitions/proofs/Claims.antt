@@ -19,7 +19,7 @@ use Rattle.definitions.specs.Times.{least, earlies}
 use Rattle.definitions.specs.Obeys.{Obeys}
 use Rattle.definitions.specs.Refusals.{doubledTasks, planRefusal}
 use Rattle.definitions.specs.Planner.{Waiting, waitingFrom, bottomLevels, ranked, trial, planFor}
-use Rattle.definitions.specs.Replay.{replay, roundEnd}
+use Rattle.definitions.specs.Replay.{replay, replayMakespan}
 use Rattle.definitions.specs.Answers.{accepted, doubled, rejected, verdictOf, verdictFor, verdict, planned}
 use Rattle.definitions.specs.Claims.{haltingOf, haltedReplay, placedAfter, PlanWithin, planTicks, replayTicks, lineLength, planLength, Roomy, EdgesAscend, OneOrder, Kept, Quiet, LateStops, Doubled, KeptBytes, DoubledBytes, AcceptedObeys, PrintedObeys, OwnAccepted, TicksFit, LevelsFit, Bears, Breaks, Claim, PlacedWithin}
 use Rattle.definitions.proofs.Lists.{in-reverse, in-take}
@@ -98,7 +98,7 @@ kept-bytes l job plan stops j p ss r h few =
       replayed-read l job plan stops j p ss r ∙ ap good b,
       low,
       high,
-      λ q. same-tick x (p .best) (sym e ∙ ap (λ ss. roundEnd j (replay j ss (p .lines))) q ∙ quiet j p (none-due l job plan j p (r .job-read) (r .plan-read) h)),
+      λ q. same-tick x (p .lower) (sym e ∙ ap (λ ss. replayMakespan j (replay j ss (p .lines))) q ∙ quiet j p (none-due l job plan j p (r .job-read) (r .plan-read) h)),
     )
 
 pub doubled-bytes : (l : Limits) → Roomy l → DoubledBytes l
@@ -147,15 +147,15 @@ module _ (l : Limits) (roomy : Roomy l) (j : Job) (facts : JobFacts l j) (p : Pl
   obeys-facts =
       let (o, c, due) = obeys-accepted j p h in
       record {
-        best-most = omega (arith, obeys-within .best-most);
-        worst-most = omega (arith, obeys-within .worst-most);
+        lower-most = omega (arith, obeys-within .lower-most);
+        upper-most = omega (arith, obeys-within .upper-most);
         count = c;
         ordered = o;
         ticks-most = λ n i r k. omega (arith, obeys-within .written-most n i r k);
       }
 
   obeys-fits : length (planText l j p) ≤ l .textLength
-  obeys-fits = omega (arith, plan-length l j facts p obeys-facts (obeys-within .best-most) (obeys-within .worst-most) (obeys-within .written-most))
+  obeys-fits = omega (arith, plan-length l j facts p obeys-facts (obeys-within .lower-most) (obeys-within .upper-most) (obeys-within .written-most))
 
   obeys-read : readPlan l j (planText l j p) ≡ good p
   obeys-read = plan-back l roomy j p facts obeys-facts obeys-fits

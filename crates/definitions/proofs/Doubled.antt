@@ -1,4 +1,4 @@
--- A task with two copies on one box: stopping its boxes at tick 0 leaves it undone.
+-- A task with two replicas on one processor: stopping its processors at tick 0 leaves it undone.
 use mathlib.Core.Path.{_≡_, refl, ap, _∙_, sym}
 use mathlib.Core.Logic.{_⊎_, inl, inr, ⊎-elim}
 use mathlib.Core.List.{List, [], _∷_, map}
@@ -13,9 +13,9 @@ use Rattle.definitions.specs.Limits.{Limits}
 use Rattle.definitions.specs.Job.{Job, runTime}
 use Rattle.definitions.specs.Plan.{Line, Plan, processorsOf, descends}
 use Rattle.definitions.specs.Stops.{Stop}
-use Rattle.definitions.specs.Times.{Time, tick, never, later, after, least, largest, Copy, Outcome, outcome, ofTask, times, start, stopTime, unlessStopped, finish, walk, copiesOf, copies, exits, end, copyOf}
+use Rattle.definitions.specs.Times.{Time, tick, never, later, after, least, largest, Placement, Outcome, outcome, ofTask, times, start, stopTime, unlessStopped, finish, walk, placementsOf, placements, exits, makespan, placementOf}
 use Rattle.definitions.specs.Refusals.{doubledTasks}
-use Rattle.definitions.specs.Replay.{replay, firstFinish, roundEnd}
+use Rattle.definitions.specs.Replay.{replay, firstFinish, replayMakespan}
 use Rattle.definitions.specs.Claims.{taskProcessors, once, halted, haltingOf}
 use Rattle.definitions.proofs.Lists.{neither, in-append, in-map, map-in, in-keep, has-in, not-has}
 use Rattle.definitions.specs.Facts.{JobFacts, Ordered, PlanFacts, Ascending}
@@ -23,7 +23,7 @@ use Rattle.definitions.proofs.Tasks.{in-task, line-facts}
 
 -- The tasks that are doubled ----------------------------------------------------------------------------------
 
--- Each of them has a line with two copies on one box.
+-- Each of them has a line with two replicas on one processor.
 pub doubled-line : (t : ℕ) (ns : List Line) → In t (doubledTasks ns) → (n : Line) × In n ns × (distinct (processorsOf n) ≡ false) × (n .task ≡ t)
 unfolding doubledTasks
 doubled-line t ns h =
@@ -106,7 +106,7 @@ stops-at-zero x (p ∷ ps) i = by (eqb p x) refl i (stops-at-zero x ps)
 
 -- Lines in order ----------------------------------------------------------------------------------------------
 
--- The boxes of a task are those of its one line.
+-- The processors of a task are those of its one line.
 pub line-boxes :
     (j : Job) (seen : List ℕ) (ns : List Line) → Ordered j seen ns → (n : Line) → In n ns → (t : ℕ) → n .task ≡ t
     → taskProcessors t ns ≡ processorsOf n
@@ -118,28 +118,28 @@ line-boxes j seen (m ∷ ns) (o, os) n (inr i) t q =
 
 -- What a walk gives -------------------------------------------------------------------------------------------
 
--- c is a copy of line n's task: on a box of the line, with the table's run time.
-pub record CopyOf (j : Job) (n : Line) (c : Copy) : Type 0 where
+-- c is a replica of line n's task: on a processor of the line, with the table's run time.
+pub record PlacementOf (j : Job) (n : Line) (c : Placement) : Type 0 where
   pub same-task : c .task ≡ n .task
   pub on-box : In (c .processor) (processorsOf n)
   pub run-time : c .run ≡ runTime j (n .task) (c .processor)
 
-line-copy : (j : Job) (n : Line) (c : Copy) → In c (copiesOf j (n .task) (processorsOf n)) → CopyOf j n c
-line-copy j n c i =
-    let (p, k, e) = in-map (copyOf j (n .task)) c (processorsOf n) i in
+line-placement : (j : Job) (n : Line) (c : Placement) → In c (placementsOf j (n .task) (processorsOf n)) → PlacementOf j n c
+line-placement j n c i =
+    let (p, k, e) = in-map (placementOf j (n .task)) c (processorsOf n) i in
     rw (← e) (record { same-task = refl; on-box = k; run-time = refl })
 
--- A copy of lines is a copy of one of them.
-pub copies-in : (j : Job) (ns : List Line) (c : Copy) → In c (copies j ns) → (n : Line) × In n ns × CopyOf j n c
-unfolding copies
-copies-in j (n ∷ ns) c i =
-    ⊎-elim (λ k. (n, inl refl, line-copy j n c k)) (λ k. let (m, h, f) = copies-in j ns c k in (m, inr h, f))
-    (in-append c (copiesOf j (n .task) (processorsOf n)) (copies j ns) i)
+-- A replica of lines is a replica of one of them.
+pub placements-in : (j : Job) (ns : List Line) (c : Placement) → In c (placements j ns) → (n : Line) × In n ns × PlacementOf j n c
+unfolding placements
+placements-in j (n ∷ ns) c i =
+    ⊎-elim (λ k. (n, inl refl, line-placement j n c k)) (λ k. let (m, h, f) = placements-in j ns c k in (m, inr h, f))
+    (in-append c (placementsOf j (n .task) (processorsOf n)) (placements j ns) i)
 
--- Each outcome is that of a copy, after some that are placed.
+-- Each outcome is that of a replica, after some that are placed.
 pub walk-in :
-    (j : Job) (choose : List Time → Time) (stops : List Stop) (placed : List Outcome) (cs : List Copy) (d : Outcome) → In d (walk j choose stops placed cs)
-    → (c : Copy) × In c cs × (earlier : List Outcome) × (outcome c (finish j choose stops earlier c) ≡ d)
+    (j : Job) (choose : List Time → Time) (stops : List Stop) (placed : List Outcome) (cs : List Placement) (d : Outcome) → In d (walk j choose stops placed cs)
+    → (c : Placement) × In c cs × (earlier : List Outcome) × (outcome c (finish j choose stops earlier c) ≡ d)
 unfolding walk
 walk-in j choose stops placed (c ∷ cs) d (inl e) = (c, inl refl, placed, e)
 walk-in j choose stops placed (c ∷ cs) d (inr i) =
@@ -150,9 +150,9 @@ past-zero : (n : ℕ) (x : Time) → 1 ≤ n → unlessStopped (tick 0) (after n
 past-zero n never h = refl
 past-zero n (tick x) h = rw (lt-leb (x + n) 0 (omega arith))
 
--- On a box that stops at tick 0 nothing that takes time is finished.
+-- On a processor that stops at tick 0 nothing that takes time is finished.
 pub finish-never :
-    (j : Job) (choose : List Time → Time) (stops : List Stop) (placed : List Outcome) (c : Copy)
+    (j : Job) (choose : List Time → Time) (stops : List Stop) (placed : List Outcome) (c : Placement)
     → stopTime stops (c .processor) ≡ tick 0 → 1 ≤ c .run → finish j choose stops placed c ≡ never
 unfolding finish
 finish-never j choose stops placed c s h = rw s (past-zero (c .run) (start j choose placed (c .task) (c .processor)) h)
@@ -171,7 +171,7 @@ largest-never (x ∷ xs) (inr i) = by x (largest-never xs i)
     by never e = refl
     by (tick y) e = rw e
 
--- A task of which no copy finishes is undone; so is the round if it is an exit task.
+-- A task of which no replica finishes is undone; so is the round if it is an exit task.
 pub undone : (t : ℕ) (ds : List Outcome) → ((d : Outcome) → In d ds → d .task ≡ t → d .time ≡ never) → firstFinish t ds ≡ never
 unfolding firstFinish
 undone t ds h =
@@ -180,17 +180,17 @@ undone t ds h =
     let (m, q) = in-task t d ds k in
     sym e ∙ h d m q
 
-pub round-undone : (j : Job) (t : ℕ) (ds : List Outcome) → In t (exits j) → firstFinish t ds ≡ never → roundEnd j ds ≡ never
-unfolding roundEnd end firstFinish
+pub round-undone : (j : Job) (t : ℕ) (ds : List Outcome) → In t (exits j) → firstFinish t ds ≡ never → replayMakespan j ds ≡ never
+unfolding replayMakespan makespan firstFinish
 round-undone j t ds i h =
     largest-never (map (λ t. least (times (ofTask t ds))) (exits j)) (rw h at (map-in (λ t. least (times (ofTask t ds))) t (exits j) i))
 
--- No copy of a task finishes where its boxes stop at tick 0.
+-- No replica of a task finishes where its processors stop at tick 0.
 module _ (l : Limits) (j : Job) (ns : List Line) (t : ℕ) (f : JobFacts l j) (o : Ordered j [] ns) where
-  pub copy-undone :
-      (placed : List Outcome) (n : Line) (c : Copy) → In n ns → CopyOf j n c → n .task ≡ t
+  pub replica-undone :
+      (placed : List Outcome) (n : Line) (c : Placement) → In n ns → PlacementOf j n c → n .task ≡ t
       → finish j least (haltingOf t ns) placed c ≡ never
-  copy-undone placed n c i g e =
+  replica-undone placed n c i g e =
       let (before, h, g′) = line-facts j [] ns o n i in
       let on-box : In (c .processor) (taskProcessors t ns) = rw (line-boxes j [] ns o n i t e) (g .on-box) in
       finish-never j least (haltingOf t ns) placed c
@@ -200,19 +200,19 @@ module _ (l : Limits) (j : Job) (ns : List Line) (t : ℕ) (f : JobFacts l j) (o
   pub halted-undone : firstFinish t (replay j (haltingOf t ns) ns) ≡ never
   unfolding replay
   halted-undone =
-      undone t (walk j least (haltingOf t ns) [] (copies j ns)) λ d i q.
-      let (c, k, placed, e) = walk-in j least (haltingOf t ns) [] (copies j ns) d i in
-      let (n, m, g) = copies-in j ns c k in
+      undone t (walk j least (haltingOf t ns) [] (placements j ns)) λ d i q.
+      let (c, k, placed, e) = walk-in j least (haltingOf t ns) [] (placements j ns) d i in
+      let (n, m, g) = placements-in j ns c k in
       sym (ap (λ (d : Outcome). d .time) e)
-      ∙ copy-undone placed n c m g (sym (g .same-task) ∙ ap (λ (d : Outcome). d .task) e ∙ q)
+      ∙ replica-undone placed n c m g (sym (g .same-task) ∙ ap (λ (d : Outcome). d .task) e ∙ q)
 
--- The boxes of a doubled task, stopped at tick 0, are a stop list of at most ε stops under which it is undone.
+-- The processors of a doubled task, stopped at tick 0, are a stop list of at most ε stops under which it is undone.
 pub doubled-undone :
     (l : Limits) (j : Job) (p : Plan) (t : ℕ) → JobFacts l j → PlanFacts l j p → In t (doubledTasks (p .lines))
     → Ascending l j 0 (haltingOf t (p .lines))
     × (length (haltingOf t (p .lines)) ≤ j .losses)
     × (firstFinish t (replay j (haltingOf t (p .lines)) (p .lines)) ≡ never)
-    × (In t (exits j) → roundEnd j (replay j (haltingOf t (p .lines)) (p .lines)) ≡ never)
+    × (In t (exits j) → replayMakespan j (replay j (haltingOf t (p .lines)) (p .lines)) ≡ never)
 doubled-undone l j p t f g i =
     let (n, k, d, e) = doubled-line t (p .lines) i in
     let (before, h, g′) = line-facts j [] (p .lines) (g .ordered) n k in

@@ -14,9 +14,9 @@ use Rattle.definitions.specs.Text.{firstOf}
 use Rattle.definitions.specs.Job.{Edge, Job, incoming, outgoing}
 use Rattle.definitions.specs.Plan.{Replica, Line, Plan, processorsOf, lineTasks}
 use Rattle.definitions.specs.Stops.{Stop}
-use Rattle.definitions.specs.Times.{Time, tick, never, later, sooner, after, same, least, largest, Copy, Outcome, outcome, ofTask, times, ready, message, feeding, arrival, dataReady, start, stopTime, unlessStopped, finish, walk, copiesOf, copies, earlies, lates, exits, end, bestEnd, worstEnd, copyOf}
-use Rattle.definitions.specs.Refusals.{doubledTasks, sameTimes, ticksAgree, endsAgree, planRefusal}
-use Rattle.definitions.specs.Replay.{replay, firstFinish, roundEnd}
+use Rattle.definitions.specs.Times.{Time, tick, never, later, sooner, after, same, least, largest, Placement, Outcome, outcome, ofTask, times, ready, message, feeding, arrival, dataReady, start, stopTime, unlessStopped, finish, walk, placementsOf, placements, earlies, lates, exits, makespan, lowerBound, upperBound, placementOf}
+use Rattle.definitions.specs.Refusals.{doubledTasks, sameTimes, ticksAgree, boundsAgree, planRefusal}
+use Rattle.definitions.specs.Replay.{replay, firstFinish, replayMakespan}
 use Rattle.definitions.proofs.Lists.{both, both-true, passed, in-some, append-left, append-right, map-in, in-any, in-keep, keep-in, keep-none, has-not, in-below, spare, full}
 use Rattle.definitions.specs.Facts.{Ordered, Apart, PlanFacts}
 use Rattle.definitions.proofs.Tasks.{line-facts}
@@ -82,14 +82,14 @@ module _ (j : Job) (stops : List Stop) where
   abbrev pub free : ℕ → Bool
   free p = isNever (stopTime stops p)
 
-  -- Outcomes of the same copies by the early, the late and the replay's equations, side by side.
-  pub data Beside : List Copy → List Outcome → List Outcome → List Outcome → Type 0 where
+  -- Outcomes of the same replicas by the early, the late and the replay's equations, side by side.
+  pub data Beside : List Placement → List Outcome → List Outcome → List Outcome → Type 0 where
     none : Beside [] [] [] []
-    next : {c : Copy} {e l f : Time} {cs : List Copy} {es ls fs : List Outcome} → Between (free (c .processor)) e l f → Beside cs es ls fs
+    next : {c : Placement} {e l f : Time} {cs : List Placement} {es ls fs : List Outcome} → Between (free (c .processor)) e l f → Beside cs es ls fs
         → Beside (c ∷ cs) (outcome c e ∷ es) (outcome c l ∷ ls) (outcome c f ∷ fs)
 
-  -- Of those whose task and processor pass a test; of the copies of task t.
-  keep-between : (f : ℕ → ℕ → Bool) {cs : List Copy} {es ls fs : List Outcome} → Beside cs es ls fs
+  -- Of those whose task and processor pass a test; of the replicas of task t.
+  keep-between : (f : ℕ → ℕ → Bool) {cs : List Placement} {es ls fs : List Outcome} → Beside cs es ls fs
       → Beside (keep (λ c. f (c .task) (c .processor)) cs) (keep (λ d. f (d .task) (d .processor)) es)
       (keep (λ d. f (d .task) (d .processor)) ls)
       (keep (λ d. f (d .task) (d .processor)) fs)
@@ -97,18 +97,18 @@ module _ (j : Job) (stops : List Stop) where
   keep-between f none = none
   keep-between f (next {c = c} {e = x} {l = y} {f = z} b r) = by (f (c .task) (c .processor)) (keep-between f r)
     where
-      by : (a : Bool) {cs : List Copy} {es ls fs : List Outcome} → Beside cs es ls fs
+      by : (a : Bool) {cs : List Placement} {es ls fs : List Outcome} → Beside cs es ls fs
           → Beside (if a then c ∷ cs else cs) (if a then outcome c x ∷ es else es) (if a then outcome c y ∷ ls else ls) (if a then outcome c z ∷ fs else fs)
       by true r = next b r
       by false r = r
 
-  task-between : (t : ℕ) {cs : List Copy} {es ls fs : List Outcome} → Beside cs es ls fs
+  task-between : (t : ℕ) {cs : List Placement} {es ls fs : List Outcome} → Beside cs es ls fs
       → Beside (keep (λ c. eqb (c .task) t) cs) (ofTask t es) (ofTask t ls) (ofTask t fs)
   unfolding ofTask
   task-between t b = keep-between (λ u q. eqb u t) b
 
   -- The least early, the largest late and the least finish, each as w makes it on its processor; sure if one of them is.
-  least-between : (w : ℕ → Time → Time) → Steady w → {cs : List Copy} {es ls fs : List Outcome} → Beside cs es ls fs
+  least-between : (w : ℕ → Time → Time) → Steady w → {cs : List Placement} {es ls fs : List Outcome} → Beside cs es ls fs
       → Between (any (λ c. free (c .processor)) cs) (least (map (λ d. w (d .processor) (d .time)) es))
       (largest (map (λ d. w (d .processor) (d .time)) ls))
       (least (map (λ d. w (d .processor) (d .time)) fs))
@@ -116,7 +116,7 @@ module _ (j : Job) (stops : List Stop) where
   least-between w h none = undone
   least-between w h (next {c = c} b r) = sooner-between (h (c .processor) _ _ _ _ b) (least-between w h r)
 
-  ready-between : (p : ℕ) {cs : List Copy} {es ls fs : List Outcome} → Beside cs es ls fs → Between (free p) (ready j p es) (ready j p ls) (ready j p fs)
+  ready-between : (p : ℕ) {cs : List Placement} {es ls fs : List Outcome} → Beside cs es ls fs → Between (free p) (ready j p es) (ready j p ls) (ready j p fs)
   unfolding ready
   ready-between p none = rw (first-ready j p) (done (omega arith))
   ready-between p (next {c = c} {e = e} {l = l} {f = f} b r) = by (eqb (c .processor) p) refl (ready-between p r)
@@ -126,20 +126,20 @@ module _ (j : Job) (stops : List Stop) where
       by true q r = let i : c .processor ≡ p = eqb-true (c .processor) p q in rw i at b
       by false q r = r
 
-  -- Task t has a copy on a processor that does not stop.
-  abbrev pub Safe : ℕ → List Copy → Type 0
-  Safe t cs = (c : Copy) × In c cs × (c .task ≡ t) × (free (c .processor) ≡ true)
+  -- Task t has a replica on a processor that does not stop.
+  abbrev pub Safe : ℕ → List Placement → Type 0
+  Safe t cs = (c : Placement) × In c cs × (c .task ≡ t) × (free (c .processor) ≡ true)
 
-  safe-free : (t : ℕ) (cs : List Copy) → Safe t cs → any (λ c. free (c .processor)) (keep (λ c. eqb (c .task) t) cs) ≡ true
+  safe-free : (t : ℕ) (cs : List Placement) → Safe t cs → any (λ c. free (c .processor)) (keep (λ c. eqb (c .task) t) cs) ≡ true
   safe-free t cs (c, i, e, f) = in-any (λ c. free (c .processor)) c _ (keep-in (λ c. eqb (c .task) t) c cs i (eq-eqb (c .task) t e)) f
 
-  -- The copies of a safe task that feed p; if p does not stop, one of them is on a processor that does not.
-  feeding-between : (t p : ℕ) {cs : List Copy} {es ls fs : List Outcome} → Beside cs es ls fs → Safe t cs
-      → (ds : List Copy) × Beside ds (feeding j t p es) (feeding j t p ls) (feeding j t p fs)
+  -- The replicas of a safe task that feed p; if p does not stop, one of them is on a processor that does not.
+  feeding-between : (t p : ℕ) {cs : List Placement} {es ls fs : List Outcome} → Beside cs es ls fs → Safe t cs
+      → (ds : List Placement) × Beside ds (feeding j t p es) (feeding j t p ls) (feeding j t p fs)
       × (free p ≡ true → any (λ c. free (c .processor)) ds ≡ true)
   feeding-between t p {cs = cs} b s = (keep (λ c. eqb (c .task) t) cs, task-between t b, λ h. safe-free t cs s)
 
-  arrival-between : (p : ℕ) (e : Edge) {cs : List Copy} {es ls fs : List Outcome} → Beside cs es ls fs → Safe (e .from) cs
+  arrival-between : (p : ℕ) (e : Edge) {cs : List Placement} {es ls fs : List Outcome} → Beside cs es ls fs → Safe (e .from) cs
       → Between (free p) (arrival j least es p e) (arrival j largest ls p e) (arrival j least fs p e)
   unfolding arrival
   arrival-between p e b s =
@@ -147,10 +147,10 @@ module _ (j : Job) (stops : List Stop) where
       sure-between (free p) h (least-between (λ q. after (message j e q p)) (λ q s x y z. after-between (message j e q p)) r)
 
   -- Every predecessor of t is safe.
-  abbrev FedSafely : ℕ → List Copy → Type 0
-  FedSafely t cs = (e : Edge) → In e (incoming j t) → Safe (e .from) cs
+  abbrev PredecessorsSafe : ℕ → List Placement → Type 0
+  PredecessorsSafe t cs = (e : Edge) → In e (incoming j t) → Safe (e .from) cs
 
-  finish-between : (c : Copy) {cs : List Copy} {es ls fs : List Outcome} → Beside cs es ls fs → FedSafely (c .task) cs
+  finish-between : (c : Placement) {cs : List Placement} {es ls fs : List Outcome} → Beside cs es ls fs → PredecessorsSafe (c .task) cs
       → Between (free (c .processor)) (finish j least [] es c) (finish j largest [] ls c) (finish j least stops fs c)
   unfolding finish start dataReady stopTime
   finish-between c {es = es} {ls = ls} {fs = fs} b h =
@@ -158,76 +158,76 @@ module _ (j : Job) (stops : List Stop) where
       stopped-between (stopTime stops p) (after-between (c .run) (later-between (ready-between p b)
       (largest-between (free p) (arrival j least es p) (arrival j largest ls p) (arrival j least fs p) (incoming j (c .task)) (λ e i. arrival-between p e b (h e i)))))
 
-  -- Each of the copies is fed by those before it, after those that are placed.
-  abbrev pub Supplied : List Copy → List Copy → Type 0
+  -- The predecessors of each replica are among those before it, after those that are placed.
+  abbrev pub Supplied : List Placement → List Placement → Type 0
   Supplied placed [] = Unit {0}
-  Supplied placed (c ∷ cs) = FedSafely (c .task) placed × Supplied (c ∷ placed) cs
+  Supplied placed (c ∷ cs) = PredecessorsSafe (c .task) placed × Supplied (c ∷ placed) cs
 
-  pub walk-between : (cs : List Copy) {placed : List Copy} {es ls fs : List Outcome} → Supplied placed cs → Beside placed es ls fs
+  pub walk-between : (cs : List Placement) {placed : List Placement} {es ls fs : List Outcome} → Supplied placed cs → Beside placed es ls fs
       → Beside cs (walk j least [] es cs) (walk j largest [] ls cs) (walk j least stops fs cs)
   unfolding walk
   walk-between [] s b = none
   walk-between (c ∷ cs) (s, ss) b = let x = finish-between c b s in next x (walk-between cs ss (next x b))
 
-  first-between : (t : ℕ) {cs : List Copy} {es ls fs : List Outcome} → Beside cs es ls fs → Safe t cs
+  first-between : (t : ℕ) {cs : List Placement} {es ls fs : List Outcome} → Beside cs es ls fs → Safe t cs
       → Between true (least (times (ofTask t es))) (largest (times (ofTask t ls))) (least (times (ofTask t fs)))
   first-between t {cs = cs} b s = sure-between true (λ _. safe-free t cs s) (least-between (λ q x. x) (λ q s x y z r. r) (task-between t b))
 
   -- Every task is safe: the ends of the round.
-  end-between : {cs : List Copy} {es ls fs : List Outcome} → Beside cs es ls fs → ((t : ℕ) → t < j .tasks → Safe t cs)
-      → Between true (end j least es) (end j largest ls) (end j least fs)
-  unfolding end exits
-  end-between {es = es} {ls = ls} {fs = fs} b h =
+  makespan-between : {cs : List Placement} {es ls fs : List Outcome} → Beside cs es ls fs → ((t : ℕ) → t < j .tasks → Safe t cs)
+      → Between true (makespan j least es) (makespan j largest ls) (makespan j least fs)
+  unfolding makespan exits
+  makespan-between {es = es} {ls = ls} {fs = fs} b h =
       largest-between true (λ t. least (times (ofTask t es))) (λ t. largest (times (ofTask t ls))) (λ t. least (times (ofTask t fs)))
       (exits j) (λ t i. first-between t b (h t (in-below (j .tasks) t (in-keep (λ t. empty (outgoing j t)) t (below (j .tasks)) i .0))))
 
-  -- Every task has a copy on a processor that does not stop -----------------------------------------------------
+  -- Every task has a replica on a processor that does not stop -----------------------------------------------------
 
   -- Each line has a processor that does not stop.
   abbrev pub Spared : List Line → Type 0
   Spared ns = (n : Line) → In n ns → (p : ℕ) × In p (processorsOf n) × (free p ≡ true)
 
-  safe-more : (t : ℕ) (cs ds : List Copy) → ((c : Copy) → In c cs → In c ds) → Safe t cs → Safe t ds
+  safe-more : (t : ℕ) (cs ds : List Placement) → ((c : Placement) → In c cs → In c ds) → Safe t cs → Safe t ds
   safe-more t cs ds h (c, i, e, f) = (c, h c i, e, f)
 
-  safe-line : (t p : ℕ) (ps : List ℕ) → In p ps → free p ≡ true → Safe t (copiesOf j t ps)
-  safe-line t p ps i f = (copyOf j t p, map-in (copyOf j t) p ps i, refl, f)
+  safe-line : (t p : ℕ) (ps : List ℕ) → In p ps → free p ≡ true → Safe t (placementsOf j t ps)
+  safe-line t p ps i f = (placementOf j t p, map-in (placementOf j t) p ps i, refl, f)
 
-  -- The copies of one line; then those of the lines after it, with the line's copies among what is placed.
-  supply-line : (t : ℕ) (ps : List ℕ) (placed rest : List Copy) → FedSafely t placed
-      → ((qs : List Copy) → ((c : Copy) → In c placed → In c qs) → ((c : Copy) → In c (copiesOf j t ps) → In c qs) → Supplied qs rest)
-      → Supplied placed (copiesOf j t ps ++ rest)
+  -- The replicas of one line; then those of the lines after it, with the line's replicas among what is placed.
+  supply-line : (t : ℕ) (ps : List ℕ) (placed rest : List Placement) → PredecessorsSafe t placed
+      → ((qs : List Placement) → ((c : Placement) → In c placed → In c qs) → ((c : Placement) → In c (placementsOf j t ps) → In c qs) → Supplied qs rest)
+      → Supplied placed (placementsOf j t ps ++ rest)
   supply-line t [] placed rest h k = k placed (λ c i. i) (λ c i. absurd i)
   supply-line t (p ∷ ps) placed rest h k =
-      let c = copyOf j t p in (
+      let c = placementOf j t p in (
         h,
         supply-line t ps (c ∷ placed) rest (λ e i. safe-more (e .from) placed (c ∷ placed) (λ x. inr) (h e i))
             (λ qs old new. k qs (λ x i. old x (inr i)) (λ x. ⊎-elim (λ q. old x (inl q)) (new x))),
       )
 
-  -- Lines in order, each with a processor that does not stop, supply their copies.
-  pub supply : (ns : List Line) (seen : List ℕ) (placed : List Copy) → Ordered j seen ns → Spared ns
-      → ((u : ℕ) → In u seen → Safe u placed) → Supplied placed (copies j ns)
-  unfolding copies
+  -- Lines in order, each with a processor that does not stop, supply their replicas.
+  pub supply : (ns : List Line) (seen : List ℕ) (placed : List Placement) → Ordered j seen ns → Spared ns
+      → ((u : ℕ) → In u seen → Safe u placed) → Supplied placed (placements j ns)
+  unfolding placements
   supply [] seen placed o s k = tt
   supply (n ∷ ns) seen placed (o, os) s k =
       let (p, i, f) = s n (inl refl) in
-      supply-line (n .task) (processorsOf n) placed (copies j ns) (λ e i. k (e .from) (o .fed e i))
+      supply-line (n .task) (processorsOf n) placed (placements j ns) (λ e i. k (e .from) (o .predecessors e i))
       (λ qs old new. supply ns (n .task ∷ seen) qs os (λ m i. s m (inr i))
       (λ u. ⊎-elim
-      (λ e. safe-more u (copiesOf j u (processorsOf n)) qs (rw e at new) (safe-line u p (processorsOf n) i f))
+      (λ e. safe-more u (placementsOf j u (processorsOf n)) qs (rw e at new) (safe-line u p (processorsOf n) i f))
       (λ i. safe-more u placed qs old (k u i))))
 
-  safe-lines : (ns : List Line) → Spared ns → (t : ℕ) → In t (lineTasks ns) → Safe t (copies j ns)
-  unfolding copies
+  safe-lines : (ns : List Line) → Spared ns → (t : ℕ) → In t (lineTasks ns) → Safe t (placements j ns)
+  unfolding placements
   safe-lines (n ∷ ns) s t (inl e) =
       let (p, i, f) = s n (inl refl) in
       let ps = processorsOf n in
-      let cs = copiesOf j (n .task) ps in
-      rw (← e) (safe-more (n .task) cs (cs ++ copies j ns) (λ c. append-left c cs (copies j ns)) (safe-line (n .task) p ps i f))
+      let cs = placementsOf j (n .task) ps in
+      rw (← e) (safe-more (n .task) cs (cs ++ placements j ns) (λ c. append-left c cs (placements j ns)) (safe-line (n .task) p ps i f))
   safe-lines (n ∷ ns) s t (inr i) =
-      let cs = copiesOf j (n .task) (processorsOf n) in
-      safe-more t (copies j ns) (cs ++ copies j ns) (λ c. append-right c cs (copies j ns)) (safe-lines ns (λ m i. s m (inr i)) t i)
+      let cs = placementsOf j (n .task) (processorsOf n) in
+      safe-more t (placements j ns) (cs ++ placements j ns) (λ c. append-right c cs (placements j ns)) (safe-lines ns (λ m i. s m (inr i)) t i)
 
 -- A processor without a stop in the list does not stop.
 pub not-stopped : (j : Job) (p : ℕ) (stops : List Stop) → has p (map (λ s. s .processor) stops) ≡ false → free j stops p ≡ true
@@ -292,41 +292,41 @@ times-same (x ∷ xs) = both-true (time-same x) (times-same xs)
 pub record AcceptedFacts (j : Job) (p : Plan) : Type 0 where
   pub apart : Apart (p .lines)
   pub ticks : ticksAgree j (p .lines) ≡ true
-  pub best-end : bestEnd j (p .lines) ≡ tick (p .best)
-  pub worst-end : worstEnd j (p .lines) ≡ tick (p .worst)
+  pub lower-bound : lowerBound j (p .lines) ≡ tick (p .lower)
+  pub upper-bound : upperBound j (p .lines) ≡ tick (p .upper)
 
 pub accepted-facts : (j : Job) (p : Plan) → planRefusal j p ≡ 0 → AcceptedFacts j p
-unfolding planRefusal doubledTasks endsAgree
+unfolding planRefusal doubledTasks boundsAgree
 accepted-facts j p h =
     let (a, h1) = passed (not (empty (doubledTasks (p .lines)))) 11 _ h in
     let (b, h2) = passed (not (ticksAgree j (p .lines))) 12 _ h1 in
-    let (c, h3) = passed (not (endsAgree j p)) 13 _ h2 in
-    let (e, f) = both (same (bestEnd j (p .lines)) (tick (p .best))) _ (not-false _ c) in
+    let (c, h3) = passed (not (boundsAgree j p)) 13 _ h2 in
+    let (e, f) = both (same (lowerBound j (p .lines)) (tick (p .lower))) _ (not-false _ c) in
     record {
       apart = λ n i. not-false _ (none-kept (λ n. n .task) (λ n. not (distinct (processorsOf n))) (p .lines) (not-false _ a) n i);
       ticks = not-false _ b;
-      best-end = same-time _ _ e;
-      worst-end = same-time _ _ f;
+      lower-bound = same-time _ _ e;
+      upper-bound = same-time _ _ f;
     }
 
 pub facts-accepted : (j : Job) (p : Plan) → AcceptedFacts j p → planRefusal j p ≡ 0
-unfolding planRefusal firstOf doubledTasks endsAgree
+unfolding planRefusal firstOf doubledTasks boundsAgree
 facts-accepted j p f =
     let apart = keep-none (λ n. not (distinct (processorsOf n))) (p .lines) (λ n i. ap not (f .apart n i)) in
-    rw (apart, f .ticks, f .best-end, f .worst-end, time-same (tick (p .best)), time-same (tick (p .worst)))
+    rw (apart, f .ticks, f .lower-bound, f .upper-bound, time-same (tick (p .lower)), time-same (tick (p .upper)))
 
 -- The guarantee -----------------------------------------------------------------------------------------------
 
 -- Lines in order, one for each task, each with a processor that does not stop: the outcomes side by side, and every task safe.
 lines-between : (j : Job) (stops : List Stop) (ns : List Line) → Ordered j [] ns → length ns ≡ j .tasks → Spared j stops ns
-    → Beside j stops (copies j ns) (earlies j ns) (lates j ns) (replay j stops ns) × ((t : ℕ) → t < j .tasks → Safe j stops t (copies j ns))
+    → Beside j stops (placements j ns) (earlies j ns) (lates j ns) (replay j stops ns) × ((t : ℕ) → t < j .tasks → Safe j stops t (placements j ns))
 unfolding earlies lates replay
 lines-between j stops ns o c s = (
-  walk-between j stops (copies j ns) (supply j stops ns [] [] o s (λ u i. absurd i)) none,
+  walk-between j stops (placements j ns) (supply j stops ns [] [] o s (λ u i. absurd i)) none,
   λ t h. safe-lines j stops ns s t (each-task j ns o c t h),
 )
 
--- Fewer stops than copies of a task: each line has a processor that does not stop.
+-- Fewer stops than replicas of a task: each line has a processor that does not stop.
 few-stops : (j : Job) (stops : List Stop) (ns : List Line) → Ordered j [] ns
     → Apart ns → length stops ≤ j .losses → Spared j stops ns
 few-stops j stops ns o d few n i =
@@ -347,17 +347,17 @@ comes-between (within {e = e} {l = l} {f = f} (a, b)) = (e, l, f, refl, refl, re
 -- An accepted plan, and no more stops than the job bears: every task has a first finish, and the round ends between M* and M.
 pub kept : (l : Limits) (j : Job) (p : Plan) (stops : List Stop) → PlanFacts l j p → planRefusal j p ≡ 0 → length stops ≤ j .losses
     → ((t : ℕ) → t < j .tasks → (x : ℕ) × (firstFinish t (replay j stops (p .lines)) ≡ tick x))
-    × ((x : ℕ) × (roundEnd j (replay j stops (p .lines)) ≡ tick x) × (p .best ≤ x) × (x ≤ p .worst))
-unfolding firstFinish roundEnd bestEnd worstEnd
+    × ((x : ℕ) × (replayMakespan j (replay j stops (p .lines)) ≡ tick x) × (p .lower ≤ x) × (x ≤ p .upper))
+unfolding firstFinish replayMakespan lowerBound upperBound
 kept l j p stops g h few =
     let a = accepted-facts j p h in
     let (b, s) = lines-between j stops (p .lines) (g .ordered) (g .count) (few-stops j stops (p .lines) (g .ordered) (a .apart) few) in
-    (λ t i. let r = comes-between (first-between j stops t b (s t i)) in (r .2, r .5), value-between (rw (a .best-end, a .worst-end) at (end-between j stops b s)))
+    (λ t i. let r = comes-between (first-between j stops t b (s t i)) in (r .2, r .5), value-between (rw (a .lower-bound, a .upper-bound) at (makespan-between j stops b s)))
 
 -- With no stop it ends at M*.
-pub quiet : (j : Job) (p : Plan) → planRefusal j p ≡ 0 → roundEnd j (replay j [] (p .lines)) ≡ tick (p .best)
-unfolding roundEnd replay bestEnd earlies
-quiet j p h = accepted-facts j p h .best-end
+pub quiet : (j : Job) (p : Plan) → planRefusal j p ≡ 0 → replayMakespan j (replay j [] (p .lines)) ≡ tick (p .lower)
+unfolding replayMakespan replay lowerBound earlies
+quiet j p h = accepted-facts j p h .lower-bound
 
 -- Without stops -----------------------------------------------------------------------------------------------
 
@@ -365,7 +365,7 @@ quiet j p h = accepted-facts j p h .best-end
 abbrev pub Come : List Outcome → Type 0
 Come ds = (d : Outcome) → In d ds → (x : ℕ) × (d .time ≡ tick x)
 
-come-between : {j : Job} {cs : List Copy} {es ls fs : List Outcome} → Beside j [] cs es ls fs → Come es × Come ls
+come-between : {j : Job} {cs : List Placement} {es ls fs : List Outcome} → Beside j [] cs es ls fs → Come es × Come ls
 unfolding stopTime
 come-between none = (λ d i. absurd i, λ d i. absurd i)
 come-between (next b r) =
@@ -373,7 +373,7 @@ come-between (next b r) =
     let (es, ls) = come-between r in
     (λ d. ⊎-elim (λ q. (c .0, ap (λ d. d .time) (sym q) ∙ c .3)) (es d), λ d. ⊎-elim (λ q. (c .1, ap (λ d. d .time) (sym q) ∙ c .4)) (ls d))
 
--- A line has a copy, so it has a processor that does not stop.
+-- A line has a replica, so it has a processor that does not stop.
 no-stops : (j : Job) (ns : List Line) → Ordered j [] ns → Spared j [] ns
 unfolding stopTime
 no-stops j ns o n i = let (before, f, _) = line-facts j [] ns o n i in by (n .replicas) (f .width)
@@ -382,12 +382,12 @@ no-stops j ns o n i = let (before, f, _) = line-facts j [] ns o n i in by (n .re
     by [] h = absurd (omega arith)
     by (r ∷ rs) h = (r .processor, inl refl, refl)
 
--- Lines in order, one for each task: every copy finishes at a tick, early and late, and M* and M are ticks.
+-- Lines in order, one for each task: every replica finishes at a tick, early and late, and M* and M are ticks.
 pub all-come : (j : Job) (ns : List Line) → Ordered j [] ns → length ns ≡ j .tasks
-    → Come (earlies j ns) × Come (lates j ns) × ((x : ℕ) × (bestEnd j ns ≡ tick x)) × ((x : ℕ) × (worstEnd j ns ≡ tick x))
-unfolding bestEnd worstEnd
+    → Come (earlies j ns) × Come (lates j ns) × ((x : ℕ) × (lowerBound j ns ≡ tick x)) × ((x : ℕ) × (upperBound j ns ≡ tick x))
+unfolding lowerBound upperBound
 all-come j ns o c =
     let (b, s) = lines-between j [] ns o c (no-stops j ns o) in
     let (es, ls) = come-between b in
-    let c = comes-between (end-between j [] b s) in
+    let c = comes-between (makespan-between j [] b s) in
     (es, ls, (c .0, c .3), (c .1, c .4))

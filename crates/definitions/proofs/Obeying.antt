@@ -10,7 +10,7 @@ use borrow.Author.Tests.{ne-eqb}
 use Rattle.definitions.specs.Lists.{In, keep, distinct, below}
 use Rattle.definitions.specs.Job.{Edge, Job, incoming}
 use Rattle.definitions.specs.Plan.{Replica, Line, Plan, processorsOf, lineTasks, descends}
-use Rattle.definitions.specs.Times.{Time, tick, least, largest, Copy, Outcome, outcome, ofTask, times, ready, feeding, arrival, dataReady, start, stopTime, finish, walk, copiesOf, copies, earlies, lates, end, bestEnd, worstEnd, copyOf}
+use Rattle.definitions.specs.Times.{Time, tick, least, largest, Placement, Outcome, outcome, ofTask, times, ready, feeding, arrival, dataReady, start, stopTime, finish, walk, placementsOf, placements, earlies, lates, makespan, lowerBound, upperBound, placementOf}
 use Rattle.definitions.specs.Obeys.{writtenOutcome, written, Rising, equation, LineObeys, Obeys}
 use Rattle.definitions.specs.Refusals.{replicasOf, sameTimes, ticksAgree, planRefusal}
 use Rattle.definitions.proofs.Lists.{both, both-true, in-map, map-same, apart-head, head-apart, fits, length-count, in-below, below-in, distinct-count}
@@ -87,10 +87,10 @@ module _ (j : Job) (choose : List Time → Time) (which : Replica → ℕ) (t : 
   alike-more r ps ds es d a p i =
       equation-passes j choose (writtenOutcome which t r) ds t p (λ e. apart-head (r .processor) ps d .0 (rw e i)) own ∙ a p (inr i)
 
-  -- The walk over the line's copies, and then over others, gives its replicas' ticks exactly if they are the equation's.
-  line-ticks : (rs : List Replica) (ds es : List Outcome) (cs : List Copy) (xs : List Time) → distinct (map (λ r. r .processor) rs) ≡ true
+  -- The walk over the line's replicas, and then over others, gives its replicas' ticks exactly if they are the equation's.
+  line-ticks : (rs : List Replica) (ds es : List Outcome) (cs : List Placement) (xs : List Time) → distinct (map (λ r. r .processor) rs) ≡ true
       → Alike (map (λ r. r .processor) rs) ds es
-      → times (walk j choose [] ds (copiesOf j t (map (λ r. r .processor) rs) ++ cs)) ≡ map (λ r. tick (which r)) rs ++ xs
+      → times (walk j choose [] ds (placementsOf j t (map (λ r. r .processor) rs) ++ cs)) ≡ map (λ r. tick (which r)) rs ++ xs
       → ((r : Replica) → In r rs → tick (which r) ≡ equation j choose es t (r .processor))
       × (times (walk j choose [] (reverseAux (map (writtenOutcome which t) rs) ds) cs) ≡ xs)
   unfolding walk finish start stopTime
@@ -98,15 +98,15 @@ module _ (j : Job) (choose : List Time → Time) (which : Replica → ℕ) (t : 
   line-ticks (r ∷ rs) ds es cs xs d a h =
       let ps = map (λ r. r .processor) rs in
       let q : equation j choose ds t (r .processor) ≡ tick (which r) = cc in
-      let g : times (walk j choose [] (outcome (copyOf j t (r .processor)) (equation j choose ds t (r .processor)) ∷ ds) (copiesOf j t ps ++ cs)) ≡ map (λ r. tick (which r)) rs ++ xs = cc in
+      let g : times (walk j choose [] (outcome (placementOf j t (r .processor)) (equation j choose ds t (r .processor)) ∷ ds) (placementsOf j t ps ++ cs)) ≡ map (λ r. tick (which r)) rs ++ xs = cc in
       let (ticks, others) = line-ticks rs (writtenOutcome which t r ∷ ds) es cs xs (apart-head (r .processor) ps d .1) (alike-more r ps ds es d a) (rw q at g) in
       (λ s. ⊎-elim (λ e. rw e at (sym q ∙ a (r .processor) (inl refl))) (ticks s), others)
 
-  ticks-line : (rs : List Replica) (ds es : List Outcome) (cs : List Copy) (os : List Outcome) → distinct (map (λ r. r .processor) rs) ≡ true
+  ticks-line : (rs : List Replica) (ds es : List Outcome) (cs : List Placement) (os : List Outcome) → distinct (map (λ r. r .processor) rs) ≡ true
       → Alike (map (λ r. r .processor) rs) ds es
       → ((r : Replica) → In r rs → tick (which r) ≡ equation j choose es t (r .processor))
       → walk j choose [] (reverseAux (map (writtenOutcome which t) rs) ds) cs ≡ os
-      → walk j choose [] ds (copiesOf j t (map (λ r. r .processor) rs) ++ cs) ≡ map (writtenOutcome which t) rs ++ os
+      → walk j choose [] ds (placementsOf j t (map (λ r. r .processor) rs) ++ cs) ≡ map (writtenOutcome which t) rs ++ os
   unfolding walk finish start stopTime
   ticks-line [] ds es cs os d a ticks h = h
   ticks-line (r ∷ rs) ds es cs os d a ticks h =
@@ -142,25 +142,25 @@ module _ (j : Job) (choose : List Time → Time) (which : Replica → ℕ) where
   TicksObey before n = (r : Replica) → In r (n .replicas) → tick (which r) ≡ equation j choose (placedBy before) (n .task) (r .processor)
 
   own-line : (seen : List ℕ) (n : Line) → LineFacts j seen n → (e : Edge) → In e (incoming j (n .task)) → n .task ≡ e .from → ⊥
-  own-line seen n f e i q = f .new (rw q (f .fed e i))
+  own-line seen n f e i q = f .new (rw q (f .predecessors e i))
 
   lines-ticks : (before ns : List Line) (seen : List ℕ) → Ordered j seen ns → Apart ns
-      → times (walk j choose [] (placedBy before) (copies j ns)) ≡ map (λ r. tick (which r)) (replicasOf ns) → Each TicksObey before ns
-  unfolding copies replicasOf
+      → times (walk j choose [] (placedBy before) (placements j ns)) ≡ map (λ r. tick (which r)) (replicasOf ns) → Each TicksObey before ns
+  unfolding placements replicasOf
   lines-ticks before [] seen o a h = tt
   lines-ticks before (n ∷ ns) seen (o, os) a h =
       let placed = placedBy before in
-      let (ticks, others) = line-ticks j choose which (n .task) (own-line seen n o) (n .replicas) placed placed (copies j ns) (map (λ r. tick (which r)) (replicasOf ns))
+      let (ticks, others) = line-ticks j choose which (n .task) (own-line seen n o) (n .replicas) placed placed (placements j ns) (map (λ r. tick (which r)) (replicasOf ns))
       (a n (inl refl)) (λ p i. refl) (rw map-append at h) in
       (ticks, lines-ticks (before ++ n ∷ []) ns (n .task ∷ seen) os (λ m i. a m (inr i)) (rw (placed-more before n) at others))
 
   ticks-lines : (before ns : List Line) (seen : List ℕ) → Ordered j seen ns → Apart ns → Each TicksObey before ns
-      → walk j choose [] (placedBy before) (copies j ns) ≡ written which ns
-  unfolding copies written walk
+      → walk j choose [] (placedBy before) (placements j ns) ≡ written which ns
+  unfolding placements written walk
   ticks-lines before [] seen o a h = refl
   ticks-lines before (n ∷ ns) seen (o, os) a (ticks, h) =
       let placed = placedBy before in
-      ticks-line j choose which (n .task) (own-line seen n o) (n .replicas) placed placed (copies j ns) (written which ns) (a n (inl refl)) (λ p i. refl) ticks
+      ticks-line j choose which (n .task) (own-line seen n o) (n .replicas) placed placed (placements j ns) (written which ns) (a n (inl refl)) (λ p i. refl) ticks
       (rw (placed-more before n) (ticks-lines (before ++ n ∷ []) ns (n .task ∷ seen) os (λ m i. a m (inr i)) h))
 
   -- What is written, in written order.
@@ -187,7 +187,7 @@ module _ (j : Job) where
     record {
       task-known = o .task-below;
       task-once = λ i. o .new (to (n .task) i);
-      after-predecessors = λ d i. back (d .from) (o .fed d i);
+      after-predecessors = λ d i. back (d .from) (o .predecessors d i);
       replica-count = o .width;
       processors-known = o .processors-below;
       processors-rise = rise (processorsOf n) (o .ascends) (a n (inl refl));
@@ -210,7 +210,7 @@ module _ (j : Job) where
         processors-below = h .processors-known;
         ascends = ascends;
         new = λ i. h .task-once (back (n .task) i);
-        fed = λ d i. to (d .from) (h .after-predecessors d i);
+        predecessors = λ d i. to (d .from) (h .after-predecessors d i);
       } in
       ((o, os), λ m. ⊎-elim (λ q. rw (← q) apart) (a m), (h .early-tick, es), (h .late-tick, ls))
 
@@ -236,21 +236,21 @@ module _ (j : Job) where
 
   -- The ticks agree exactly if each line's are the equations'; then the walk gives what is written.
   agreed : (choose : List Time → Time) (which : Replica → ℕ) (ns : List Line) → Ordered j [] ns → Apart ns
-      → sameTimes (times (walk j choose [] [] (copies j ns))) (map (λ r. tick (which r)) (replicasOf ns)) ≡ true → Each (TicksObey j choose which) [] ns
+      → sameTimes (times (walk j choose [] [] (placements j ns))) (map (λ r. tick (which r)) (replicasOf ns)) ≡ true → Each (TicksObey j choose which) [] ns
   unfolding written
   agreed choose which ns o a h = lines-ticks j choose which [] ns [] o a (same-times _ _ h)
 
   obeyed : (choose : List Time → Time) (which : Replica → ℕ) (ns : List Line) → Ordered j [] ns → Apart ns → Each (TicksObey j choose which) [] ns
-      → walk j choose [] [] (copies j ns) ≡ written which ns
+      → walk j choose [] [] (placements j ns) ≡ written which ns
   unfolding written
   obeyed choose which ns o a h = ticks-lines j choose which [] ns [] o a h
 
-  agrees : (choose : List Time → Time) (which : Replica → ℕ) (ns : List Line) → walk j choose [] [] (copies j ns) ≡ written which ns
-      → sameTimes (times (walk j choose [] [] (copies j ns))) (map (λ r. tick (which r)) (replicasOf ns)) ≡ true
+  agrees : (choose : List Time → Time) (which : Replica → ℕ) (ns : List Line) → walk j choose [] [] (placements j ns) ≡ written which ns
+      → sameTimes (times (walk j choose [] [] (placements j ns))) (map (λ r. tick (which r)) (replicasOf ns)) ≡ true
   agrees choose which ns h = rw (h, written-times j choose which ns) (times-same (map (λ r. tick (which r)) (replicasOf ns)))
 
   pub accepted-obeys : (p : Plan) → Ordered j [] (p .lines) → length (p .lines) ≡ j .tasks → planRefusal j p ≡ 0 → Obeys j p
-  unfolding ticksAgree bestEnd worstEnd earlies lates
+  unfolding ticksAgree lowerBound upperBound earlies lates
   accepted-obeys p o c h =
       let ns = p .lines in
       let f = accepted-facts j p h in
@@ -261,12 +261,12 @@ module _ (j : Job) where
       record {
         every-task = each-task j ns o c;
         every-line = λ before rest n q. each-at (LineObeys j) [] before rest n (rw q at each);
-        best-end = sym (f .best-end) ∙ ap (end j least) (obeyed least (λ r. r .early) ns o (f .apart) es);
-        worst-end = sym (f .worst-end) ∙ ap (end j largest) (obeyed largest (λ r. r .late) ns o (f .apart) ls);
+        lower-bound = sym (f .lower-bound) ∙ ap (makespan j least) (obeyed least (λ r. r .early) ns o (f .apart) es);
+        upper-bound = sym (f .upper-bound) ∙ ap (makespan j largest) (obeyed largest (λ r. r .late) ns o (f .apart) ls);
       }
 
   pub obeys-accepted : (p : Plan) → Obeys j p → Ordered j [] (p .lines) × (length (p .lines) ≡ j .tasks) × (planRefusal j p ≡ 0)
-  unfolding ticksAgree bestEnd worstEnd earlies lates
+  unfolding ticksAgree lowerBound upperBound earlies lates
   obeys-accepted p h =
       let ns = p .lines in
       let (o, a, es, ls) = obey-lines [] ns [] (λ t i. i, λ t i. i) (at-each (LineObeys j) [] ns (h .every-line)) in
@@ -277,7 +277,7 @@ module _ (j : Job) where
         facts-accepted j p (record {
           apart = a;
           ticks = both-true (agrees least (λ r. r .early) ns early) (agrees largest (λ r. r .late) ns late);
-          best-end = ap (end j least) early ∙ sym (h .best-end);
-          worst-end = ap (end j largest) late ∙ sym (h .worst-end);
+          lower-bound = ap (makespan j least) early ∙ sym (h .lower-bound);
+          upper-bound = ap (makespan j largest) late ∙ sym (h .upper-bound);
         }),
       )

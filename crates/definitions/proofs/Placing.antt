@@ -1,4 +1,4 @@
--- The planner's plan has every task once, after its predecessors, on ε + 1 different boxes, with the equations' ticks.
+-- The planner's plan has every task once, after its predecessors, on ε + 1 different processors, with the equations' ticks.
 use mathlib.Core.Path.{_≡_, refl, ap, ap₂, _∙_, sym}
 use mathlib.Core.Logic.{_⊎_, inl, inr, ⊎-elim}
 use mathlib.Core.List.{List, [], _∷_, _++_, map, map-append, map-map, reverseAux}
@@ -13,11 +13,11 @@ use Rattle.definitions.specs.Limits.{Limits}
 use Rattle.definitions.specs.Text.{firstOf}
 use Rattle.definitions.specs.Job.{Edge, Job, incoming}
 use Rattle.definitions.specs.Plan.{Replica, Line, Plan, processorsOf, descends}
-use Rattle.definitions.specs.Times.{Time, tick, same, least, largest, Copy, Outcome, outcome, times, finish, walk, copiesOf, copies, earlies, lates}
-use Rattle.definitions.specs.Refusals.{doubledTasks, replicasOf, sameTimes, ticksAgree, endsAgree, planRefusal}
+use Rattle.definitions.specs.Times.{Time, tick, same, least, largest, Placement, Outcome, outcome, times, finish, walk, placementsOf, placements, earlies, lates}
+use Rattle.definitions.specs.Refusals.{doubledTasks, replicasOf, sameTimes, ticksAgree, boundsAgree, planRefusal}
 use Rattle.definitions.specs.Planner.{tickOf, greatestOf, Waiting, waitingFrom, bottomLevels, freeTasks, ranked, criticalTask, trial, chosen, replicas, place, planFor}
 use Rattle.definitions.proofs.Lists.{both-true, in-map, map-in, in-reverse, reverse-left, reverse-right, map-same, in-keep, keep-in, map-keep, all-in, in-all, has-in, in-has, without, one-less, distinct-keep, length-count, in-below, below-in, distinct-count}
-use Rattle.definitions.specs.Facts.{JobFacts, Fed, LineFacts, Ordered}
+use Rattle.definitions.specs.Facts.{JobFacts, PredecessorsIn, LineFacts, Ordered}
 use Rattle.definitions.proofs.Tasks.{in-incoming, outcomeTasks}
 use Rattle.definitions.proofs.Circle.{free-task}
 use Rattle.definitions.proofs.BottomLevels.{length-bottom-levels}
@@ -75,12 +75,12 @@ ticks-read (e ∷ es) (x ∷ ls) h = let (a, b) = ticks-read es ls (omega arith)
 
 module _ (j : Job) where
   abbrev walked : (List Time → Time) → ℕ → List ℕ → List Outcome → List Outcome
-  walked choose t ps ds = walk j choose [] ds (copiesOf j t ps)
+  walked choose t ps ds = walk j choose [] ds (placementsOf j t ps)
 
   abbrev lineFor : ℕ → List ℕ → List Outcome → List Outcome → Line
   lineFor t ps es ls = record { task = t; replicas = replicas (walked least t ps es) (walked largest t ps ls) }
 
-  -- The boxes of the line are those that were chosen.
+  -- The processors of the line are those that were chosen.
   boxes-read : (t : ℕ) (ps : List ℕ) (es ls : List Outcome) → processorsOf (lineFor t ps es ls) ≡ ps
   unfolding walk replicas
   boxes-read t [] es ls = refl
@@ -91,8 +91,8 @@ module _ (j : Job) where
   walked-length choose t [] ds = refl
   walked-length choose t (p ∷ ps) ds = ap suc (walked-length choose t ps _)
 
-  -- A walk over some copies and then over others.
-  walk-append : (choose : List Time → Time) (ds : List Outcome) (bs cs : List Copy)
+  -- A walk over some replicas and then over others.
+  walk-append : (choose : List Time → Time) (ds : List Outcome) (bs cs : List Placement)
       → walk j choose [] ds (bs ++ cs) ≡ walk j choose [] ds bs ++ walk j choose [] (reverseAux (walk j choose [] ds bs) ds) cs
   unfolding walk
   walk-append choose ds [] cs = refl
@@ -100,7 +100,7 @@ module _ (j : Job) where
       let o = outcome b (finish j choose [] ds b) in
       ap {B = List Outcome} (λ r. o ∷ r) (walk-append choose (o ∷ ds) bs cs)
 
-  -- Each outcome of the walk over a task's copies is one of the task, and where there is a copy there is one.
+  -- Each outcome of the walk over a task's replicas is one of the task, and where there is a replica there is one.
   walked-tasks : (choose : List Time → Time) (t : ℕ) (ps : List ℕ) (ds : List Outcome) (u : ℕ) → In u (outcomeTasks (walked choose t ps ds)) → t ≡ u
   unfolding walk
   walked-tasks choose t (p ∷ ps) ds u (inl e) = e
@@ -113,18 +113,18 @@ module _ (j : Job) where
 
   -- The written ticks of lines are the equations', after what is placed.
   abbrev Agree : (List Time → Time) → (Replica → ℕ) → List Outcome → List Line → Type 0
-  Agree choose written ds ns = map written (replicasOf ns) ≡ ticks (walk j choose [] ds (copies j ns))
+  Agree choose written ds ns = map written (replicasOf ns) ≡ ticks (walk j choose [] ds (placements j ns))
 
   agree-more : (choose : List Time → Time) (written : Replica → ℕ) (ds : List Outcome) (n : Line) (ns : List Line) (ps : List ℕ) → processorsOf n ≡ ps
       → map written (n .replicas) ≡ ticks (walked choose (n .task) ps ds)
       → Agree choose written (reverseAux (walked choose (n .task) ps ds) ds) ns → Agree choose written ds (n ∷ ns)
-  unfolding replicasOf copies
+  unfolding replicasOf placements
   agree-more choose written ds n ns ps e h g =
       let first = walked choose (n .task) ps ds in
-      let rest = walk j choose [] (reverseAux first ds) (copies j ns) in
+      let rest = walk j choose [] (reverseAux first ds) (placements j ns) in
       rw (
         e,
-        walk-append choose ds (copiesOf j (n .task) ps) (copies j ns),
+        walk-append choose ds (placementsOf j (n .task) ps) (placements j ns),
         map-append (λ d. tickOf (d .time)) first rest,
         map-append written (n .replicas) (replicasOf ns),
         h,
@@ -178,7 +178,7 @@ module _ (j : Job) where
       still u true e m = inl (inl (sym (eqb-true u t e)))
       still u false e m = inr (keep-in (λ u. not (eqb u t)) u us m (ap not e))
 
-  written-line : (seen : List ℕ) (t : ℕ) (ps : List ℕ) (es ls : List Outcome) → t < j .tasks → (In t seen → ⊥) → Fed j t seen
+  written-line : (seen : List ℕ) (t : ℕ) (ps : List ℕ) (es ls : List Outcome) → t < j .tasks → (In t seen → ⊥) → PredecessorsIn j t seen
       → length ps ≡ j .losses + 1 → ((p : ℕ) → In p ps → p < j .processors) → descends ps ≡ false → LineFacts j seen (lineFor t ps es ls)
   written-line seen t ps es ls low new f width below ascends =
       let n = lineFor t ps es ls in
@@ -189,12 +189,12 @@ module _ (j : Job) where
         processors-below = λ p i. below p (rw read at i);
         ascends = rw read ascends;
         new = new;
-        fed = f;
+        predecessors = f;
       }
 
   -- One line more, and the lines after it.
   line-more : (n : ℕ) (seen us : List ℕ) (es ls : List Outcome) (t : ℕ) (ps : List ℕ) (ns : List Line)
-      → Stands (suc n) seen us es → In t us → Fed j t seen
+      → Stands (suc n) seen us es → In t us → PredecessorsIn j t seen
       → length ps ≡ j .losses + 1 → ((p : ℕ) → In p ps → p < j .processors) → descends ps ≡ false → distinct ps ≡ true
       → Placed n (t ∷ seen) (reverseAux (walked least t ps es) es) (reverseAux (walked largest t ps ls) ls) ns
       → Placed (suc n) seen es ls (lineFor t ps es ls ∷ ns)
@@ -213,7 +213,7 @@ module _ (j : Job) where
       }
 
   placed-none : (seen : List ℕ) (es ls : List Outcome) → Placed 0 seen es ls []
-  unfolding copies replicasOf walk doubledTasks keep
+  unfolding placements replicasOf walk doubledTasks keep
   placed-none seen es ls = record { count = refl; ordered = tt; apart = refl; early-agrees = refl; late-agrees = refl }
 
   -- A free task, and a critical one ---------------------------------------------------------------------------
@@ -223,19 +223,19 @@ module _ (j : Job) where
 
   -- What is free waits, and its predecessors are placed.
   free-waits : (es : List Outcome) (waiting : List Waiting) (w : Waiting) → In w (freeTasks j es waiting)
-      → In (w .task) (waitingTasks waiting) × Fed j (w .task) (outcomeTasks es)
+      → In (w .task) (waitingTasks waiting) × PredecessorsIn j (w .task) (outcomeTasks es)
   unfolding freeTasks
   free-waits es waiting w i =
       let (a, b) = in-keep (isFree es) w waiting i in
       (map-in (λ w. w .task) w waiting a, λ e k. has-in (e .from) (outcomeTasks es) (all-in (λ e. has (e .from) (outcomeTasks es)) e (incoming j (w .task)) b k))
 
-  waits-free : (es : List Outcome) (waiting : List Waiting) (w : Waiting) → In w waiting → Fed j (w .task) (outcomeTasks es) → In w (freeTasks j es waiting)
+  waits-free : (es : List Outcome) (waiting : List Waiting) (w : Waiting) → In w waiting → PredecessorsIn j (w .task) (outcomeTasks es) → In w (freeTasks j es waiting)
   unfolding freeTasks
   waits-free es waiting w i f =
       keep-in (isFree es) w waiting i (in-all (λ e. has (e .from) (outcomeTasks es)) (incoming j (w .task)) (λ e k. in-has (e .from) (outcomeTasks es) (f e k)))
 
   critical-waits : (es : List Outcome) (waiting : List Waiting) (w : Waiting) (ws : List Waiting) → freeTasks j es waiting ≡ w ∷ ws
-      → In (criticalTask j es w ws) (waitingTasks waiting) × Fed j (criticalTask j es w ws) (outcomeTasks es)
+      → In (criticalTask j es w ws) (waitingTasks waiting) × PredecessorsIn j (criticalTask j es w ws) (outcomeTasks es)
   unfolding criticalTask ranked
   critical-waits es waiting w ws e =
       let t = criticalTask j es w ws in
@@ -256,7 +256,7 @@ module _ (j : Job) where
 module _ (l : Limits) (j : Job) (facts : JobFacts l j) where
   -- A task that no waiting task precedes has its predecessors placed; and there is one.
   all-placed : (n : ℕ) (seen us : List ℕ) (es : List Outcome) → Stands j n seen us es
-      → (t : ℕ) → ((e : Edge) → In e (incoming j t) → In (e .from) us → ⊥) → Fed j t (outcomeTasks es)
+      → (t : ℕ) → ((e : Edge) → In e (incoming j t) → In (e .from) us → ⊥) → PredecessorsIn j t (outcomeTasks es)
   all-placed n seen us es s t h e i =
       ⊎-elim (s .seen-placed (e .from)) (λ k. absurd (h e i k)) (s .every (e .from) (facts .from-task e (in-incoming j t e i .0)))
 
@@ -273,8 +273,8 @@ module _ (l : Limits) (j : Job) (facts : JobFacts l j) where
       first [] h = absurd (omega arith)
       first (u ∷ us) h = (u, inl refl)
 
-  -- The planner's task and boxes, where a task is free.
-  step : (n : ℕ) (seen us : List ℕ) (es ls : List Outcome) (t : ℕ) (finishes : List ℕ) (ns : List Line) → Stands j (suc n) seen us es → In t us → Fed j t (outcomeTasks es)
+  -- The planner's task and processors, where a task is free.
+  step : (n : ℕ) (seen us : List ℕ) (es ls : List Outcome) (t : ℕ) (finishes : List ℕ) (ns : List Line) → Stands j (suc n) seen us es → In t us → PredecessorsIn j t (outcomeTasks es)
       → let ps = chosen j (j .losses + 1) finishes in
       (Stands j n (t ∷ seen) (without t us) (reverseAux (walked j least t ps es) es)
       → Placed j n (t ∷ seen) (reverseAux (walked j least t ps es) es) (reverseAux (walked j largest t ps ls) ls) ns)
@@ -343,7 +343,7 @@ module _ (l : Limits) (j : Job) (facts : JobFacts l j) where
   pub placed-apart : doubledTasks (planFor j (j .losses) .lines) ≡ []
   placed-apart = whole-plan .apart
 
-  -- Ticks that are the equations' agree with them, where every copy finishes.
+  -- Ticks that are the equations' agree with them, where every replica finishes.
   agrees : (written : Replica → ℕ) (rs : List Replica) (ds : List Outcome) → map written rs ≡ ticks ds → Come ds
       → sameTimes (times ds) (map (λ r. tick (written r)) rs) ≡ true
   agrees written rs ds e h =
@@ -359,12 +359,12 @@ module _ (l : Limits) (j : Job) (facts : JobFacts l j) where
       both-true (agrees (λ r. r .early) (replicasOf (own .lines)) (earlies j (own .lines)) (whole-plan .early-agrees) es)
       (agrees (λ r. r .late) (replicasOf (own .lines)) (lates j (own .lines)) (whole-plan .late-agrees) ls)
 
-  pub placed-ends : endsAgree j (planFor j (j .losses)) ≡ true
-  unfolding endsAgree planFor
-  placed-ends =
+  pub placed-bounds : boundsAgree j (planFor j (j .losses)) ≡ true
+  unfolding boundsAgree planFor
+  placed-bounds =
       let (es, ls, (x, b), (y, w)) = all-come j (own .lines) placed-ordered placed-count in
       rw (b, w) (both-true (time-same (tick x)) (time-same (tick y)))
 
   pub placed-accepted : planRefusal j (planFor j (j .losses)) ≡ 0
   unfolding planRefusal firstOf
-  placed-accepted = rw (placed-apart, placed-agrees, placed-ends)
+  placed-accepted = rw (placed-apart, placed-agrees, placed-bounds)

@@ -155,7 +155,7 @@ module _ (l : Limits) where
 -- A plan --------------------------------------------------------------------------------------------------------
 
 abbrev pub planOf : PlanHead → List Line → Plan
-planOf h ns = record { best = h .best; worst = h .worst; lines = ns }
+planOf h ns = record { lower = h .lower; upper = h .upper; lines = ns }
 
 triples-width : (n : ℕ) (vs : List ℕ) → length vs ≡ 3 * n → length (triples vs) ≡ n
 unfolding triples
@@ -210,20 +210,20 @@ module _ (l : Limits) (j : Job) where
         processors-below = λ p i. let (r, k, e) = in-map (λ r. r .processor) p (n .replicas) i in rw (← e) (kept-replica n a r k .0);
         ascends = b;
         new = λ i. not-has (n .task) (lineTasks seen) c (back (n .task) i);
-        fed = λ e i. to (e .from) (has-in (e .from) _ (all-in _ e (incoming j (n .task)) d i));
+        predecessors = λ e i. to (e .from) (has-in (e .from) _ (all-in _ e (incoming j (n .task)) d i));
       }
 
   lines-ordered : (seen : List Line) (ts : List ℕ) → SameTasks seen ts → (ns : List Line) → Ruled (planLine l j) (planLineRule l j) seen ns → Ordered j ts ns
   lines-ordered seen ts w [] _ = tt
   lines-ordered seen ts w (n ∷ ns) (f, z, g) = (line-facts seen ts w n f z, lines-ordered (seen ++ n ∷ []) (n .task ∷ ts) (tasks-more seen ts n w) ns g)
 
-  plan-head-parts : (h : PlanHead) → planHeadRule l j h ≡ 0 → (h .best ≤ l .tick) × (h .worst ≤ l .tick)
+  plan-head-parts : (h : PlanHead) → planHeadRule l j h ≡ 0 → (h .lower ≤ l .tick) × (h .upper ≤ l .tick)
   unfolding planHeadRule
   plan-head-parts h z =
       let (a, _) = passed _ _ _ z in
-      let (b, c) = neither _ (outside 0 (l .tick) (h .worst)) a in
-      let (d, e) = neither (outside 1 (l .tasks) (h .tasks) || outside 1 (l .processors) (h .processors) || outside 0 (l .losses) (h .losses)) (outside 0 (l .tick) (h .best)) b in
-      (inside 0 (l .tick) (h .best) e .1, inside 0 (l .tick) (h .worst) c .1)
+      let (b, c) = neither _ (outside 0 (l .tick) (h .upper)) a in
+      let (d, e) = neither (outside 1 (l .tasks) (h .tasks) || outside 1 (l .processors) (h .processors) || outside 0 (l .losses) (h .losses)) (outside 0 (l .tick) (h .lower)) b in
+      (inside 0 (l .tick) (h .lower) e .1, inside 0 (l .tick) (h .upper) c .1)
 
   lines-within : (ns : List Line) → Ruled (planLine l j) (planLineRule l j) [] ns → (n : Line) → In n ns → Ticks (l .tick) n
   lines-within ns w n i r k =
@@ -234,8 +234,8 @@ module _ (l : Limits) (j : Job) where
   made-plan : (h : PlanHead) (ns : List Line) → planHeadRule l j h ≡ 0 → length ns ≡ j .tasks → Ruled (planLine l j) (planLineRule l j) [] ns → PlanFacts l j (planOf h ns)
   made-plan h ns z m w =
       record {
-        best-most = plan-head-parts h z .0;
-        worst-most = plan-head-parts h z .1;
+        lower-most = plan-head-parts h z .0;
+        upper-most = plan-head-parts h z .1;
         count = m;
         ordered = lines-ordered [] [] (λ t i. i, λ t i. i) ns w;
         ticks-most = lines-within ns w;

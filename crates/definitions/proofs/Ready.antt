@@ -1,4 +1,4 @@
--- When processors are ready before their first copies.
+-- When processors are ready before their first replicas.
 use mathlib.Core.Path.{_≡_, refl}
 use Prim.Native.Nat.{ℕ}
 use Rattle.definitions.specs.Job.{Job}

@@ -52,7 +52,7 @@ in-range j most seen n f ticks r i = (f .processors-below (r .processor) (map-in
 
 -- The numbers of a plan's first line.
 abbrev headNumbers : Job → Plan → List ℕ
-headNumbers j p = j .tasks ∷ j .processors ∷ j .losses ∷ p .best ∷ p .worst ∷ []
+headNumbers j p = j .tasks ∷ j .processors ∷ j .losses ∷ p .lower ∷ p .upper ∷ []
 
 module _ (l : Limits) (roomy : Roomy l) (j : Job) (facts : JobFacts l j) where
   line-numbers : (seen : List ℕ) (n : Line) → LineFacts j seen n → Ticks (l .tick) n → (v : ℕ) → In v (n .task ∷ replicaNumbers (n .replicas)) → v < 10 ^ l .powers
@@ -84,8 +84,8 @@ module _ (l : Limits) (roomy : Roomy l) (j : Job) (facts : JobFacts l j) where
   unfolding planLineRule firstOf
   plan-line-rule seen before n f ticks (to, back) =
       let new : has (n .task) (lineTasks before) ≡ false = has-not (n .task) (lineTasks before) (λ i. f .new (to (n .task) i)) in
-      let fed = in-all (λ e. has (e .from) (lineTasks before)) (incoming j (n .task)) (λ e i. in-has (e .from) (lineTasks before) (back (e .from) (f .fed e i))) in
-      rw (no-stray seen n f ticks, f .ascends, new, fed)
+      let predecessors = in-all (λ e. has (e .from) (lineTasks before)) (incoming j (n .task)) (λ e i. in-has (e .from) (lineTasks before) (back (e .from) (f .predecessors e i))) in
+      rw (no-stray seen n f ticks, f .ascends, new, predecessors)
 
   plan-lines-back : (seen : List ℕ) (before ns : List Line) → Ordered j seen ns → ((n : Line) → In n ns → Ticks (l .tick) n) → SameTasks before seen
       → lines (planLine l j) (planLineRule l j) (length ns) before (planLinesText l ns) ≡ found (before ++ ns) []
@@ -98,17 +98,17 @@ module _ (l : Limits) (roomy : Roomy l) (j : Job) (facts : JobFacts l j) where
 
   -- A plan ---------------------------------------------------------------------------------------------------
 
-  head-numbers : (p : Plan) → p .best < 10 ^ l .powers → p .worst < 10 ^ l .powers → (v : ℕ) → In v (headNumbers j p) → v < 10 ^ l .powers
-  head-numbers p best worst v (inl e) = omega arith
-  head-numbers p best worst v (inr (inl e)) = omega arith
-  head-numbers p best worst v (inr (inr (inl e))) = omega arith
-  head-numbers p best worst v (inr (inr (inr (inl e)))) = omega arith
-  head-numbers p best worst v (inr (inr (inr (inr (inl e))))) = omega arith
+  head-numbers : (p : Plan) → p .lower < 10 ^ l .powers → p .upper < 10 ^ l .powers → (v : ℕ) → In v (headNumbers j p) → v < 10 ^ l .powers
+  head-numbers p lower upper v (inl e) = omega arith
+  head-numbers p lower upper v (inr (inl e)) = omega arith
+  head-numbers p lower upper v (inr (inr (inl e))) = omega arith
+  head-numbers p lower upper v (inr (inr (inr (inl e)))) = omega arith
+  head-numbers p lower upper v (inr (inr (inr (inr (inl e))))) = omega arith
 
-  plan-head-back : (p : Plan) (s : List ℕ) → p .best < 10 ^ l .powers → p .worst < 10 ^ l .powers
+  plan-head-back : (p : Plan) (s : List ℕ) → p .lower < 10 ^ l .powers → p .upper < 10 ^ l .powers
       → planHead l (lineText l (bytes "PLAN,") (headNumbers j p) ++ s) ≡ found (planHeadOf (headNumbers j p)) s
   unfolding planHead
-  plan-head-back p s best worst = rw (line-back l (roomy .some-digit) (roomy .digits-read) (bytes "PLAN,") (headNumbers j p) s (head-numbers p best worst))
+  plan-head-back p s lower upper = rw (line-back l (roomy .some-digit) (roomy .digits-read) (bytes "PLAN,") (headNumbers j p) s (head-numbers p lower upper))
 
   plan-head-rule : (p : Plan) → PlanFacts l j p → planHeadRule l j (planHeadOf (headNumbers j p)) ≡ 0
   unfolding planHeadRule firstOf
@@ -117,8 +117,8 @@ module _ (l : Limits) (roomy : Roomy l) (j : Job) (facts : JobFacts l j) where
         not-outside 1 (l .tasks) (j .tasks) (facts .some-task) (facts .tasks-most),
         not-outside 1 (l .processors) (j .processors) (facts .some-processor) (facts .processors-most),
         not-outside 0 (l .losses) (j .losses) (omega arith) (facts .losses-most),
-        not-outside 0 (l .tick) (p .best) (omega arith) (f .best-most),
-        not-outside 0 (l .tick) (p .worst) (omega arith) (f .worst-most),
+        not-outside 0 (l .tick) (p .lower) (omega arith) (f .lower-most),
+        not-outside 0 (l .tick) (p .upper) (omega arith) (f .upper-most),
         eq-eqb (j .tasks) (j .tasks) refl,
         eq-eqb (j .processors) (j .processors) refl,
         eq-eqb (j .losses) (j .losses) refl,
@@ -128,7 +128,7 @@ module _ (l : Limits) (roomy : Roomy l) (j : Job) (facts : JobFacts l j) where
   unfolding planLines planText
   plan-read p f =
       let r = plan-lines-back [] [] (p .lines) (f .ordered) (f .ticks-most) ((λ t i. i), (λ t i. i)) in
-      rw (plan-head-back p (planLinesText l (p .lines)) (omega (arith, f .best-most)) (omega (arith, f .worst-most)), plan-head-rule p f, rw (f .count) at r)
+      rw (plan-head-back p (planLinesText l (p .lines)) (omega (arith, f .lower-most)) (omega (arith, f .upper-most)), plan-head-rule p f, rw (f .count) at r)
 
   -- Whatever plan is printed: it is read as no other --------------------------------------------------------
 
@@ -173,7 +173,7 @@ module _ (l : Limits) (roomy : Roomy l) (j : Job) (facts : JobFacts l j) where
   plan-only p q h g =
       let x = planHeadOf (headNumbers j p) in
       let w = whole-good l (planLines l j) (planText l j p) q g in
-      let v = rw (plan-head-back p (planLinesText l (p .lines)) (h .best-printed) (h .worst-printed)) at w in
+      let v = rw (plan-head-back p (planLinesText l (p .lines)) (h .lower-printed) (h .upper-printed)) at w in
       let (_, f) = due-found (planHeadRule l j x) (λ s. next (lines (planLine l j) (planLineRule l j) (j .tasks) [] s) (λ ns. return (planOf x ns))) (planLinesText l (p .lines)) q [] v in
       let (ns, t, d, z) = next-found (lines (planLine l j) (planLineRule l j) (j .tasks) [] (planLinesText l (p .lines))) (λ ns. return (planOf x ns)) q [] f in
       made ns t d z
@@ -289,20 +289,20 @@ module _ (l : Limits) where
         )
 
     -- A printed plan of which no tick passes the bound is at most as long as the longest.
-    pub plan-length : (p : Plan) → PlanFacts l j p → p .best ≤ planTicks l → p .worst ≤ planTicks l → ((n : Line) → In n (p .lines) → Ticks (planTicks l) n)
+    pub plan-length : (p : Plan) → PlanFacts l j p → p .lower ≤ planTicks l → p .upper ≤ planTicks l → ((n : Line) → In n (p .lines) → Ticks (planTicks l) n)
         → length (planText l j p) ≤ planLength l
     unfolding planText planLength
-    plan-length p f best worst ticks =
+    plan-length p f lower upper ticks =
         let lines = rw (f .count) at (plan-lines-length [] (p .lines) (f .ordered) ticks) in
         omega (
           arith,
           length-append (lineText l (bytes "PLAN,") (headNumbers j p)) (planLinesText l (p .lines)),
           length-line l (bytes "PLAN,") (headNumbers j p),
-          field-length (j .tasks) (l .tasks) (j .processors ∷ j .losses ∷ p .best ∷ p .worst ∷ []) (facts .tasks-most),
-          field-length (j .processors) (l .processors) (j .losses ∷ p .best ∷ p .worst ∷ []) (facts .processors-most),
-          field-length (j .losses) (l .losses) (p .best ∷ p .worst ∷ []) (facts .losses-most),
-          field-length (p .best) (planTicks l) (p .worst ∷ []) best,
-          field-length (p .worst) (planTicks l) [] worst,
+          field-length (j .tasks) (l .tasks) (j .processors ∷ j .losses ∷ p .lower ∷ p .upper ∷ []) (facts .tasks-most),
+          field-length (j .processors) (l .processors) (j .losses ∷ p .lower ∷ p .upper ∷ []) (facts .processors-most),
+          field-length (j .losses) (l .losses) (p .lower ∷ p .upper ∷ []) (facts .losses-most),
+          field-length (p .lower) (planTicks l) (p .upper ∷ []) lower,
+          field-length (p .upper) (planTicks l) [] upper,
           length-none l,
           mul-le-mul-right (lineLength l) (facts .tasks-most),
         )

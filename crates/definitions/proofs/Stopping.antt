@@ -1,4 +1,4 @@
--- What a stop leaves of a finish; stops that come when all is done on their boxes change nothing.
+-- What a stop leaves of a finish; stops that come when all is done on their processors change nothing.
 use mathlib.Core.Path.{_≡_, refl, ap}
 use mathlib.Core.Logic.{_⊎_, inl, inr}
 use mathlib.Core.List.{List, [], _∷_}
@@ -10,11 +10,11 @@ use Rattle.definitions.specs.Lists.{if_then_else_, In}
 use Rattle.definitions.specs.Job.{Job}
 use Rattle.definitions.specs.Plan.{Line}
 use Rattle.definitions.specs.Stops.{Stop}
-use Rattle.definitions.specs.Times.{Time, tick, never, least, Copy, Outcome, outcome, stopTime, unlessStopped, finish, walk, copies}
+use Rattle.definitions.specs.Times.{Time, tick, never, least, Placement, Outcome, outcome, stopTime, unlessStopped, finish, walk, placements}
 use Rattle.definitions.specs.Replay.{replay}
 use Rattle.definitions.specs.Claims.{Within, Outlast}
 
--- A finish at or before its box's stop stays.
+-- A finish at or before its processor's stop stays.
 in-time : (s : ℕ) (x : Time) → Within s x → unlessStopped (tick s) x ≡ x
 in-time s (tick x) h = rw (le-leb x s h)
 in-time s never h = refl
@@ -40,7 +40,7 @@ outlasted (s ∷ stops) p x h = by (eqb (s .processor) p) refl (outlasted stops 
     by true e r = in-time (s .tick) x (h s (inl refl) (eqb-true (s .processor) p e))
     by false e r = r
 
-walk-late : (j : Job) (stops : List Stop) (placed : List Outcome) (cs : List Copy) → Outlast stops (walk j least [] placed cs)
+walk-late : (j : Job) (stops : List Stop) (placed : List Outcome) (cs : List Placement) → Outlast stops (walk j least [] placed cs)
     → walk j least stops placed cs ≡ walk j least [] placed cs
 unfolding walk finish stopTime
 walk-late j stops placed [] h = refl
@@ -52,4 +52,4 @@ walk-late j stops placed (c ∷ cs) h =
 -- The replay is as with no stop.
 pub late-replay : (j : Job) (stops : List Stop) (ns : List Line) → Outlast stops (replay j [] ns) → replay j stops ns ≡ replay j [] ns
 unfolding replay
-late-replay j stops ns h = walk-late j stops [] (copies j ns) h
+late-replay j stops ns h = walk-late j stops [] (placements j ns) h

@@ -14,7 +14,7 @@ use Rattle.definitions.specs.Facts.{Ticks}
 use Rattle.definitions.specs.Times.{Time, tick, never, Outcome, earlies, lates, exits}
 use Rattle.definitions.specs.Obeys.{Obeys}
 use Rattle.definitions.specs.Planner.{Waiting, waitingFrom, bottomLevels, ranked, trial, planFor}
-use Rattle.definitions.specs.Replay.{replay, firstFinish, roundEnd, resultLines}
+use Rattle.definitions.specs.Replay.{replay, firstFinish, replayMakespan, resultLines}
 use Rattle.definitions.specs.Answers.{accepted, doubled, verdict, planned, replayed}
 
 -- A task's boxes are those of its T line, each taken once.
@@ -56,7 +56,7 @@ pub record Done : Type 0 where
   pub processor : ℕ
   pub tick : ℕ
 
--- What the plan's copies do if the boxes of task t stop at tick 0.
+-- What the plan's replicas do if the boxes of task t stop at tick 0.
 abbrev pub haltedReplay : Job → ℕ → List Line → List Outcome
 haltedReplay j t ns = replay j (haltingOf t ns) ns
 
@@ -115,13 +115,13 @@ module _ (l : Limits) where
       (job plan stops : List ℕ) (j : Job) (p : Plan) (ss : List Stop) → Read job plan stops j p ss
       → verdict l job plan ≡ accepted → length ss ≤ j .losses
       → ((t : ℕ) → t < j .tasks → (x : ℕ) × (firstFinish t (replay j ss (p .lines)) ≡ tick x))
-      × ((x : ℕ) × (roundEnd j (replay j ss (p .lines)) ≡ tick x) × (p .best ≤ x) × (x ≤ p .worst))
+      × ((x : ℕ) × (replayMakespan j (replay j ss (p .lines)) ≡ tick x) × (p .lower ≤ x) × (x ≤ p .upper))
 
   -- With no stop it ends at M*.
   abbrev pub Quiet : Type 0
   Quiet =
       (job plan stops : List ℕ) (j : Job) (p : Plan) → Read job plan stops j p [] → verdict l job plan ≡ accepted
-      → roundEnd j (replay j [] (p .lines)) ≡ tick (p .best)
+      → replayMakespan j (replay j [] (p .lines)) ≡ tick (p .lower)
 
   -- A stop at or after the last finish on its box changes nothing.
   abbrev pub LateStops : Type 0
@@ -129,7 +129,7 @@ module _ (l : Limits) where
       (job plan stops : List ℕ) (j : Job) (p : Plan) (ss : List Stop) → Read job plan stops j p ss
       → Outlast ss (replay j [] (p .lines)) → replay j ss (p .lines) ≡ replay j [] (p .lines)
 
-  -- Where 12 is due, for each task with two copies on one box: its boxes stopped at tick 0 are a well formed stop list
+  -- Where 12 is due, for each task with two replicas on one box: its boxes stopped at tick 0 are a well formed stop list
   -- of at most ε lines, and under it the task is undone, and so is the round if it is an exit task.
   abbrev pub Doubled : Type 0
   Doubled =
@@ -138,7 +138,7 @@ module _ (l : Limits) where
       → (readStops l j (stopsText l (haltingOf t (p .lines))) ≡ good (haltingOf t (p .lines)))
       × (length (haltingOf t (p .lines)) ≤ j .losses)
       × (firstFinish t (replay j (haltingOf t (p .lines)) (p .lines)) ≡ never)
-      × (In t (exits j) → roundEnd j (replay j (haltingOf t (p .lines)) (p .lines)) ≡ never)
+      × (In t (exits j) → replayMakespan j (replay j (haltingOf t (p .lines)) (p .lines)) ≡ never)
 
   -- The R lines `R,task,box,tick` of tasks that are done.
   unfoldable pub resultsText : List Done → List ℕ
@@ -155,9 +155,9 @@ module _ (l : Limits) where
       (j : Job) (p : Plan) (ss : List Stop) → Read job plan stops j p ss → verdict l job plan ≡ accepted → length ss ≤ j .losses
       → (ds : List Done) × (x : ℕ) × (map (λ d. d .task) ds ≡ below (j .tasks))
       × (replayed l job plan stops ≡ good (resultsText ds ++ lineText l (bytes "L,") (x ∷ [])))
-      × (p .best ≤ x)
-      × (x ≤ p .worst)
-      × (ss ≡ [] → x ≡ p .best)
+      × (p .lower ≤ x)
+      × (x ≤ p .upper)
+      × (ss ≡ [] → x ≡ p .lower)
 
   -- Of every three texts.
   abbrev pub KeptBytes : Type 0
@@ -185,8 +185,8 @@ module _ (l : Limits) where
 
   -- The numbers of a plan are printed with all their digits.
   pub record Printable (p : Plan) : Type 0 where
-    pub best-printed : p .best < 10 ^ l .powers
-    pub worst-printed : p .worst < 10 ^ l .powers
+    pub lower-printed : p .lower < 10 ^ l .powers
+    pub upper-printed : p .upper < 10 ^ l .powers
     pub line-printed : (n : Line) → In n (p .lines) → (v : ℕ) → In v (n .task ∷ replicaNumbers (n .replicas)) → v < 10 ^ l .powers
 
   -- Whatever plan is printed: its text is accepted exactly if it obeys them.
@@ -204,8 +204,8 @@ module _ (l : Limits) where
     pub earlies-most : AllWithin planTicks (earlies j (p .lines))
     pub lates-most : AllWithin planTicks (lates j (p .lines))
     pub written-most : (n : Line) → In n (p .lines) → Ticks planTicks n
-    pub best-most : p .best ≤ planTicks
-    pub worst-most : p .worst ≤ planTicks
+    pub lower-most : p .lower ≤ planTicks
+    pub upper-most : p .upper ≤ planTicks
 
   -- And no tick of a replay passes the second, whatever stops.
   abbrev pub TicksFit : Type 0

@@ -31,10 +31,10 @@ pub record JobFacts (l : Limits) (j : Job) : Type 0 where
   pub no-circle : circular j ≡ false
 
 -- Every predecessor of task t is among these tasks.
-abbrev pub Fed : Job → ℕ → List ℕ → Type 0
-Fed j t us = (e : Edge) → In e (incoming j t) → In (e .from) us
+abbrev pub PredecessorsIn : Job → ℕ → List ℕ → Type 0
+PredecessorsIn j t us = (e : Edge) → In e (incoming j t) → In (e .from) us
 
--- A line `T,task,` of a plan that was read, after lines with the tasks in `seen`: ε + 1 copies, no box less than the one before (11), its
+-- A line `T,task,` of a plan that was read, after lines with the tasks in `seen`: ε + 1 replicas, no box less than the one before (11), its
 -- task new and after its predecessors (10).
 pub record LineFacts (j : Job) (seen : List ℕ) (n : Line) : Type 0 where
   pub task-below : n .task < j .tasks
@@ -42,7 +42,7 @@ pub record LineFacts (j : Job) (seen : List ℕ) (n : Line) : Type 0 where
   pub processors-below : (p : ℕ) → In p (processorsOf n) → p < j .processors
   pub ascends : descends (processorsOf n) ≡ false
   pub new : In (n .task) seen → ⊥
-  pub fed : Fed j (n .task) seen
+  pub predecessors : PredecessorsIn j (n .task) seen
 
 -- Lines in order, after lines with the tasks in `seen`, the newest first.
 abbrev pub Ordered : Job → List ℕ → List Line → Type 0
@@ -59,8 +59,8 @@ Ticks b n = (r : Replica) → In r (n .replicas) → (r .early ≤ b) × (r .lat
 
 -- A plan that was read for j: M*, M and every tick in range, and v T lines.
 pub record PlanFacts (l : Limits) (j : Job) (p : Plan) : Type 0 where
-  pub best-most : p .best ≤ l .tick
-  pub worst-most : p .worst ≤ l .tick
+  pub lower-most : p .lower ≤ l .tick
+  pub upper-most : p .upper ≤ l .tick
   pub count : length (p .lines) ≡ j .tasks
   pub ordered : Ordered j [] (p .lines)
   pub ticks-most : (n : Line) → In n (p .lines) → Ticks (l .tick) n

@@ -7,7 +7,7 @@ use lib.ListN.{length}
 use Rattle.definitions.specs.Lists.{In}
 use Rattle.definitions.specs.Job.{Edge, Job, runTime, incoming}
 use Rattle.definitions.specs.Plan.{Replica, Line, Plan, processorsOf, lineTasks}
-use Rattle.definitions.specs.Times.{Time, tick, later, after, least, largest, Outcome, ready, dataReady, end}
+use Rattle.definitions.specs.Times.{Time, tick, later, after, least, largest, Outcome, ready, dataReady, makespan}
 
 -- A replica of task t that finishes at the tick that its line writes: the early or the late one.
 abbrev pub writtenOutcome : (Replica → ℕ) → ℕ → Replica → Outcome
@@ -52,6 +52,6 @@ module _ (j : Job) where
     pub every-task : (t : ℕ) → t < j .tasks → In t (lineTasks (p .lines))
     pub every-line : (before rest : List Line) (n : Line) → p .lines ≡ before ++ n ∷ rest → LineObeys before n
     -- Equation (2): M* is, over exit tasks, the largest of the least early tick that is written.
-    pub best-end : tick (p .best) ≡ end j least (written (λ q. q .early) (p .lines))
+    pub lower-bound : tick (p .lower) ≡ makespan j least (written (λ q. q .early) (p .lines))
     -- Equation (4): M is, over exit tasks, the largest late tick that is written.
-    pub worst-end : tick (p .worst) ≡ end j largest (written (λ q. q .late) (p .lines))
+    pub upper-bound : tick (p .upper) ≡ makespan j largest (written (λ q. q .late) (p .lines))

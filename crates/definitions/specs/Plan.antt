@@ -20,10 +20,10 @@ pub record Line : Type 0 where
   pub task : ℕ
   pub replicas : List Replica
 
--- A plan. best is M*, worst is M; line order is the order in which every processor takes up its replicas.
+-- A plan. lower is M*, upper is M, the bounds on the makespan; line order is the order in which every processor takes up its replicas.
 pub record Plan : Type 0 where
-  pub best : ℕ
-  pub worst : ℕ
+  pub lower : ℕ
+  pub upper : ℕ
   pub lines : List Line
 
 -- A line's processors, in written order.
@@ -56,12 +56,12 @@ pub record PlanHead : Type 0 where
   pub tasks : ℕ
   pub processors : ℕ
   pub losses : ℕ
-  pub best : ℕ
-  pub worst : ℕ
+  pub lower : ℕ
+  pub upper : ℕ
 
 -- The numbers of a head, in order.
 abbrev pub planHeadOf : List ℕ → PlanHead
-planHeadOf vs = record { tasks = nth vs 0; processors = nth vs 1; losses = nth vs 2; best = nth vs 3; worst = nth vs 4 }
+planHeadOf vs = record { tasks = nth vs 0; processors = nth vs 1; losses = nth vs 2; lower = nth vs 3; upper = nth vs 4 }
 
 -- The numbers of a line's triples.
 unfoldable pub replicaNumbers : List Replica → List ℕ
@@ -82,8 +82,8 @@ module _ (l : Limits) where
       ((
         outside 1 (l .tasks) (h .tasks) || outside 1 (l .processors) (h .processors)
             || outside 0 (l .losses) (h .losses)
-            || outside 0 (l .tick) (h .best)
-            || outside 0 (l .tick) (h .worst),
+            || outside 0 (l .tick) (h .lower)
+            || outside 0 (l .tick) (h .upper),
         3,
       )
       ∷ (not (eqb (h .tasks) (j .tasks) && eqb (h .processors) (j .processors) && eqb (h .losses) (j .losses)), 9)
@@ -120,7 +120,7 @@ module _ (l : Limits) where
     h ← planHead
     due (planHeadRule j h)
     ns ← lines (planLine j) (planLineRule j) (j .tasks) []
-    return (record { best = h .best; worst = h .worst; lines = ns })
+    return (record { lower = h .lower; upper = h .upper; lines = ns })
 
   -- A plan's text, for a job.
   unfoldable pub readPlan : Job → List ℕ → Result Plan
@@ -134,4 +134,4 @@ module _ (l : Limits) where
   -- A plan as it is printed.
   unfoldable pub planText : Job → Plan → List ℕ
   planText j p =
-      lineText l (bytes "PLAN,") (j .tasks ∷ j .processors ∷ j .losses ∷ p .best ∷ p .worst ∷ []) ++ planLinesText (p .lines)
+      lineText l (bytes "PLAN,") (j .tasks ∷ j .processors ∷ j .losses ∷ p .lower ∷ p .upper ∷ []) ++ planLinesText (p .lines)

@@ -7,7 +7,7 @@ use lib.ListN.{length}
 use Rattle.definitions.specs.Lists.{if_then_else_, nth, below, keep, all, has, sameNumbers, sum, greatest}
 use Rattle.definitions.specs.Job.{Edge, Job, runTime, delay, incoming, outgoing}
 use Rattle.definitions.specs.Plan.{Replica, Line, Plan}
-use Rattle.definitions.specs.Times.{Time, tick, never, after, least, largest, Outcome, ofTask, finish, walk, copiesOf, bestEnd, worstEnd}
+use Rattle.definitions.specs.Times.{Time, tick, never, after, least, largest, Outcome, ofTask, finish, walk, placementsOf, lowerBound, upperBound}
 
 -- The number of a tick. Where the planner asks, the time is a tick.
 abbrev pub tickOf : Time → ℕ
@@ -34,7 +34,7 @@ abbrev pub goesBefore : List ℕ → ℕ → ℕ → Bool
 goesBefore finishes p q =
     ltb (nth finishes q) (nth finishes p) || eqb (nth finishes q) (nth finishes p) && ltb q p
 
--- A line's triples from the early and the late outcomes of its copies.
+-- A line's triples from the early and the late outcomes of its replicas.
 unfoldable pub replicas : List Outcome → List Outcome → List Replica
 replicas [] ls = []
 replicas (e ∷ es) [] = []
@@ -83,7 +83,7 @@ module _ (j : Job) where
   largestDelay p = greatest (map (delay j p) (below (j .processors)))
 
   -- Line 11, the priority values: "top level: 0 for a task without predecessors; else, over predecessors, the largest of (the
-  -- least, over copies, of early finish + volume × that copy's largest delay to any box), times D".
+  -- least, over replicas, of early finish + volume × that replica's largest delay to any box), times D".
   unfoldable pub topLevel : List Outcome → ℕ → ℕ
   topLevel placed t =
       tickOf (largest (map (λ e. least (map (λ d. after (e .volume * largestDelay (d .processor)) (d .time)) (ofTask (e .from) placed))) (incoming j t)))
@@ -105,7 +105,7 @@ module _ (j : Job) where
 
   -- Line 8: the early finish of task t on each box, by equation (1).
   unfoldable pub trial : List Outcome → ℕ → List ℕ
-  trial placed t = map (λ c. tickOf (finish j least [] placed c)) (copiesOf j t (below (j .processors)))
+  trial placed t = map (λ c. tickOf (finish j least [] placed c)) (placementsOf j t (below (j .processors)))
 
   -- Line 9: "it goes on the ε + 1 boxes of least early finish; ties go to the lowest box": those before which fewer than k boxes go.
   unfoldable pub chosen : ℕ → List ℕ → List ℕ
@@ -120,7 +120,7 @@ module _ (j : Job) where
     | [] ↦ []
     | w ∷ ws ↦
         let t = criticalTask es w ws in
-        let cs = copiesOf j t (chosen (losses + 1) (trial es t)) in
+        let cs = placementsOf j t (chosen (losses + 1) (trial es t)) in
         let e = walk j least [] es cs in
         let x = walk j largest [] ls cs in
         record { task = t; replicas = replicas e x }
@@ -131,4 +131,4 @@ module _ (j : Job) where
   unfoldable pub planFor : ℕ → Plan
   planFor losses =
       let ns = place losses (j .tasks) (waitingFrom 0 bottomLevels) [] [] in
-      record { best = tickOf (bestEnd j ns); worst = tickOf (worstEnd j ns); lines = ns }
+      record { lower = tickOf (lowerBound j ns); upper = tickOf (upperBound j ns); lines = ns }

@@ -6,7 +6,7 @@ use Rattle.definitions.specs.Lists.{keep, distinct, empty}
 use Rattle.definitions.specs.Text.{firstOf}
 use Rattle.definitions.specs.Job.{Job}
 use Rattle.definitions.specs.Plan.{Replica, Line, Plan, processorsOf, lineTasks}
-use Rattle.definitions.specs.Times.{Time, tick, same, times, earlies, lates, bestEnd, worstEnd}
+use Rattle.definitions.specs.Times.{Time, tick, same, times, earlies, lates, lowerBound, upperBound}
 
 -- "Some task has two copies on one box" (12): the tasks of which this is true, in plan order.
 unfoldable pub doubledTasks : List Line → List ℕ
@@ -31,8 +31,8 @@ ticksAgree j ns =
     && sameTimes (times (lates j ns)) (map (λ r. tick (r .late)) (replicasOf ns))
 
 -- "M* or M differs" (14), if this is false.
-unfoldable pub endsAgree : Job → Plan → Bool
-endsAgree j p = same (bestEnd j (p .lines)) (tick (p .best)) && same (worstEnd j (p .lines)) (tick (p .worst))
+unfoldable pub boundsAgree : Job → Plan → Bool
+boundsAgree j p = same (lowerBound j (p .lines)) (tick (p .lower)) && same (upperBound j (p .lines)) (tick (p .upper))
 
 -- "After the plan's last line the checker tries 12 over all lines, then 13, then 14"; 0 if none is due.
 unfoldable pub planRefusal : Job → Plan → ℕ
@@ -41,6 +41,6 @@ planRefusal j p =
     (
     (not (empty (doubledTasks (p .lines))), 12)
     ∷ (not (ticksAgree j (p .lines)), 13)
-    ∷ (not (endsAgree j p), 14)
+    ∷ (not (boundsAgree j p), 14)
     ∷ []
     )

@@ -1,4 +1,4 @@
--- "The replay": what each copy does under a stop list, and the R and L lines.
+-- "The replay": what each replica does under a stop list, and the R and L lines.
 use Prim.Native.Nat.{ℕ, min}
 use mathlib.Core.List.{List, [], _∷_, _++_, map}
 use Rattle.definitions.specs.Lists.{bytes, below, keep}
@@ -7,12 +7,12 @@ use Rattle.definitions.specs.Text.{decimal, lineText}
 use Rattle.definitions.specs.Job.{Job}
 use Rattle.definitions.specs.Plan.{Line}
 use Rattle.definitions.specs.Stops.{Stop}
-use Rattle.definitions.specs.Times.{Time, tick, never, same, least, Outcome, ofTask, times, walk, copies, end}
+use Rattle.definitions.specs.Times.{Time, tick, never, same, least, Outcome, ofTask, times, walk, placements, makespan}
 
--- "In a doubled plan copies run in written order": the outcome of each copy under the stops. "A copy that cannot finish bars
--- every later copy on its box": its box is never ready again. The plan's ticks are not used.
+-- "In a doubled plan copies run in written order": the outcome of each replica under the stops. "A copy that cannot finish bars
+-- every later replica on its box": its box is never ready again. The plan's ticks are not used.
 unfoldable pub replay : Job → List Stop → List Line → List Outcome
-replay j stops ns = walk j least stops [] (copies j ns)
+replay j stops ns = walk j least stops [] (placements j ns)
 
 -- "The first finish" of task t.
 unfoldable pub firstFinish : ℕ → List Outcome → Time
@@ -29,8 +29,8 @@ unfoldable pub firstProcessor : ℕ → Time → List Outcome → ℕ
 firstProcessor t x ds = lowest (map (λ d. d .processor) (keep (λ d. same (d .time) x) (ofTask t ds)))
 
 -- "The largest first finish of the exit tasks"; never, if one has none.
-unfoldable pub roundEnd : Job → List Outcome → Time
-roundEnd j ds = end j least ds
+unfoldable pub replayMakespan : Job → List Outcome → Time
+replayMakespan j ds = makespan j least ds
 
 module _ (l : Limits) where
   -- `R,task,box,tick` or `R,task,-,-`
@@ -50,4 +50,4 @@ module _ (l : Limits) where
 
   -- "Answer": the R lines, then the L line.
   unfoldable pub replayText : Job → List Outcome → List ℕ
-  replayText j ds = resultLines (below (j .tasks)) ds ++ endLine (roundEnd j ds)
+  replayText j ds = resultLines (below (j .tasks)) ds ++ endLine (replayMakespan j ds)

@@ -11,7 +11,7 @@ use Rattle.definitions.specs.Job.{Job, readJob}
 use Rattle.definitions.specs.Planner.{bottomLevels}
 use Rattle.definitions.specs.Tools.{planPrinted, replayPrinted, checkNumber}
 
--- The house's job, its plan, and the plan with a copy of task 0 twice on box 0, and with M given as 12.
+-- The house's job, its plan, and the plan with a replica of task 0 twice on box 0, and with M given as 12.
 abbrev pub house : String
 house = "JOB,2,3,1,1\nC,0,4,6,9\nC,1,5,5,3\nD,0,0,1,2\nD,1,1,0,1\nD,2,2,1,0\nE,0,1,2\n"
 
@@ -68,7 +68,7 @@ table =
     ∷ row (replayed house housePlan "") (bytes "R,0,0,4\nR,1,0,9\nL,9\n")
     -- (h) 0 and 1 at 0: both tasks undone
     ∷ row (replayed house housePlan "S,0,0\nS,1,0\n") (bytes "R,0,-,-\nR,1,-,-\nL,-\n")
-    -- (i) copies of task 0 on box 0 twice: 12
+    -- (i) replicas of task 0 on box 0 twice: 12
     ∷ row (checked house doubledPlan) (12 ∷ 0 ∷ [])
     -- (j) M given as 12: 14
     ∷ row (checked house loweredPlan) (14 ∷ [])

@@ -47,8 +47,8 @@ unfoldable pub largest : List Time → Time
 largest [] = tick 0
 largest (x ∷ xs) = later x (largest xs)
 
--- A replica ("copy") in written order, and how long it runs.
-pub record Copy : Type 0 where
+-- A replica ("copy") of a task on a processor ("box"), and how long it runs there.
+pub record Placement : Type 0 where
   pub task : ℕ
   pub processor : ℕ
   pub run : ℕ
@@ -59,8 +59,8 @@ pub record Outcome : Type 0 where
   pub processor : ℕ
   pub time : Time
 
--- A copy that finishes at x.
-abbrev pub outcome : Copy → Time → Outcome
+-- A replica that finishes at x.
+abbrev pub outcome : Placement → Time → Outcome
 outcome c x = record { task = c .task; processor = c .processor; time = x }
 
 -- The outcomes of task t.
@@ -96,7 +96,7 @@ module _ (j : Job) where
   abbrev pub message : Edge → ℕ → ℕ → ℕ
   message e q p = e .volume * delay j q p
 
-  -- Which copies of a predecessor feed a box: all of them, k from 1 to ε + 1 in equations (1) and (3).
+  -- Which replicas of a predecessor feed a box: all of them, k from 1 to ε + 1 in equations (1) and (3).
   abbrev pub feeding : ℕ → ℕ → List Outcome → List Outcome
   feeding t p placed = ofTask t placed
 
@@ -113,48 +113,48 @@ module _ (j : Job) where
   start choose placed t p = later (ready p placed) (dataReady choose placed t p)
 
   -- F(t, p) of equations (1) and (3): "early finish of t on p = run time + the greater of" the two; late and in the replay the same.
-  unfoldable pub finish : (List Time → Time) → List Stop → List Outcome → Copy → Time
+  unfoldable pub finish : (List Time → Time) → List Stop → List Outcome → Placement → Time
   finish choose stops placed c =
       unlessStopped (stopTime stops (c .processor)) (after (c .run) (start choose placed (c .task) (c .processor)))
 
-  -- "In plan order": the outcome of each copy, after those that are placed.
-  unfoldable pub walk : (List Time → Time) → List Stop → List Outcome → List Copy → List Outcome
+  -- "In plan order": the outcome of each replica, after those that are placed.
+  unfoldable pub walk : (List Time → Time) → List Stop → List Outcome → List Placement → List Outcome
   walk choose stops placed [] = []
   walk choose stops placed (c ∷ cs) =
       let d = outcome c (finish choose stops placed c) in d ∷ walk choose stops (d ∷ placed) cs
 
-  -- The copy of task t on processor p, with the table's run time; the copies of t on some processors.
-  abbrev pub copyOf : ℕ → ℕ → Copy
-  copyOf t p = record { task = t; processor = p; run = runTime j t p }
+  -- The replica of task t on processor p, with the table's run time; the replicas of t on some processors.
+  abbrev pub placementOf : ℕ → ℕ → Placement
+  placementOf t p = record { task = t; processor = p; run = runTime j t p }
 
-  abbrev pub copiesOf : ℕ → List ℕ → List Copy
-  copiesOf t ps = map (copyOf t) ps
+  abbrev pub placementsOf : ℕ → List ℕ → List Placement
+  placementsOf t ps = map (placementOf t) ps
 
   -- "Line order is the order in which every box takes up its copies".
-  unfoldable pub copies : List Line → List Copy
-  copies [] = []
-  copies (n ∷ ns) = copiesOf (n .task) (processorsOf n) ++ copies ns
+  unfoldable pub placements : List Line → List Placement
+  placements [] = []
+  placements (n ∷ ns) = placementsOf (n .task) (processorsOf n) ++ placements ns
 
-  -- Equation (1), the early finishes: the least over a predecessor's copies.
+  -- Equation (1), the early finishes: the least over a predecessor's replicas.
   unfoldable pub earlies : List Line → List Outcome
-  earlies ns = walk least [] [] (copies ns)
+  earlies ns = walk least [] [] (placements ns)
 
   -- Equation (3), "late finish: the same with late ticks throughout and the largest over the copies".
   unfoldable pub lates : List Line → List Outcome
-  lates ns = walk largest [] [] (copies ns)
+  lates ns = walk largest [] [] (placements ns)
 
   -- "Exit tasks (no successor)", of equations (2) and (4).
   unfoldable pub exits : List ℕ
   exits = keep (λ t. empty (outgoing j t)) (below (j .tasks))
 
-  -- "Over exit tasks", the largest of the least (or of the largest) finish of their copies.
-  unfoldable pub end : (List Time → Time) → List Outcome → Time
-  end choose ds = largest (map (λ t. choose (times (ofTask t ds))) exits)
+  -- "Over exit tasks", the largest of the least (or of the largest) finish of their replicas.
+  unfoldable pub makespan : (List Time → Time) → List Outcome → Time
+  makespan choose ds = largest (map (λ t. choose (times (ofTask t ds))) exits)
 
   -- Equation (2): "M* = over exit tasks, the largest of the least early finish".
-  unfoldable pub bestEnd : List Line → Time
-  bestEnd ns = end least (earlies ns)
+  unfoldable pub lowerBound : List Line → Time
+  lowerBound ns = makespan least (earlies ns)
 
   -- Equation (4): "M = the largest late finish of their copies".
-  unfoldable pub worstEnd : List Line → Time
-  worstEnd ns = end largest (lates ns)
+  unfoldable pub upperBound : List Line → Time
+  upperBound ns = makespan largest (lates ns)

@@ -8,10 +8,10 @@ use Rattle.definitions.specs.Text.{firstOf, digits, exactly, number, num
 use Rattle.definitions.specs.Job.{runTime, delay, incoming, outgoing, edgeOrder, preceded, remaining, circular, jobHead, jobHeadRule, runRule, delayRule, edgeLine, edgeRule, jobLines, readJob}
 use Rattle.definitions.specs.Plan.{triples, descends, planHead, planHeadRule, strays, planLine, planLineRule, planLines, readPlan, replicaNumbers, planLinesText, planText}
 use Rattle.definitions.specs.Stops.{stopLine, stopRule, readStops}
-use Rattle.definitions.specs.Times.{least, largest, ofTask, firstReady, ready, arrival, dataReady, start, stopTime, finish, walk, copies, earlies, lates, exits, end, bestEnd, worstEnd}
-use Rattle.definitions.specs.Refusals.{doubledTasks, replicasOf, sameTimes, ticksAgree, endsAgree, planRefusal}
+use Rattle.definitions.specs.Times.{least, largest, ofTask, firstReady, ready, arrival, dataReady, start, stopTime, finish, walk, placements, earlies, lates, exits, makespan, lowerBound, upperBound}
+use Rattle.definitions.specs.Refusals.{doubledTasks, replicasOf, sameTimes, ticksAgree, boundsAgree, planRefusal}
 use Rattle.definitions.specs.Planner.{greatestOf, waitingFrom, scaledRun, totalDelay, raised, settled, bottomLevels, largestDelay, topLevel, freeTasks, ranked, criticalTask, trial, chosen, replicas, place, planFor}
-use Rattle.definitions.specs.Replay.{replay, firstFinish, lowest, firstProcessor, roundEnd, resultLines, replayText}
+use Rattle.definitions.specs.Replay.{replay, firstFinish, lowest, firstProcessor, replayMakespan, resultLines, replayText}
 pub use Rattle.definitions.specs.Answers.{Verdict, accepted, doubled, rejected}
 unfoldable pub use Rattle.definitions.specs.Answers.{fitting, Says, planned, planAnswer, verdictOf, verdictFor, verdictOn, verdict, replayed, replayAnswer, printed, checkPrinted, numbered}
 
@@ -20,7 +20,7 @@ unfoldable pub planPrinted : List ℕ → List ℕ
 unfolding countFrom keep any all sameNumbers distinct sum greatest firstOf digits exactly number numbers line widthFrom width lowDigits
     decimal numbersText lineText lines linesToEnd runTime delay incoming outgoing edgeOrder preceded remaining circular jobHead jobHeadRule
     runRule delayRule edgeLine edgeRule jobLines readJob replicaNumbers planLinesText planText least largest ofTask firstReady ready arrival dataReady
-    start stopTime finish walk exits end copies earlies lates bestEnd worstEnd greatestOf waitingFrom scaledRun totalDelay raised settled
+    start stopTime finish walk exits makespan placements earlies lates lowerBound upperBound greatestOf waitingFrom scaledRun totalDelay raised settled
     bottomLevels largestDelay topLevel freeTasks ranked criticalTask trial chosen replicas place planFor planned
 planPrinted job = printed document01 (andThen (readJob document01 job) (λ j. good (planned document01 j)))
 
@@ -29,8 +29,8 @@ unfoldable pub replayPrinted : List ℕ → List ℕ → List ℕ → List ℕ
 unfolding countFrom keep any all sameNumbers distinct sum greatest firstOf digits exactly number numbers line widthFrom width lowDigits
     decimal numbersText lineText lines linesToEnd runTime delay incoming outgoing edgeOrder preceded remaining circular jobHead jobHeadRule
     runRule delayRule edgeLine edgeRule jobLines readJob triples descends planHead planHeadRule strays planLine planLineRule planLines
-    readPlan stopLine stopRule readStops least largest ofTask firstReady ready arrival dataReady start stopTime finish walk exits end copies replay
-    firstFinish lowest firstProcessor roundEnd resultLines replayText replayed
+    readPlan stopLine stopRule readStops least largest ofTask firstReady ready arrival dataReady start stopTime finish walk exits makespan placements replay
+    firstFinish lowest firstProcessor replayMakespan resultLines replayText replayed
 replayPrinted job plan stops = printed document01 (replayed document01 job plan stops)
 
 -- The checker's number for a job's and a plan's bytes, 0 for OK, and with 12 the tasks of which it is true, in plan order.
@@ -38,6 +38,6 @@ unfoldable pub checkNumber : List ℕ → List ℕ → ℕ × List ℕ
 unfolding countFrom keep any all sameNumbers distinct sum greatest firstOf digits exactly number numbers line widthFrom width lowDigits
     decimal numbersText lineText lines linesToEnd runTime delay incoming outgoing edgeOrder preceded remaining circular jobHead jobHeadRule
     runRule delayRule edgeLine edgeRule jobLines readJob triples descends planHead planHeadRule strays planLine planLineRule planLines
-    readPlan least largest ofTask firstReady ready arrival dataReady start stopTime finish walk exits end copies earlies lates bestEnd worstEnd
-    doubledTasks replicasOf sameTimes ticksAgree endsAgree planRefusal verdict
+    readPlan least largest ofTask firstReady ready arrival dataReady start stopTime finish walk exits makespan placements earlies lates lowerBound upperBound
+    doubledTasks replicasOf sameTimes ticksAgree boundsAgree planRefusal verdict
 checkNumber job plan = numbered (verdict document01 job plan)

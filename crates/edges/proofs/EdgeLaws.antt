@@ -6,7 +6,7 @@ use Rattle.definitions.proofs.Lists.{both, both-true, neither, inside, passed, 
 use Rattle.definitions.proofs.Reading.{rule-found}
 use Rattle.definitions.proofs.EdgeOrder.{else-smaller, order-next, order-smaller, ascends-more}
 use Rattle.text.specs.Suited.{Suited}
-use Rattle.text.specs.Told.{ruled}
+use Rattle.text.specs.Meaning.{ruled}
 use Rattle.lines.proofs.LineLaws.{ruled-no, ruled-yes}
 use Rattle.orders.specs.Edges.{edgeCell, edgeIn, pairIn}
 use Rattle.orders.proofs.PairLaws.{pair-same, pair-smaller}

@@ -7,7 +7,7 @@ ghost use Rattle.definitions.specs.Lists.{nth, any};
 ghost use Rattle.definitions.specs.Limits.{document01};
 ghost use Rattle.definitions.specs.Text.{firstOf};
 ghost use Rattle.definitions.specs.Job.{Ascends, samePair, edgeOrder, edgeLine, edgeRule};
-ghost use Rattle.text.specs.Told.{told, ruled};
+ghost use Rattle.text.specs.Meaning.{stepReading, ruled};
 ghost use Rattle.orders.specs.Edges.{edgeCell, edgeIn};
 ghost use Rattle.edges.specs.EdgeLines.{edgeLines, edgesFit};
 use orders::edge_pair;
@@ -83,7 +83,8 @@ fn check_edge(v: u64, from: u64, to: u64, volume: u64, before: &[u64]) -> u64
 fn read_edge(s: &[u8], at: usize, v: u64, mem: &mut [u64], i: usize) -> Step
     requires { ⌜ (v ≤ document01 .tasks) × (i < length (now mem)) × Ascends (map edgeIn (take i (now mem))) ⌝ }
     ensures { λ r. ⌜ (take i (now (mem .exit)) ≡ take i (now (mem .entry)))
-        × (told (now (s .entry)) (edgeIn (nth (now (mem .exit)) i)) r ≡ ruled (edgeLine document01) (edgeRule document01 v) (map edgeIn (take i (now (mem .entry)))) (drop at (now (s .entry)))) ⌝ }
+        × (stepReading (now (s .entry)) (edgeIn (nth (now (mem .exit)) i)) r ≡ ruled (edgeLine document01) (edgeRule document01 v)
+        (map edgeIn (take i (now (mem .entry)))) (drop at (now (s .entry)))) ⌝ }
 {
     let mut line = [0u64; 3];
     match lines::read_line(s, at, b"E,", 3, &mut line) {
@@ -105,7 +106,7 @@ fn read_edge(s: &[u8], at: usize, v: u64, mem: &mut [u64], i: usize) -> Step
 // n edge lines, kept from the front of `mem` on, one cell each.
 pub fn fill_edges(s: &[u8], at: usize, v: u64, n: usize, mem: &mut [u64]) -> Step
     requires { ⌜ (v ≤ document01 .tasks) × (n ≤ length (now mem)) ⌝ }
-    ensures { λ r. ⌜ told (now (s .entry)) (map edgeIn (take n (now (mem .exit)))) r ≡ edgeLines document01 v n [] (drop at (now (s .entry))) ⌝ }
+    ensures { λ r. ⌜ stepReading (now (s .entry)) (map edgeIn (take n (now (mem .exit)))) r ≡ edgeLines document01 v n [] (drop at (now (s .entry))) ⌝ }
 {
     let mut i = 0;
     let mut p = at;

@@ -1,2 +1,2 @@
 pub mod HeadLaws
-pub mod Rooms
+pub mod Capacity

@@ -23,7 +23,7 @@ abbrev pub HeadRead : Limits → List ℕ → Opening → Type 0
 HeadRead l s (Opened h at) = (jobHeadRule l (headOf h) ≡ 0) × (readJob l s ≡ closed (fromRuns l (headOf h) (drop at s)))
 HeadRead l s (Refused n) = readJob l s ≡ bad n
 
--- A memory of so many cells has so many rooms, 32 at most, the memory for the links has as many cells as those rooms ask for, and a job with
+-- A memory of so many cells has this capacity, 32 at most, the memory for the links has as many cells as it asks for, and a job with
 -- this head fits.
 unfoldable pub roomy : ℕ → ℕ → ℕ → JobHead → Bool
-roomy rooms size links h = leb rooms 32 && eqb size (memorySize rooms) && leb (linksRoom rooms) links && hasRoom rooms h
+roomy capacity size links h = leb capacity 32 && eqb size (memorySize capacity) && leb (linksRoom capacity) links && hasRoom capacity h

@@ -1,5 +1,5 @@
--- Where things stand in a working memory, in cells. Its size is counted in rooms: a table begins at a constant times the number of
--- rooms, and is as many times as long as in a memory of one room. The job is at the front.
+-- Where things stand in a working memory, in cells. Capacity 1 is for 8 tasks, 32 edges and 177 of the job's cells: a table begins at a
+-- constant times the capacity, and is as many times as long as in a memory of capacity 1. The job is at the front.
 use Prim.Native.Nat.{ℕ, _+_, _*_, _≤_}
 use mathlib.Core.Bool.{Bool, _&&_}
 use lib.Dec.{leb}
@@ -9,31 +9,31 @@ use Rattle.definitions.specs.Job.{JobHead}
 
 -- All cells.
 abbrev pub memorySize : ℕ → ℕ
-memorySize rooms = 425 * rooms
+memorySize capacity = 425 * capacity
 
 -- The cells that are lent beside it for the links between the job's edges.
 abbrev pub linksRoom : ℕ → ℕ
-linksRoom rooms = 68 * rooms
+linksRoom capacity = 68 * capacity
 
 -- The cells that a job may take.
 abbrev pub jobSize : ℕ → ℕ
-jobSize rooms = 177 * rooms
+jobSize capacity = 177 * capacity
 
 -- The cells of a job with this head.
 abbrev pub cellsFor : JobHead → ℕ
 cellsFor h = 4 + (h .tasks + h .processors) * (h .processors + 1) + h .edges
 
--- A job with this head fits a memory of so many rooms.
+-- A job with this head fits a memory of this capacity.
 abbrev pub FitsIn : ℕ → JobHead → Type 0
-FitsIn rooms h = (h .tasks ≤ 8 * rooms) × (h .edges ≤ 32 * rooms) × (cellsFor h ≤ jobSize rooms)
+FitsIn capacity h = (h .tasks ≤ 8 * capacity) × (h .edges ≤ 32 * capacity) × (cellsFor h ≤ jobSize capacity)
 
 -- The test for it.
 unfoldable pub hasRoom : ℕ → JobHead → Bool
-hasRoom rooms h = leb (h .tasks) (8 * rooms) && leb (h .edges) (32 * rooms) && leb (cellsFor h) (jobSize rooms)
+hasRoom capacity h = leb (h .tasks) (8 * capacity) && leb (h .edges) (32 * capacity) && leb (cellsFor h) (jobSize capacity)
 
--- The rooms that a job with this head is given: 1, 2 or 8 if it fits so many, else 32.
-unfoldable pub roomsFor : JobHead → ℕ
-roomsFor h = if hasRoom 1 h then 1 else (if hasRoom 2 h then 2 else (if hasRoom 8 h then 8 else 32))
+-- The capacity that a job with this head is given: 1, 2 or 8 if the job fits it, else 32.
+unfoldable pub capacityFor : JobHead → ℕ
+capacityFor h = if hasRoom 1 h then 1 else (if hasRoom 2 h then 2 else (if hasRoom 8 h then 8 else 32))
 
 -- The head of the largest job.
 abbrev pub largest : Limits → JobHead
@@ -41,23 +41,23 @@ largest l = record { tasks = l .tasks; processors = l .processors; edges = l .ed
 
 -- Bottom levels by task.
 abbrev pub levelAt : ℕ → ℕ
-levelAt rooms = 177 * rooms
+levelAt capacity = 177 * capacity
 
 -- For each task its line in the plan, counted from 1; 0 if it is not placed.
 abbrev pub lineAt : ℕ → ℕ
-lineAt rooms = 185 * rooms
+lineAt capacity = 185 * capacity
 
 -- For each task the number of its edges from tasks that are not placed.
 abbrev pub blockedAt : ℕ → ℕ
-blockedAt rooms = 193 * rooms
+blockedAt capacity = 193 * capacity
 
 -- For each free task its priority.
 abbrev pub priorityAt : ℕ → ℕ
-priorityAt rooms = 201 * rooms
+priorityAt capacity = 201 * capacity
 
 -- The plan's lines, 25 cells each: the task, then processor, early and late for each replica.
 abbrev pub rowAt : ℕ → ℕ → ℕ
-rowAt rooms i = 209 * rooms + i * 25
+rowAt capacity i = 209 * capacity + i * 25
 
 -- In the line at a, replica c: its processor, its early and its late time; the place after it.
 abbrev pub processorAt : ℕ → ℕ → ℕ
@@ -78,12 +78,12 @@ timeAt late a c = a + ((if late then 3 else 2) + 3 * c)
 
 -- For each processor its largest delay to any processor, after the last line.
 abbrev pub largestDelayAt : ℕ → ℕ
-largestDelayAt rooms = 409 * rooms
+largestDelayAt capacity = 409 * capacity
 
 -- M* of a plan that is complete, where the counts of blocking edges stood.
-abbrev pub bestAt : ℕ → ℕ
-bestAt rooms = 193 * rooms
+abbrev pub lowerAt : ℕ → ℕ
+lowerAt capacity = 193 * capacity
 
 -- M of that plan, in the same table.
-abbrev pub worstAt : ℕ → ℕ
-worstAt rooms = 194 * rooms
+abbrev pub upperAt : ℕ → ℕ
+upperAt capacity = 194 * capacity

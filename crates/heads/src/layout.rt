@@ -1,8 +1,8 @@
-// Where each table stands in a working memory of one room: specs/Layout.antt, in the code. In one of more rooms it stands as many
-// times as far from the front.
+// Where each table stands in a working memory of capacity 1: specs/Layout.antt, in the code. In one of capacity n it stands n times
+// as far from the front.
 
 // How many cells there are.
-pub const ROOM: usize = 425;
+pub const MEMORY: usize = 425;
 
 // How many cells are lent beside it for the links between the job's edges.
 pub const LINKS: usize = 68;
@@ -20,10 +20,10 @@ pub const LINE: usize = 185;
 pub const BLOCKED: usize = 193;
 
 // M*, while no plan is drawn up.
-pub const BEST: usize = 193;
+pub const LOWER: usize = 193;
 
 // M, while no plan is drawn up.
-pub const WORST: usize = 194;
+pub const UPPER: usize = 194;
 
 // While a plan is drawn up: the priority of each free task.
 pub const PRIORITY: usize = 201;

@@ -2,10 +2,10 @@
 ghost use mathlib.Core.Path.{_≡_};
 ghost use Rattle.definitions.specs.Limits.{document01};
 ghost use Rattle.definitions.specs.Job.{jobHeadRule};
-ghost use Rattle.heads.specs.Layout.{roomsFor};
+ghost use Rattle.heads.specs.Layout.{capacityFor};
 ghost use Rattle.heads.specs.Heads.{headOf, HeadRead, roomy};
 use crate::layout::LINKS;
-use crate::layout::ROOM;
+use crate::layout::MEMORY;
 use text::Step;
 use text::limits::EDGES;
 use text::limits::LOSSES;
@@ -73,9 +73,9 @@ pub fn read_head(s: &[u8]) -> Opening
     }
 }
 
-// How many rooms a memory for a job with this head needs: 1, 2, 8 or 32.
-pub fn rooms_for(head: Head) -> usize
-    ensures { λ r. ⌜ r ≡ roomsFor (headOf head) ⌝ }
+// The capacity of a memory for a job with this head: 1, 2, 8 or 32.
+pub fn capacity_for(head: Head) -> usize
+    ensures { λ r. ⌜ r ≡ capacityFor (headOf head) ⌝ }
 {
     if room::fits(head, 1) {
         return 1;
@@ -89,12 +89,12 @@ pub fn rooms_for(head: Head) -> usize
     32
 }
 
-// A memory of so many cells has so many rooms, with as many beside it for the links, and a job with this head fits it.
-pub fn roomy(head: Head, size: usize, links: usize, rooms: usize) -> bool
-    ensures { λ r. ⌜ r ≡ roomy rooms size links (headOf head) ⌝ }
+// A memory of so many cells has this capacity, the one for the links beside it too, and a job with this head fits it.
+pub fn roomy(head: Head, size: usize, links: usize, capacity: usize) -> bool
+    ensures { λ r. ⌜ r ≡ roomy capacity size links (headOf head) ⌝ }
 {
-    if rooms > 32 {
+    if capacity > 32 {
         return false;
     }
-    (size == ROOM * rooms) & (LINKS * rooms <= links) & room::fits(head, rooms)
+    (size == MEMORY * capacity) & (LINKS * capacity <= links) & room::fits(head, capacity)
 }

@@ -6,22 +6,22 @@ ghost use Rattle.heads.specs.Heads.{headOf};
 use crate::Head;
 use crate::layout::JOB;
 
-// A job with this head fits a memory of so many rooms.
-pub fn fits(head: Head, rooms: usize) -> bool
-    requires { ⌜ rooms ≤ 32 ⌝ }
-    ensures { λ r. ⌜ r ≡ hasRoom rooms (headOf head) ⌝ }
+// A job with this head fits a memory of this capacity.
+pub fn fits(head: Head, capacity: usize) -> bool
+    requires { ⌜ capacity ≤ 32 ⌝ }
+    ensures { λ r. ⌜ r ≡ hasRoom capacity (headOf head) ⌝ }
 {
     let v = head.tasks as usize;
     let m = head.processors as usize;
     let e = head.edges as usize;
-    if v > 8 * rooms {
+    if v > 8 * capacity {
         return false;
     }
-    if e > 32 * rooms {
+    if e > 32 * capacity {
         return false;
     }
     if m > 32 * JOB {
         return false;
     }
-    4 + (v + m) * (m + 1) + e <= JOB * rooms
+    4 + (v + m) * (m + 1) + e <= JOB * capacity
 }

@@ -48,19 +48,19 @@ module _ (mem : List ℕ) where
 -- How large the job is ----------------------------------------------------------------------------------------
 
 -- The numbers of the job's head are within their limits, and all its cells are in the job's part of the memory.
-pub record Sizes (rooms : ℕ) (mem : List ℕ) : Type 0 where
-  pub size : length mem ≡ memorySize rooms
+pub record Sizes (capacity : ℕ) (mem : List ℕ) : Type 0 where
+  pub size : length mem ≡ memorySize capacity
   pub some-task : 1 ≤ nth mem 0
-  pub tasks-most : (nth mem 0 ≤ 255) × (nth mem 0 ≤ 8 * rooms)
+  pub tasks-most : (nth mem 0 ≤ 255) × (nth mem 0 ≤ 8 * capacity)
   pub some-processor : 1 ≤ nth mem 1
   pub processors-most : nth mem 1 ≤ 16
-  pub edges-most : (nth mem 2 ≤ 1024) × (nth mem 2 ≤ 32 * rooms)
+  pub edges-most : (nth mem 2 ≤ 1024) × (nth mem 2 ≤ 32 * capacity)
   pub losses-most : nth mem 3 ≤ 7
   pub enough : nth mem 3 + 1 ≤ nth mem 1
   pub before-edges : (nth mem 0 + nth mem 1) * (nth mem 1 + 1) ≤ 4607
-  pub cells-room : edgeAt mem (nth mem 2) ≤ jobSize rooms
+  pub cells-room : edgeAt mem (nth mem 2) ≤ jobSize capacity
 
-pub sizes : {rooms : ℕ} {mem : List ℕ} → JobHeld rooms mem → Sizes rooms mem
+pub sizes : {capacity : ℕ} {mem : List ℕ} → JobHeld capacity mem → Sizes capacity mem
 unfolding jobIn
 sizes {mem} h =
     let f = h .facts in
@@ -77,20 +77,20 @@ sizes {mem} h =
       cells-room = omega (arith, h .fits .2);
     }
 
-module _ {rooms : ℕ} {mem : List ℕ} (s : Sizes rooms mem) where
+module _ {capacity : ℕ} {mem : List ℕ} (s : Sizes capacity mem) where
   -- The cells of row r, before the edges: the rows of the tasks, then those of the processors.
   pub row-cell : (r p : ℕ) → r < nth mem 0 + nth mem 1 → p < nth mem 1
       → numberAt mem r p < 4 + (nth mem 0 + nth mem 1) * (nth mem 1 + 1)
   row-cell r p h g = omega (arith, row-ends r (nth mem 0 + nth mem 1) (nth mem 1 + 1) h)
 
-  pub row-below : (r p : ℕ) → r < nth mem 0 + nth mem 1 → p < nth mem 1 → numberAt mem r p < jobSize rooms
+  pub row-below : (r p : ℕ) → r < nth mem 0 + nth mem 1 → p < nth mem 1 → numberAt mem r p < jobSize capacity
   row-below r p h g = omega (arith, row-cell r p h g)
 
-  edge-below : (i : ℕ) → i < nth mem 2 → edgeAt mem i < jobSize rooms
+  edge-below : (i : ℕ) → i < nth mem 2 → edgeAt mem i < jobSize capacity
   edge-below i h = omega arith
 
   -- The job is in its own cells.
-  module _ {e : List ℕ} (k : Same 0 (jobSize rooms) mem e) where
+  module _ {e : List ℕ} (k : Same 0 (jobSize capacity) mem e) where
     edgeAt-same : (i : ℕ) → edgeAt e i ≡ edgeAt mem i
     edgeAt-same i = rw (k .cell 0 (omega arith) (omega arith), k .cell 1 (omega arith) (omega arith))
 
@@ -126,27 +126,27 @@ module _ {rooms : ℕ} {mem : List ℕ} (s : Sizes rooms mem) where
         made p q r s t u = rw (p, q, r, s, t, u)
 
 -- A job that is as it was stands in a memory of the same size.
-pub held-same : {rooms : ℕ} {d e : List ℕ} → JobHeld rooms d → length e ≡ length d → Same 0 (jobSize rooms) d e → JobHeld rooms e
-held-same {rooms} {d} {e} h z k =
+pub held-same : {capacity : ℕ} {d e : List ℕ} → JobHeld capacity d → length e ≡ length d → Same 0 (jobSize capacity) d e → JobHeld capacity e
+held-same {capacity} {d} {e} h z k =
     let w = sizes h in
     let v : nth e 0 ≡ nth d 0 = k .cell 0 (omega arith) (omega arith) in
     let m : nth e 1 ≡ nth d 1 = k .cell 1 (omega arith) (omega arith) in
     let n : nth e 2 ≡ nth d 2 = k .cell 2 (omega arith) (omega arith) in
     record { size = z ∙ h .size; fits = rw (v, m, n) (h .fits); facts = rw (job-same w k) (h .facts) }
 
-module _ {rooms low high : ℕ} {d e : List ℕ} (h : JobHeld rooms d) (k : KeptOutside low high d e) (a : jobSize rooms ≤ low) where
+module _ {capacity low high : ℕ} {d e : List ℕ} (h : JobHeld capacity d) (k : KeptOutside low high d e) (a : jobSize capacity ≤ low) where
   -- A change behind the job leaves the job as it was.
   pub job-kept : jobIn e ≡ jobIn d
-  job-kept = job-same (sizes h) (same-before 0 (jobSize rooms) k a)
+  job-kept = job-same (sizes h) (same-before 0 (jobSize capacity) k a)
 
-  pub held-kept : JobHeld rooms e
-  held-kept = held-same h (k .size) (same-before 0 (jobSize rooms) k a)
+  pub held-kept : JobHeld capacity e
+  held-kept = held-same h (k .size) (same-before 0 (jobSize capacity) k a)
 
 -- And the job's links are still its links.
-pub links-kept : {rooms low high : ℕ} {d e links : List ℕ} → JobHeld rooms d → KeptOutside low high d e → jobSize rooms ≤ low → LinksHeld d links → LinksHeld e links
-links-kept {rooms} {d} {e} {links} h k a l =
+pub links-kept : {capacity low high : ℕ} {d e links : List ℕ} → JobHeld capacity d → KeptOutside low high d e → jobSize capacity ≤ low → LinksHeld d links → LinksHeld e links
+links-kept {capacity} {d} {e} {links} h k a l =
     let w = sizes h in
-    let same = same-before 0 (jobSize rooms) k a in
+    let same = same-before 0 (jobSize capacity) k a in
     let v : nth e 0 ≡ nth d 0 = k .before 0 (omega arith) in
     let n : nth e 2 ≡ nth d 2 = k .before 2 (omega arith) in
     record {

@@ -2,7 +2,7 @@
 use Rattle.lists.proofs.Prelude.{_≡_, refl, ap, _∙_, sym, List, true, false, ℕ, suc, _-_, _<_, _≤_, arith, eq-eqb, ne-eqb, length, drop, nth, document01, Result, good, bad, Job, JobHead, jobHeadRule, readJob}
 use Rattle.text.specs.declared.Step.{Step}
 use Rattle.text.specs.declared.Step.the-variants.{Next, Refused}
-use Rattle.heads.specs.Layout.{memorySize, linksRoom, FitsIn, roomsFor}
+use Rattle.heads.specs.Layout.{memorySize, linksRoom, FitsIn, capacityFor}
 use Rattle.jobs.specs.Answers.{Loaded}
 use Rattle.jobs.specs.Held.{jobIn, JobHeld, LinksHeld}
 use Rattle.heads.specs.Reading.{fromRuns, fromHead, closed}
@@ -14,13 +14,13 @@ use Rattle.jobs.proofs.Held.{tasks-in, processors-in, length-edges}
 use Rattle.jobs.proofs.AnswerLaws.{loaded-no}
 use Rattle.jobs.proofs.JobShape.{closed-shape}
 use Rattle.jobs.proofs.JobIn.{loaded-in}
-use Rattle.heads.proofs.Rooms.{largest-fits, rooms-fit, rooms-most, roomy-made}
+use Rattle.heads.proofs.Capacity.{largest-fits, capacity-fits, capacity-most, roomy-made}
 
 -- The rest of a job's text ----------------------------------------------------------------------------------------
 
-module _ (rooms : ℕ) (h : JobHead) (s d links : List ℕ) (z : jobHeadRule document01 h ≡ 0) (l : length d ≡ memorySize rooms) (f : FitsIn rooms h) where
+module _ (capacity : ℕ) (h : JobHead) (s d links : List ℕ) (z : jobHeadRule document01 h ≡ 0) (l : length d ≡ memorySize capacity) (f : FitsIn capacity h) where
   -- A job that was loaded fits as its head does.
-  rest-held : (n : ℕ) → Loaded (closed (fromRuns document01 h s)) d links (Next n) → JobLoaded rooms (closed (fromRuns document01 h s)) d links (Next n)
+  rest-held : (n : ℕ) → Loaded (closed (fromRuns document01 h s)) d links (Next n) → JobLoaded capacity (closed (fromRuns document01 h s)) d links (Next n)
   rest-held n a =
       let (g, facts, k) = loaded-in h s d links n z a in
       let (_, t, p, e) = closed-shape h s (jobIn d) g in
@@ -29,40 +29,40 @@ module _ (rooms : ℕ) (h : JobHead) (s d links : List ℕ) (z : jobHeadRule doc
       let o : nth d 2 ≡ h .edges = sym (length-edges d) ∙ e in
       rw g ((n, refl), refl, record { size = l; fits = rw (v, m, o) f; facts = facts }, k)
 
-  pub rest-loaded : (r : Step) → Loaded (closed (fromRuns document01 h s)) d links r → JobLoaded rooms (closed (fromRuns document01 h s)) d links r
+  pub rest-loaded : (r : Step) → Loaded (closed (fromRuns document01 h s)) d links r → JobLoaded capacity (closed (fromRuns document01 h s)) d links r
   rest-loaded (Next n) a = rest-held n a
   rest-loaded (Refused n) a = rw (loaded-no (closed (fromRuns document01 h s)) d links n a) refl
 
 -- From the head on --------------------------------------------------------------------------------------------------
 
-module _ (rooms size links : ℕ) (h : JobHead) (s : List ℕ) where
-  pub from-refused : (x : ℕ) → x ≡ jobHeadRule document01 h → 0 < x → jobFrom rooms size links h s ≡ bad x
+module _ (capacity size links : ℕ) (h : JobHead) (s : List ℕ) where
+  pub from-refused : (x : ℕ) → x ≡ jobHeadRule document01 h → 0 < x → jobFrom capacity size links h s ≡ bad x
   unfolding jobFrom closed fromHead
   from-refused x f g = let o : x ≡ suc (x - 1) = omega (arith, g) in rw (← f, ne-eqb x 0 (λ e. omega (arith, e, g)), o)
 
   module _ (z : jobHeadRule document01 h ≡ 0) where
-    pub from-short : roomy rooms size links h ≡ false → jobFrom rooms size links h s ≡ bad 8
+    pub from-short : roomy capacity size links h ≡ false → jobFrom capacity size links h s ≡ bad 8
     unfolding jobFrom
     from-short e = rw (eq-eqb (jobHeadRule document01 h) 0 z, e)
 
-    pub from-room : roomy rooms size links h ≡ true → jobFrom rooms size links h s ≡ closed (fromRuns document01 h s)
+    pub from-room : roomy capacity size links h ≡ true → jobFrom capacity size links h s ≡ closed (fromRuns document01 h s)
     unfolding jobFrom fromHead
     from-room e = rw (e, z)
 
--- The job of a text whose head was read, in a memory of the rooms that it is given.
-pub job-from : (s : List ℕ) (h : Head) (at rooms size links : ℕ) → HeadRead document01 s (Opened h at) → rooms ≡ roomsFor (headOf h) → size ≡ memorySize rooms → linksRoom rooms ≤ links
-    → jobFrom rooms size links (headOf h) (drop at s) ≡ readJob document01 s
-job-from s h at rooms size links (z, q) e l k =
-    let f : FitsIn rooms (headOf h) = rw e (rooms-fit _ largest-fits (headOf h) z) in
-    from-room rooms size links (headOf h) (drop at s) z (roomy-made rooms size links (headOf h) (rw e (rooms-most (headOf h))) l k f) ∙ sym q
+-- The job of a text whose head was read, in a memory of the capacity that it is given.
+pub job-from : (s : List ℕ) (h : Head) (at capacity size links : ℕ) → HeadRead document01 s (Opened h at) → capacity ≡ capacityFor (headOf h) → size ≡ memorySize capacity → linksRoom capacity ≤ links
+    → jobFrom capacity size links (headOf h) (drop at s) ≡ readJob document01 s
+job-from s h at capacity size links (z, q) e l k =
+    let f : FitsIn capacity (headOf h) = rw e (capacity-fits _ largest-fits (headOf h) z) in
+    from-room capacity size links (headOf h) (drop at s) z (roomy-made capacity size links (headOf h) (rw e (capacity-most (headOf h))) l k f) ∙ sym q
 
 -- What was loaded -----------------------------------------------------------------------------------------------------
 
-pub loaded-job : (rooms : ℕ) (x : Result Job) (mem links : List ℕ) (n : ℕ) → JobLoaded rooms x mem links (Next n)
-    → (x ≡ good (jobIn mem)) × JobHeld rooms mem × LinksHeld mem links
-loaded-job rooms (good j) mem links n (_, e, h, l) = (ap good (sym e), h, l)
-loaded-job rooms (bad k) mem links n e = absurd (let z : _≡_ {A = ℕ} 0 1 = cc in omega arith)
+pub loaded-job : (capacity : ℕ) (x : Result Job) (mem links : List ℕ) (n : ℕ) → JobLoaded capacity x mem links (Next n)
+    → (x ≡ good (jobIn mem)) × JobHeld capacity mem × LinksHeld mem links
+loaded-job capacity (good j) mem links n (_, e, h, l) = (ap good (sym e), h, l)
+loaded-job capacity (bad k) mem links n e = absurd (let z : _≡_ {A = ℕ} 0 1 = cc in omega arith)
 
-pub refused-job : (rooms : ℕ) (x : Result Job) (mem links : List ℕ) (n : ℕ) → JobLoaded rooms x mem links (Refused n) → x ≡ bad n
-refused-job rooms (good j) mem links n ((k, e), _, _, _) = absurd (let z : _≡_ {A = ℕ} 0 1 = cc in omega arith)
-refused-job rooms (bad k) mem links n e = cc
+pub refused-job : (capacity : ℕ) (x : Result Job) (mem links : List ℕ) (n : ℕ) → JobLoaded capacity x mem links (Refused n) → x ≡ bad n
+refused-job capacity (good j) mem links n ((k, e), _, _, _) = absurd (let z : _≡_ {A = ℕ} 0 1 = cc in omega arith)
+refused-job capacity (bad k) mem links n e = cc

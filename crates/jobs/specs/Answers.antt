@@ -9,7 +9,7 @@ use Rattle.definitions.specs.Job.{Job, readJob}
 use Rattle.definitions.specs.Tools.{fitting}
 use Rattle.lists.specs.Over.{over}
 use Rattle.text.specs.declared.Step.{Step}
-use Rattle.text.specs.Told.{stepTold}
+use Rattle.text.specs.Meaning.{stepResult}
 use Rattle.orders.specs.Edges.{edgeCell}
 use Rattle.orders.specs.Links.{Linked}
 use Rattle.jobs.specs.Memory.{jobCells}
@@ -34,5 +34,5 @@ jobAnswer text room = andThen (readJob document01 text) (λ j. fitting room (job
 -- The job that was read stands at the front of a memory, and its number of cells is the answer; its edges are linked; or the refusal.
 abbrev pub Loaded : Result Job → List ℕ → List ℕ → Step → Type 0
 Loaded (good j) mem links r =
-    (stepTold r ≡ good (length (jobCells j))) × (take (length (jobCells j)) mem ≡ jobCells j) × Linked (j .tasks) (map edgeCell (j .edges)) links
-Loaded (bad n) mem links r = stepTold r ≡ bad n
+    (stepResult r ≡ good (length (jobCells j))) × (take (length (jobCells j)) mem ≡ jobCells j) × Linked (j .tasks) (map edgeCell (j .edges)) links
+Loaded (bad n) mem links r = stepResult r ≡ bad n

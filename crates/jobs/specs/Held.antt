@@ -50,12 +50,12 @@ pub record LinksHeld (mem links : List ℕ) : Type 0 where
       → Run (nth links (inStartAt (nth mem 0) t)) (nth links (inStartAt (nth mem 0) (t + 1))) links (incoming (jobIn mem) t)
   pub order : Arranged (nth mem 0) (jobIn mem .edges) (drop (orderAt (nth mem 0) 0) links) (nth mem 0)
 
--- A job stands in a memory of so many rooms, and fits it.
-pub record JobHeld (rooms : ℕ) (mem : List ℕ) : Type 0 where
-  pub size : length mem ≡ memorySize rooms
-  pub fits : FitsIn rooms (jobHeadOf mem)
+-- A job stands in a memory of this capacity, and fits it.
+pub record JobHeld (capacity : ℕ) (mem : List ℕ) : Type 0 where
+  pub size : length mem ≡ memorySize capacity
+  pub fits : FitsIn capacity (jobHeadOf mem)
   pub facts : JobFacts document01 (jobIn mem)
 
 -- A job stands in a memory of some size.
 abbrev pub SomeJobHeld : List ℕ → Type 0
-SomeJobHeld mem = (rooms : ℕ) × JobHeld rooms mem
+SomeJobHeld mem = (capacity : ℕ) × JobHeld capacity mem

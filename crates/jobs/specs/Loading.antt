@@ -9,7 +9,7 @@ use Rattle.definitions.specs.Limits.{document01}
 use Rattle.definitions.specs.Text.{Result, good, bad}
 use Rattle.definitions.specs.Job.{Job, JobHead, jobHeadRule}
 use Rattle.text.specs.declared.Step.{Step}
-use Rattle.text.specs.Told.{stepTold}
+use Rattle.text.specs.Meaning.{stepResult}
 use Rattle.heads.specs.Heads.{roomy}
 use Rattle.heads.specs.Reading.{fromHead, closed}
 use Rattle.jobs.specs.Held.{jobIn, JobHeld, LinksHeld}
@@ -17,9 +17,9 @@ use Rattle.jobs.specs.Held.{jobIn, JobHeld, LinksHeld}
 -- The job of a head and of the text after it, for a memory and links of so many cells: the head's rule, then 8 if there is no room, then the
 -- rest of the text.
 unfoldable pub jobFrom : ℕ → ℕ → ℕ → JobHead → List ℕ → Result Job
-jobFrom rooms size links h s = if eqb (jobHeadRule document01 h) 0 && not (roomy rooms size links h) then bad 8 else closed (fromHead document01 h s)
+jobFrom capacity size links h s = if eqb (jobHeadRule document01 h) 0 && not (roomy capacity size links h) then bad 8 else closed (fromHead document01 h s)
 
 -- The job that was read stands in the memory, and its links in theirs; or the refusal.
 abbrev pub JobLoaded : ℕ → Result Job → List ℕ → List ℕ → Step → Type 0
-JobLoaded rooms (good j) mem links r = ((n : ℕ) × (stepTold r ≡ good n)) × (jobIn mem ≡ j) × JobHeld rooms mem × LinksHeld mem links
-JobLoaded rooms (bad n) mem links r = stepTold r ≡ bad n
+JobLoaded capacity (good j) mem links r = ((n : ℕ) × (stepResult r ≡ good n)) × (jobIn mem ≡ j) × JobHeld capacity mem × LinksHeld mem links
+JobLoaded capacity (bad n) mem links r = stepResult r ≡ bad n

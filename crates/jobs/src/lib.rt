@@ -14,22 +14,23 @@ pub enum Answer {
     Refusal(u64),
 }
 
-// The rest of a job's text, from `at` on, after its head, into a memory of so many rooms, and the links between its edges.
+// The rest of a job's text, from `at` on, after its head, into a memory of this capacity, and the links between its edges.
 pub fn load_job(
     s: &[u8],
     at: usize,
     head: Head,
     mem: &mut [u64],
     links: &mut [u64],
-    rooms: usize,
+    capacity: usize,
 ) -> Step
-    ensures { λ r. ⌜ JobLoaded rooms (jobFrom rooms (length (now (mem .entry))) (length (now (links .entry))) (headOf head) (drop at (now (s .entry)))) (now (mem .exit)) (now (links .exit)) r ⌝ }
+    ensures { λ r. ⌜ JobLoaded capacity (jobFrom capacity (length (now (mem .entry))) (length (now (links .entry))) (headOf head) (drop at (now (s .entry))))
+        (now (mem .exit)) (now (links .exit)) r ⌝ }
 {
     let x = heads::head_rule(head);
     if x > 0 {
         return Step::Refused(x);
     }
-    if heads::roomy(head, mem.len(), links.len(), rooms) {
+    if heads::roomy(head, mem.len(), links.len(), capacity) {
         return job::load_rest(s, at, head, mem, links);
     }
     Step::Refused(8)

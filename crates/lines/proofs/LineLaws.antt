@@ -1,7 +1,7 @@
 -- The numbers that end a line, and lines, at a place of a text.
 use Rattle.lists.proofs.Prelude.{_≡_, refl, ap, sym, _∙_, List, [], _∷_, _++_, append-assoc, append-nil, ℕ, zero, suc, _+_, _-_, _<_, _≤_, arith, add-one, eq-eqb, ne-eqb, lt-ltb, le-ltb, length, getD, take, drop, set, drop-of-length-le, drop-cons, Limits, Reading, Reader, found, refused, next, due, number, exactly, numbers, line, lines, mark}
 use lib.Seq.{take-suc-set}
-use Rattle.text.specs.Told.{told, after, lineInto, ruled, PlacedBy}
+use Rattle.text.specs.Meaning.{stepReading, after, lineInto, ruled, PlacedBy}
 use Rattle.text.specs.declared.Step.{Step}
 use Rattle.text.specs.declared.Num.{Num}
 use Rattle.text.specs.declared.Num.the-variants.{Value}
@@ -77,8 +77,8 @@ module _ (l : Limits) (room : ℕ) (opening : List ℕ) (k : ℕ) (s : List ℕ)
   line-fits h = rw (le-ltb room k h)
 
   -- What is said of a line that was read into it, with the answer x.
-  pub line-told : (t ys : List ℕ) (r x : Step) → told t (take k ys) r ≡ lineInto l room opening k s → k ≤ room → r ≡ x → line l opening k s ≡ told t (take k ys) x
-  line-told t ys r x e h f = sym (e ∙ line-fits h) ∙ ap (told t (take k ys)) f
+  pub line-reading : (t ys : List ℕ) (r x : Step) → stepReading t (take k ys) r ≡ lineInto l room opening k s → k ≤ room → r ≡ x → line l opening k s ≡ stepReading t (take k ys) x
+  line-reading t ys r x e h f = sym (e ∙ line-fits h) ∙ ap (stepReading t (take k ys)) f
 
   pub line-unfit : room < k → lineInto l room opening k s ≡ refused 8
   line-unfit h = rw (lt-ltb room k h)

@@ -6,7 +6,7 @@ ghost use Prim.Native.Nat.{_≤_, _<_, _+_, _-_};
 ghost use lib.ListN.{length, drop};
 ghost use Rattle.definitions.specs.Limits.{document01};
 ghost use Rattle.definitions.specs.Text.{isDigit, digits, number};
-ghost use Rattle.text.specs.Told.{numberTold, PlacedBy};
+ghost use Rattle.text.specs.Meaning.{numberReading, PlacedBy};
 use text::Num;
 use text::limits::DIGITS;
 
@@ -27,7 +27,7 @@ fn digit(b: u8) -> u64
 // The digits that follow the first one, which stands at `at`.
 fn more_digits(s: &[u8], at: usize, first: u64) -> Num
     requires { ⌜ (at + (document01 .digits + 2) ≤ length (now s)) × (first ≤ 9) ⌝ }
-    ensures { λ r. ⌜ numberTold (now (s .entry)) r ≡ digits (document01 .digits - 1) first (drop (at + 1) (now (s .entry))) ⌝ }
+    ensures { λ r. ⌜ numberReading (now (s .entry)) r ≡ digits (document01 .digits - 1) first (drop (at + 1) (now (s .entry))) ⌝ }
     ensures placed { λ r. ⌜ PlacedBy (at + document01 .digits) r ⌝ }
 {
     let mut acc = first;
@@ -49,7 +49,7 @@ fn more_digits(s: &[u8], at: usize, first: u64) -> Num
 // The number that stands at `at`.
 pub fn read_number(s: &[u8], at: usize) -> Num
     requires { ⌜ at + (document01 .digits + 2) ≤ length (now s) ⌝ }
-    ensures { λ r. ⌜ numberTold (now (s .entry)) r ≡ number document01 (drop at (now (s .entry))) ⌝ }
+    ensures { λ r. ⌜ numberReading (now (s .entry)) r ≡ number document01 (drop at (now (s .entry))) ⌝ }
     ensures placed { λ r. ⌜ PlacedBy (at + document01 .digits) r ⌝ }
 {
     let first = digit(s[at]);

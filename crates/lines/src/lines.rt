@@ -5,14 +5,14 @@ ghost use Prim.Native.Nat.{_≤_, _-_};
 ghost use lib.ListN.{length, take, drop};
 ghost use Rattle.definitions.specs.Limits.{document01};
 ghost use Rattle.definitions.specs.Text.{exactly, numbers, line};
-ghost use Rattle.text.specs.Told.{told, after};
+ghost use Rattle.text.specs.Meaning.{stepReading, after};
 use crate::inner;
 use text::Num;
 use text::Step;
 
 // The place after the byte b, if it stands at `at`.
 fn read_byte(s: &[u8], at: usize, b: u8) -> Step
-    ensures { λ r. ⌜ told (now (s .entry)) tt r ≡ exactly (b ∷ []) (drop at (now (s .entry))) ⌝ }
+    ensures { λ r. ⌜ stepReading (now (s .entry)) tt r ≡ exactly (b ∷ []) (drop at (now (s .entry))) ⌝ }
 {
     if s.len() <= at {
         return Step::Refused(2);
@@ -26,7 +26,7 @@ fn read_byte(s: &[u8], at: usize, b: u8) -> Step
 // The k numbers that end a line, kept at the front of `vals`.
 fn read_numbers(s: &[u8], at: usize, k: usize, vals: &mut [u64]) -> Step
     requires { ⌜ k ≤ length (now vals) ⌝ }
-    ensures { λ r. ⌜ (told (now (s .entry)) (take k (now (vals .exit))) r ≡ numbers document01 k (drop at (now (s .entry)))) × (drop k (now (vals .exit)) ≡ drop k (now (vals .entry))) ⌝ }
+    ensures { λ r. ⌜ (stepReading (now (s .entry)) (take k (now (vals .exit))) r ≡ numbers document01 k (drop at (now (s .entry)))) × (drop k (now (vals .exit)) ≡ drop k (now (vals .entry))) ⌝ }
 {
     let end = inner::end_of(s.len());
     let mut i = 0;
@@ -51,7 +51,7 @@ fn read_numbers(s: &[u8], at: usize, k: usize, vals: &mut [u64]) -> Step
 // The numbers from `begun` on of the k that end a line, near the text's end.
 fn read_last(s: &[u8], at: usize, begun: usize, k: usize, vals: &mut [u64]) -> Step
     requires { ⌜ (begun ≤ k) × (k ≤ length (now vals)) ⌝ }
-    ensures { λ r. ⌜ (told (now (s .entry)) (take k (now (vals .exit))) r ≡ after (take begun (now (vals .entry))) (numbers document01 (k - begun) (drop at (now (s .entry)))))
+    ensures { λ r. ⌜ (stepReading (now (s .entry)) (take k (now (vals .exit))) r ≡ after (take begun (now (vals .entry))) (numbers document01 (k - begun) (drop at (now (s .entry)))))
         × (drop k (now (vals .exit)) ≡ drop k (now (vals .entry))) ⌝ }
 {
     let mut i = begun;
@@ -73,7 +73,7 @@ fn read_last(s: &[u8], at: usize, begun: usize, k: usize, vals: &mut [u64]) -> S
 // A line: its opening and k numbers, kept at the front of `vals`.
 pub fn line_at(s: &[u8], at: usize, opening: &[u8], k: usize, vals: &mut [u64]) -> Step
     requires { ⌜ k ≤ length (now vals) ⌝ }
-    ensures { λ r. ⌜ (told (now (s .entry)) (take k (now (vals .exit))) r ≡ line document01 (now (opening .entry)) k (drop at (now (s .entry))))
+    ensures { λ r. ⌜ (stepReading (now (s .entry)) (take k (now (vals .exit))) r ≡ line document01 (now (opening .entry)) k (drop at (now (s .entry))))
         × (drop k (now (vals .exit)) ≡ drop k (now (vals .entry))) ⌝ }
 {
     match text::read_fixed(s, at, opening) {

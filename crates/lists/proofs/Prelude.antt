@@ -24,14 +24,14 @@ pub use Rattle.definitions.specs.Plan.{Line, Plan, Replica, planHeadOf, process
 unfoldable pub use Rattle.definitions.specs.Plan.{descends, planHeadRule, planLineRule, planText, readPlan}
 pub use Rattle.definitions.specs.Planner.{Waiting, goesBefore, scale, tickOf}
 unfoldable pub use Rattle.definitions.specs.Planner.{bottomLevels, freeTasks, largestDelay, place, planFor, ranked, replicas, scaledRun, topLevel, totalDelay, trial, waitingFrom}
-unfoldable pub use Rattle.definitions.specs.Refusals.{doubledTasks, endsAgree, ticksAgree}
+unfoldable pub use Rattle.definitions.specs.Refusals.{doubledTasks, boundsAgree, ticksAgree}
 pub use Rattle.definitions.specs.Replay.{endLine, resultLine}
-unfoldable pub use Rattle.definitions.specs.Replay.{firstProcessor, firstFinish, lowest, replay, replayText, resultLines, roundEnd}
+unfoldable pub use Rattle.definitions.specs.Replay.{firstProcessor, firstFinish, lowest, replay, replayText, resultLines, replayMakespan}
 pub use Rattle.definitions.specs.Stops.{Stop}
 unfoldable pub use Rattle.definitions.specs.Stops.{readStops}
 pub use Rattle.definitions.specs.Text.{Reader, Reading, Result, andThen, bad, due, ended, found, good, isDigit, mark, next, refused, return}
 unfoldable pub use Rattle.definitions.specs.Text.{decimal, digits, exactly, firstOf, line, lineText, lines, number, numbers, numbersText, width, widthFrom}
-pub use Rattle.definitions.specs.Times.{Copy, Outcome, Time, after, copiesOf, copyOf, later, never, outcome, same, sooner, tick, times}
-unfoldable pub use Rattle.definitions.specs.Times.{arrival, copies, dataReady, earlies, end, exits, finish, largest, lates, least, ofTask, ready, start, stopTime, walk}
+pub use Rattle.definitions.specs.Times.{Placement, Outcome, Time, after, placementsOf, placementOf, later, never, outcome, same, sooner, tick, times}
+unfoldable pub use Rattle.definitions.specs.Times.{arrival, placements, dataReady, earlies, makespan, exits, finish, largest, lates, least, ofTask, ready, start, stopTime, walk}
 pub use Rattle.definitions.specs.Tools.{Says, Verdict, fitting, printed, verdictFor}
 unfoldable pub use Rattle.definitions.specs.Tools.{planAnswer, planPrinted, planned, replayAnswer, replayPrinted, replayed, verdict}

@@ -1,7 +1,7 @@
 -- The public answers, from what the tools answer in the memory that a job's head asks for.
 use Rattle.lists.proofs.Prelude.{_≡_, refl, _∙_, List, ℕ, arith, length, drop, document01, Result, good, bad, andThen, Job, readJob, Plan, readPlan, Stop, readStops, replay, replayText, Says, fitting, planAnswer, verdictFor, verdict, replayed, replayAnswer}
 use Rattle.definitions.specs.Tools.{verdictOn}
-use Rattle.heads.specs.Layout.{memorySize, linksRoom, roomsFor}
+use Rattle.heads.specs.Layout.{memorySize, linksRoom, capacityFor}
 use Rattle.jobs.specs.Answers.{resultOf, Answered}
 use Rattle.heads.specs.Heads.{headOf, HeadRead}
 use Rattle.jobs.specs.Loading.{jobFrom}
@@ -57,10 +57,10 @@ module _ (job plan : List ℕ) where
 
 -- The memory that the head asks for -----------------------------------------------------------------------------------
 
-pub tool-page : (tool : Tool) (job : List ℕ) (h : Head) (at rooms : ℕ) → HeadRead document01 job (Opened h at) → rooms ≡ roomsFor (headOf h)
-    → (plan stops d z : List ℕ) (r : Said) → Answers tool (jobFrom rooms (memorySize rooms) (linksRoom rooms) (headOf h) (drop at job)) plan stops d z r
+pub tool-page : (tool : Tool) (job : List ℕ) (h : Head) (at capacity : ℕ) → HeadRead document01 job (Opened h at) → capacity ≡ capacityFor (headOf h)
+    → (plan stops d z : List ℕ) (r : Said) → Answers tool (jobFrom capacity (memorySize capacity) (linksRoom capacity) (headOf h) (drop at job)) plan stops d z r
     → Answers tool (readJob document01 job) plan stops d z r
-tool-page tool job h at rooms o e plan stops d z r a = rw (job-from job h at rooms (memorySize rooms) (linksRoom rooms) o e refl (omega arith)) at a
+tool-page tool job h at capacity o e plan stops d z r a = rw (job-from job h at capacity (memorySize capacity) (linksRoom capacity) o e refl (omega arith)) at a
 
 -- The job's text was refused.
 pub tool-refused : (tool : Tool) (x : Result Job) (n : ℕ) → x ≡ bad n → (plan stops d : List ℕ) → Answers tool x plan stops d d (Said.Refused n)

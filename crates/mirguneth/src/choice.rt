@@ -72,7 +72,7 @@ pub fn checked_of(said: Said) -> Checked
     }
 }
 
-// A tool's answer to texts, the head of the job's being read up to `at`, in a working memory of so many rooms.
+// A tool's answer to texts, the head of the job's being read up to `at`, in a working memory of this capacity.
 fn run(
     tool: Tool,
     job: &[u8],
@@ -82,15 +82,15 @@ fn run(
     stops: &[u8],
     mem: &mut [u64],
     links: &mut [u64],
-    rooms: usize,
+    capacity: usize,
     out: &mut [u8],
 ) -> Said
-    ensures { λ r. ⌜ Answers tool (jobFrom rooms (length (now (mem .entry))) (length (now (links .entry))) (headOf head) (drop at (now (job .entry)))) (now (plan .entry))
+    ensures { λ r. ⌜ Answers tool (jobFrom capacity (length (now (mem .entry))) (length (now (links .entry))) (headOf head) (drop at (now (job .entry)))) (now (plan .entry))
         (now (stops .entry)) (now (out .entry)) (now (out .exit)) r ⌝ }
 {
     match tool {
-        Tool::Plan => written(rounds::plan_in(job, at, head, mem, links, rooms, out)),
-        Tool::Check => judged(rounds::check_in(job, at, head, plan, mem, links, rooms)),
+        Tool::Plan => written(rounds::plan_in(job, at, head, mem, links, capacity, out)),
+        Tool::Check => judged(rounds::check_in(job, at, head, plan, mem, links, capacity)),
         Tool::Replay => written(rounds::replay_in(
             job,
             at,
@@ -99,13 +99,13 @@ fn run(
             stops,
             mem,
             links,
-            rooms,
+            capacity,
             out,
         )),
     }
 }
 
-// The same in a memory of one room.
+// The same in a memory of capacity 1.
 fn in_one(
     tool: Tool,
     job: &[u8],
@@ -134,7 +134,7 @@ fn in_one(
     )
 }
 
-// The same in a memory of two rooms.
+// The same in a memory of capacity 2.
 fn in_two(
     tool: Tool,
     job: &[u8],
@@ -163,7 +163,7 @@ fn in_two(
     )
 }
 
-// The same in a memory of eight rooms.
+// The same in a memory of capacity 8.
 fn in_eight(
     tool: Tool,
     job: &[u8],
@@ -192,7 +192,7 @@ fn in_eight(
     )
 }
 
-// The same in a memory of 32 rooms, which every job fits.
+// The same in a memory of capacity 32, which every job fits.
 fn in_all(
     tool: Tool,
     job: &[u8],
@@ -221,20 +221,20 @@ fn in_all(
     )
 }
 
-// A tool's answer to texts, in the smallest working memory that the job fits: 1, 2, 8 or 32 rooms, of 425 cells and 68 for links each.
+// A tool's answer to texts, in the smallest working memory that the job fits: of capacity 1, 2, 8 or 32, with 425 cells and 68 for links times that.
 pub fn answer(tool: Tool, job: &[u8], plan: &[u8], stops: &[u8], out: &mut [u8]) -> Said
     ensures { λ r. ⌜ Answers tool (readJob document01 (now (job .entry))) (now (plan .entry)) (now (stops .entry)) (now (out .entry)) (now (out .exit)) r ⌝ }
 {
     match heads::read_head(job) {
         Opening::Opened(head, at) => {
-            let rooms = heads::rooms_for(head);
-            if rooms == 1 {
+            let capacity = heads::capacity_for(head);
+            if capacity == 1 {
                 return in_one(tool, job, at, head, plan, stops, out);
             }
-            if rooms == 2 {
+            if capacity == 2 {
                 return in_two(tool, job, at, head, plan, stops, out);
             }
-            if rooms == 8 {
+            if capacity == 8 {
                 return in_eight(tool, job, at, head, plan, stops, out);
             }
             in_all(tool, job, at, head, plan, stops, out)

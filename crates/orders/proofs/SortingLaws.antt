@@ -9,7 +9,7 @@ use Rattle.orders.proofs.OrderLaws.{listed-length, listed-place, place-
 use Rattle.orders.specs.Edges.{edgeIn}
 use Rattle.orders.specs.Order.{Within, listed, Arranged}
 use Rattle.orders.specs.Links.{run, Run, leaving, entering, outStartAt, inStartAt, orderAt, pendingAt, inEdgeAt, linkIn, Runs, Counted}
-use Rattle.orders.specs.Sorting.{ordered, pending, released, joined, joinedCount, blocking, Blocked, Fed, Queue, Sorting}
+use Rattle.orders.specs.Sorting.{ordered, pending, released, joined, joinedCount, blocking, Blocked, PredecessorsFirst, Queue, Sorting}
 
 -- Counts of edges ---------------------------------------------------------------------------------------------
 
@@ -87,8 +87,8 @@ module _ {es : List Edge} {v : ℕ} {ts : List ℕ} {waits : ℕ → ℕ} (q : Q
   queue-next : (w u : ℕ) (now : ℕ → ℕ) (b : Bool) → eqb (now u) 0 ≡ b → (In u ts → ⊥) → v ≤ w → u < w → ((t : ℕ) → t < w → (t ≡ u → ⊥) → t < v)
       → ((t : ℕ) → (t ≡ u → ⊥) → now t ≡ waits t) → (now u ≡ 0 → (e : Edge) → In e es → e .to ≡ u → In (e .from) ts)
       → Queue es w (if b then u ∷ ts else ts) now
-  unfolding Fed
-  queue-next w u now b x new more here inner same fed = by b x
+  unfolding PredecessorsFirst
+  queue-next w u now b x new more here inner same predecessors = by b x
     where
       old : (t : ℕ) → In t ts → (t < w) × (now t ≡ 0)
       old t i = let (h, z) = q .task-of t i in (omega arith, same t (λ e. new (rw e at i)) ∙ z)
@@ -103,13 +103,13 @@ module _ {es : List Edge} {v : ℕ} {ts : List ℕ} {waits : ℕ → ℕ} (q : Q
             task-of = λ t. ⊎-elim (λ (e : u ≡ t). rw (← e) (here, z)) (old t);
             free-of = λ t h y. ⊎-elim (λ e. inl (sym e)) (λ d. inr (free t h y d)) (equal-or-not t u);
             once = head-apart u ts new (q .once);
-            fed = (fed z, q .fed);
+            predecessors = (predecessors z, q .predecessors);
           }
       by false x = record {
         task-of = old;
         free-of = λ t h y. ⊎-elim (λ (e : t ≡ u). absurd (eqb-false (now u) 0 x (rw e at y))) (free t h y) (equal-or-not t u);
         once = q .once;
-        fed = q .fed;
+        predecessors = q .predecessors;
       }
 
 -- The tables --------------------------------------------------------------------------------------------------
@@ -181,10 +181,10 @@ joins u n r few false = record { runs = r; counts = λ t. refl; before = λ i h.
 module _ {v : ℕ} {edges links : List ℕ} where
   -- No task is seen yet.
   pub sorting-none : Runs v edges links → Counted v edges links → Sorting v edges links 0 0 0 []
-  unfolding listed distinct Fed any keep
+  unfolding listed distinct PredecessorsFirst any keep
   sorting-none r c = record {
     runs = r;
-    queue = record { task-of = λ t i. absurd i; free-of = λ t h z. absurd (omega arith); once = refl; fed = tt };
+    queue = record { task-of = λ t i. absurd i; free-of = λ t h z. absurd (omega arith); once = refl; predecessors = tt };
     most = omega arith;
     count = λ u h. rw (keep-every (λ (e : Edge). true) (map edgeIn edges) (λ e i. refl)) (omega (arith, c u h));
   }
@@ -296,17 +296,17 @@ module _ {v : ℕ} {edges links : List ℕ} {i n : ℕ} {e : Edge} {some : List 
 
 -- When every task of the order was released -------------------------------------------------------------------
 
-fed-after : (es : List Edge) (order : List ℕ) (n : ℕ) → Fed es (listed order n) → (k : ℕ) → k < n → (e : Edge) → In e es → e .to ≡ nth order k → In (e .from) (listed order k)
-unfolding listed Fed
-fed-after es order zero f k h = absurd (omega arith)
-fed-after es order (suc n) f k h = ⊎-elim (λ (q : k ≡ n). rw q (f .0)) (fed-after es order n (f .1) k) (last-or-before n k h)
+predecessors-after : (es : List Edge) (order : List ℕ) (n : ℕ) → PredecessorsFirst es (listed order n) → (k : ℕ) → k < n → (e : Edge) → In e es → e .to ≡ nth order k → In (e .from) (listed order k)
+unfolding listed PredecessorsFirst
+predecessors-after es order zero f k h = absurd (omega arith)
+predecessors-after es order (suc n) f k h = ⊎-elim (λ (q : k ≡ n). rw q (f .0)) (predecessors-after es order n (f .1) k) (last-or-before n k h)
 
 pub sorting-done : {v : ℕ} {edges links : List ℕ} {n : ℕ} → Sorting v edges links v n n [] → Arranged v (map edgeIn edges) (drop (orderAt v 0) links) n
 unfolding keep
 sorting-done {v} {edges} {links} {n} s = record {
   task-of = λ t i. s .queue .task-of t i .0;
   once = s .queue .once;
-  after = fed-after (map edgeIn edges) (drop (orderAt v 0) links) n (s .queue .fed);
+  after = predecessors-after (map edgeIn edges) (drop (orderAt v 0) links) n (s .queue .predecessors);
   rest = λ t h. by t h (eqb (pending v links t) 0) refl;
 }
   where

@@ -34,16 +34,16 @@ abbrev pub blocking : List ℕ → List Edge → List Edge
 blocking ts es = keep (λ e. not (has (e .from) ts)) es
 
 -- Each task of a list, the last of them first, comes after all that precede it.
-unfoldable pub Fed : List Edge → List ℕ → Type 0
-Fed es [] = Unit {0}
-Fed es (t ∷ ts) = ((e : Edge) → In e es → e .to ≡ t → In (e .from) ts) × Fed es ts
+unfoldable pub PredecessorsFirst : List Edge → List ℕ → Type 0
+PredecessorsFirst es [] = Unit {0}
+PredecessorsFirst es (t ∷ ts) = ((e : Edge) → In e es → e .to ≡ t → In (e .from) ts) × PredecessorsFirst es ts
 
 -- The tasks ts are those below v that wait for no edge, each once and after all that precede it.
 pub record Queue (es : List Edge) (v : ℕ) (ts : List ℕ) (waits : ℕ → ℕ) : Type 0 where
   pub task-of : (t : ℕ) → In t ts → (t < v) × (waits t ≡ 0)
   pub free-of : (t : ℕ) → t < v → waits t ≡ 0 → In t ts
   pub once : distinct ts ≡ true
-  pub fed : Fed es ts
+  pub predecessors : PredecessorsFirst es ts
 
 -- So many edges block each task: the edges that leave the first i tasks of the order no longer do, but for some.
 abbrev pub Blocked : ℕ → List ℕ → List ℕ → ℕ → List Edge → Type 0

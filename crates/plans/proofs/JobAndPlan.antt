@@ -20,35 +20,35 @@ pub none-read : (x : Result Job) (plan : List ℕ) (n : ℕ) → x ≡ bad n →
 unfolding withPlan
 none-read x plan n h = rw h
 
-module _ (rooms : ℕ) (x : Result Job) (plan d links : List ℕ) (n : ℕ) where
-  pub no-job : JobLoaded rooms x d links (Refused n) → BothLoaded rooms (withPlan x plan) d links (Refused n)
-  no-job h = rw (none-read x plan n (refused-job rooms x d links n h)) refl
+module _ (capacity : ℕ) (x : Result Job) (plan d links : List ℕ) (n : ℕ) where
+  pub no-job : JobLoaded capacity x d links (Refused n) → BothLoaded capacity (withPlan x plan) d links (Refused n)
+  no-job h = rw (none-read x plan n (refused-job capacity x d links n h)) refl
 
   -- The job was read, and its edges were linked.
-  module _ (h : JobLoaded rooms x d links (Next n)) where
-    pub job-standing : JobHeld rooms d × LinksHeld d links
-    job-standing = let (_, j, i) = loaded-job rooms x d links n h in (j, i)
+  module _ (h : JobLoaded capacity x d links (Next n)) where
+    pub job-standing : JobHeld capacity d × LinksHeld d links
+    job-standing = let (_, j, i) = loaded-job capacity x d links n h in (j, i)
 
     -- So was the plan.
-    pub both-loaded : (f : List ℕ) (r : Step) → KeptOutside (lineAt rooms) (largestDelayAt rooms) d f → PlanLoaded rooms (readPlan document01 (jobIn d) plan) f r
-        → BothLoaded rooms (withPlan x plan) f links r
+    pub both-loaded : (f : List ℕ) (r : Step) → KeptOutside (lineAt capacity) (largestDelayAt capacity) d f → PlanLoaded capacity (readPlan document01 (jobIn d) plan) f r
+        → BothLoaded capacity (withPlan x plan) f links r
     unfolding withPlan
-    both-loaded f r c g = rw (loaded-job rooms x d links n h .0) (by (readPlan document01 (jobIn d) plan) g)
+    both-loaded f r c g = rw (loaded-job capacity x d links n h .0) (by (readPlan document01 (jobIn d) plan) g)
       where
-        by : (y : Result Plan) → PlanLoaded rooms y f r → BothLoaded rooms (andThen y (λ p. good (jobIn d, p))) f links r
+        by : (y : Result Plan) → PlanLoaded capacity y f r → BothLoaded capacity (andThen y (λ p. good (jobIn d, p))) f links r
         by (good p) (a, b, s) =
-            let (_, j, l) = loaded-job rooms x d links n h in
+            let (_, j, l) = loaded-job capacity x d links n h in
             (a, job-kept j c (omega arith), b, s, links-kept j c (omega arith) l)
         by (bad k) g = g
 
 -- What was read -------------------------------------------------------------------------------------------------------
 
-module _ (rooms : ℕ) (mem links : List ℕ) (n : ℕ) where
-  pub both-no : (x : Result (Job × Plan)) → BothLoaded rooms x mem links (Refused n) → x ≡ bad n
+module _ (capacity : ℕ) (mem links : List ℕ) (n : ℕ) where
+  pub both-no : (x : Result (Job × Plan)) → BothLoaded capacity x mem links (Refused n) → x ≡ bad n
   both-no (good (j, p)) ((k, e), _, _, _, _) = absurd (let z : _≡_ {A = ℕ} 0 1 = cc in omega arith)
   both-no (bad k) e = cc
 
-  pub both-next : (x : Result (Job × Plan)) → BothLoaded rooms x mem links (Next n) → (x ≡ good (jobIn mem, planIn rooms mem)) × LinesHeld rooms (nth mem 0) mem × LinksHeld mem links
+  pub both-next : (x : Result (Job × Plan)) → BothLoaded capacity x mem links (Next n) → (x ≡ good (jobIn mem, planIn capacity mem)) × LinesHeld capacity (nth mem 0) mem × LinksHeld mem links
   both-next (good (j, p)) (_, e, f, s, l) = (rw (e, f), s, l)
   both-next (bad k) e = absurd (let z : _≡_ {A = ℕ} 0 1 = cc in omega arith)
 
@@ -64,7 +64,7 @@ both-facts x plan j p h =
     by i q g a b = plan-facts document01 j plan p (rw (a, b) at g)
 
 -- Both stand in the memory.
-pub both-held : (rooms : ℕ) (x : Result Job) (plan mem links : List ℕ) (n : ℕ) → BothLoaded rooms (withPlan x plan) mem links (Next n) → PlanHeld rooms mem × LinksHeld mem links
-both-held rooms x plan mem links n h =
-    let (e, s, l) = both-next rooms mem links n (withPlan x plan) h in
-    (record { standing = s; facts = both-facts x plan (jobIn mem) (planIn rooms mem) e }, l)
+pub both-held : (capacity : ℕ) (x : Result Job) (plan mem links : List ℕ) (n : ℕ) → BothLoaded capacity (withPlan x plan) mem links (Next n) → PlanHeld capacity mem × LinksHeld mem links
+both-held capacity x plan mem links n h =
+    let (e, s, l) = both-next capacity mem links n (withPlan x plan) h in
+    (record { standing = s; facts = both-facts x plan (jobIn mem) (planIn capacity mem) e }, l)

@@ -29,14 +29,14 @@ module _ (d e : List ℕ) where
       time true = k .cell (lateAt a c) (omega arith) (omega arith)
       time false = k .cell (earlyAt a c) (omega arith) (omega arith)
 
-  pub placed-same : (rooms : ℕ) (late : Bool) (w k : ℕ) → w ≤ 8 → Same (rowAt rooms 0) (rowAt rooms k) d e → placedIn rooms late w k e ≡ placedIn rooms late w k d
+  pub placed-same : (capacity : ℕ) (late : Bool) (w k : ℕ) → w ≤ 8 → Same (rowAt capacity 0) (rowAt capacity k) d e → placedIn capacity late w k e ≡ placedIn capacity late w k d
   unfolding placedIn
-  placed-same rooms late w zero h s = refl
-  placed-same rooms late w (suc k) h s =
+  placed-same capacity late w zero h s = refl
+  placed-same capacity late w (suc k) h s =
       rw (
-        outcomes-same late (rowAt rooms k) w (same-part (rowAt rooms k) (processorAt (rowAt rooms k) w) s (omega arith) (omega arith)),
-        placed-same rooms late w k h
-            (same-part (rowAt rooms 0) (rowAt rooms k) s (omega arith) (omega arith)),
+        outcomes-same late (rowAt capacity k) w (same-part (rowAt capacity k) (processorAt (rowAt capacity k) w) s (omega arith) (omega arith)),
+        placed-same capacity late w k h
+            (same-part (rowAt capacity 0) (rowAt capacity k) s (omega arith) (omega arith)),
       )
 
   pub replicas-same : (a c : ℕ) → Same a (processorAt a c) d e → rowReplicas a c e ≡ rowReplicas a c d
@@ -51,19 +51,19 @@ module _ (d e : List ℕ) where
             a c (same-part a (processorAt a c) k (omega arith) (omega arith)),
       )
 
-  pub lines-same : (rooms : ℕ) (w k : ℕ) → w ≤ 8 → Same (rowAt rooms 0) (rowAt rooms k) d e → linesIn rooms w k e ≡ linesIn rooms w k d
+  pub lines-same : (capacity : ℕ) (w k : ℕ) → w ≤ 8 → Same (rowAt capacity 0) (rowAt capacity k) d e → linesIn capacity w k e ≡ linesIn capacity w k d
   unfolding linesIn
-  lines-same rooms w zero h s = refl
-  lines-same rooms w (suc k) h s =
+  lines-same capacity w zero h s = refl
+  lines-same capacity w (suc k) h s =
       rw (
-        s .cell (rowAt rooms k) (omega arith) (omega arith),
-        replicas-same (rowAt rooms k) w (same-part (rowAt rooms k) (processorAt (rowAt rooms k) w) s (omega arith) (omega arith)),
-        lines-same rooms w k h (same-part (rowAt rooms 0) (rowAt rooms k) s (omega arith) (omega arith)),
+        s .cell (rowAt capacity k) (omega arith) (omega arith),
+        replicas-same (rowAt capacity k) w (same-part (rowAt capacity k) (processorAt (rowAt capacity k) w) s (omega arith) (omega arith)),
+        lines-same capacity w k h (same-part (rowAt capacity 0) (rowAt capacity k) s (omega arith) (omega arith)),
       )
 
 -- A plan's lines ------------------------------------------------------------------------------------------------
 
-pub row-held-same : {rooms : ℕ} {d e : List ℕ} (a : ℕ) → Sizes rooms d → Same 0 4 d e → Same a (rowEnd a) d e → RowHeld a d → RowHeld a e
+pub row-held-same : {capacity : ℕ} {d e : List ℕ} (a : ℕ) → Sizes capacity d → Same 0 4 d e → Same a (rowEnd a) d e → RowHeld a d → RowHeld a e
 row-held-same {d} {e} a s j x r =
     let m : nth e 1 ≡ nth d 1 = j .cell 1 (omega arith) (omega arith) in
     let l : nth e 3 ≡ nth d 3 = j .cell 3 (omega arith) (omega arith) in
@@ -74,30 +74,34 @@ row-held-same {d} {e} a s j x r =
     }
 
 -- The job, the table of lines and the first k lines are as they were.
-pub standing-same : {rooms k : ℕ} {d e : List ℕ} → length e ≡ length d → Same 0 (levelAt rooms) d e → Same (lineAt rooms) (blockedAt rooms) d e → Same (rowAt rooms 0) (rowAt rooms k) d e
-    → LinesHeld rooms k d → LinesHeld rooms k e
-standing-same {rooms} {k} {d} {e} z j l r s =
+pub standing-same : {capacity k : ℕ} {d e : List ℕ} → length e ≡ length d → Same 0 (levelAt capacity) d e
+    → Same (lineAt capacity) (blockedAt capacity) d e → Same (rowAt capacity 0) (rowAt capacity k) d e
+    → LinesHeld capacity k d → LinesHeld capacity k e
+standing-same {capacity} {k} {d} {e} z j l r s =
     let w = sizes (s .job) in
-    let a : Same 0 (jobSize rooms) d e = same-part 0 (jobSize rooms) j (omega arith) (omega arith) in
+    let a : Same 0 (jobSize capacity) d e = same-part 0 (jobSize capacity) j (omega arith) (omega arith) in
     let v : nth e 0 ≡ nth d 0 = j .cell 0 (omega arith) (omega arith) in
-    let task : (i : ℕ) → i < k → nth e (rowAt rooms i) ≡ nth d (rowAt rooms i) = λ i h. r .cell (rowAt rooms i) (omega arith) (omega arith) in
-    let line : (t : ℕ) → t < nth d 0 → nth e (lineAt rooms + t) ≡ nth d (lineAt rooms + t) = λ t h. l .cell (lineAt rooms + t) (omega arith) (omega arith) in
+    let task : (i : ℕ) → i < k → nth e (rowAt capacity i) ≡ nth d (rowAt capacity i) = λ i h. r .cell (rowAt capacity i) (omega arith) (omega arith) in
+    let line : (t : ℕ) → t < nth d 0 → nth e (lineAt capacity + t) ≡ nth d (lineAt capacity + t) = λ t h. l .cell (lineAt capacity + t) (omega arith) (omega arith) in
     record {
       job = held-same (s .job) z a;
       count = rw v (s .count);
       task-of = λ i h. rw (task i h, v) (s .task-of i h);
-      line-of = λ i h. rw (task i h, line (nth d (rowAt rooms i)) (s .task-of i h)) (s .line-of i h);
+      line-of = λ i h. rw (task i h, line (nth d (rowAt capacity i)) (s .task-of i h)) (s .line-of i h);
       placed = λ t h.
           let g : t < nth d 0 = rw v at h in
           rw (line t g) (⊎-elim (λ p. inl p) (λ p. inr (p .0, p .1, p .2, task (p .0) (p .1) ∙ p .3)) (s .placed t g));
-      row = λ i h. row-held-same (rowAt rooms i) w (same-part 0 4 j (omega arith) (omega arith)) (same-part (rowAt rooms i) (rowEnd (rowAt rooms i)) r (omega arith) (omega arith)) (s .row i h);
+      row = λ i h. row-held-same (rowAt capacity i) w (same-part 0 4 j (omega arith) (omega arith))
+          (same-part (rowAt capacity i) (rowEnd (rowAt capacity i)) r (omega arith) (omega arith)) (s .row i h);
     }
 
 -- A change among what serves the choice of a task, or behind the k lines.
-module _ {rooms k low high : ℕ} {d e : List ℕ} (c : KeptOutside low high d e) (s : LinesHeld rooms k d) where
-  pub standing-choice : blockedAt rooms ≤ low → high ≤ rowAt rooms 0 → LinesHeld rooms k e
-  standing-choice a b = standing-same (c .size) (same-before 0 (levelAt rooms) c (omega arith)) (same-before (lineAt rooms) (blockedAt rooms) c a) (same-behind (rowAt rooms 0) (rowAt rooms k) c b) s
+module _ {capacity k low high : ℕ} {d e : List ℕ} (c : KeptOutside low high d e) (s : LinesHeld capacity k d) where
+  pub standing-choice : blockedAt capacity ≤ low → high ≤ rowAt capacity 0 → LinesHeld capacity k e
+  standing-choice a b = standing-same (c .size) (same-before 0 (levelAt capacity) c (omega arith)) (same-before (lineAt capacity) (blockedAt capacity) c a)
+      (same-behind (rowAt capacity 0) (rowAt capacity k) c b) s
 
-  pub standing-behind : rowAt rooms k ≤ low → LinesHeld rooms k e
+  pub standing-behind : rowAt capacity k ≤ low → LinesHeld capacity k e
   standing-behind a =
-      standing-same (c .size) (same-before 0 (levelAt rooms) c (omega arith)) (same-before (lineAt rooms) (blockedAt rooms) c (omega arith)) (same-before (rowAt rooms 0) (rowAt rooms k) c a) s
+      standing-same (c .size) (same-before 0 (levelAt capacity) c (omega arith)) (same-before (lineAt capacity) (blockedAt capacity) c (omega arith))
+      (same-before (rowAt capacity 0) (rowAt capacity k) c a) s

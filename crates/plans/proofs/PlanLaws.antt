@@ -19,47 +19,47 @@ use Rattle.jobs.proofs.Held.{sizes, tasks-in}
 
 -- The tests of a head's numbers, in their order.
 abbrev pub outsideHead : ℕ → ℕ → ℕ → ℕ → ℕ → Bool
-outsideHead tasks processors losses best worst =
-    outside 1 255 tasks || outside 1 16 processors || outside 0 7 losses || outside 0 4294967295 best || outside 0 4294967295 worst
+outsideHead tasks processors losses lower upper =
+    outside 1 255 tasks || outside 1 16 processors || outside 0 7 losses || outside 0 4294967295 lower || outside 0 4294967295 upper
 
-module _ (tasks processors losses best worst : ℕ) where
-  pub head-tasks-low : tasks < 1 → true ≡ outsideHead tasks processors losses best worst
+module _ (tasks processors losses lower upper : ℕ) where
+  pub head-tasks-low : tasks < 1 → true ≡ outsideHead tasks processors losses lower upper
   head-tasks-low h = rw (lt-ltb _ _ h)
 
-  pub head-tasks-high : 255 < tasks → true ≡ outsideHead tasks processors losses best worst
+  pub head-tasks-high : 255 < tasks → true ≡ outsideHead tasks processors losses lower upper
   head-tasks-high h = rw (le-ltb tasks 1 (omega arith), lt-ltb _ _ h)
 
   module _ (a : 1 ≤ tasks) (b : tasks ≤ 255) where
     tasks-good : outside 1 255 tasks ≡ false
     tasks-good = not-outside 1 255 tasks a b
 
-    pub head-processors-low : processors < 1 → true ≡ outsideHead tasks processors losses best worst
+    pub head-processors-low : processors < 1 → true ≡ outsideHead tasks processors losses lower upper
     head-processors-low h = rw (tasks-good, lt-ltb processors 1 h)
 
-    pub head-processors-high : 16 < processors → true ≡ outsideHead tasks processors losses best worst
+    pub head-processors-high : 16 < processors → true ≡ outsideHead tasks processors losses lower upper
     head-processors-high h = rw (tasks-good, le-ltb processors 1 (omega arith), lt-ltb 16 processors h)
 
     module _ (c : 1 ≤ processors) (d : processors ≤ 16) where
       processors-good : outside 1 16 processors ≡ false
       processors-good = not-outside 1 16 processors c d
 
-      pub head-losses : 7 < losses → true ≡ outsideHead tasks processors losses best worst
+      pub head-losses : 7 < losses → true ≡ outsideHead tasks processors losses lower upper
       head-losses h = rw (tasks-good, processors-good, le-ltb losses 0 (omega arith), lt-ltb 7 losses h)
 
       module _ (e : losses ≤ 7) where
         losses-good : outside 0 7 losses ≡ false
         losses-good = not-outside 0 7 losses (omega arith) e
 
-        pub head-best : 4294967295 < best → true ≡ outsideHead tasks processors losses best worst
-        head-best h = rw (tasks-good, processors-good, losses-good, le-ltb best 0 (omega arith), lt-ltb 4294967295 best h)
+        pub head-lower : 4294967295 < lower → true ≡ outsideHead tasks processors losses lower upper
+        head-lower h = rw (tasks-good, processors-good, losses-good, le-ltb lower 0 (omega arith), lt-ltb 4294967295 lower h)
 
-        pub head-worst : best ≤ 4294967295 → ltb 4294967295 worst ≡ outsideHead tasks processors losses best worst
-        head-worst h = rw (tasks-good, processors-good, losses-good, not-outside 0 4294967295 best (omega arith) h, le-ltb worst 0 (omega arith))
+        pub head-upper : lower ≤ 4294967295 → ltb 4294967295 upper ≡ outsideHead tasks processors losses lower upper
+        head-upper h = rw (tasks-good, processors-good, losses-good, not-outside 0 4294967295 lower (omega arith) h, le-ltb upper 0 (omega arith))
 
 -- The rule of a head, for the job in a memory.
 module _ (mem : List ℕ) (h : PlanHead) where
   abbrev straying : Bool
-  straying = outsideHead (h .tasks) (h .processors) (h .losses) (h .best) (h .worst)
+  straying = outsideHead (h .tasks) (h .processors) (h .losses) (h .lower) (h .upper)
 
   pub head-range : true ≡ straying → 3 ≡ planHeadRule document01 (jobIn mem) h
   unfolding planHeadRule firstOf
@@ -189,40 +189,40 @@ all-reverse f (x ∷ xs) ys = all-reverse f xs (x ∷ ys) ∙ by (f x) (all f xs
 
 -- Task t has a line in the table.
 abbrev pub hasLine : ℕ → List ℕ → ℕ → Bool
-hasLine rooms mem t = not (eqb (nth mem (lineAt rooms + t)) 0)
+hasLine capacity mem t = not (eqb (nth mem (lineAt capacity + t)) 0)
 
 -- The edges up to cell k, from cell a on, are what is left to see of the predecessors of t.
 abbrev pub linedTo : ℕ → List ℕ → List ℕ → ℕ → ℕ → Bool
-linedTo rooms mem links a k = all (λ e. hasLine rooms mem (e .from)) (passed a k links)
+linedTo capacity mem links a k = all (λ e. hasLine capacity mem (e .from)) (passed a k links)
 
-module _ (rooms : ℕ) (mem links : List ℕ) (a : ℕ) where
-  pub lined-end : (k : ℕ) → k ≤ a → true ≡ linedTo rooms mem links a k
+module _ (capacity : ℕ) (mem links : List ℕ) (a : ℕ) where
+  pub lined-end : (k : ℕ) → k ≤ a → true ≡ linedTo capacity mem links a k
   unfolding all
   lined-end k h = rw (pass-none a links k h)
 
   module _ (k n : ℕ) (h : a ≤ k) (e : n ≡ k + 1) where
-    pub lined-no : nth mem (lineAt rooms + edgeIn (nth links k) .from) ≡ 0 → false ≡ linedTo rooms mem links a n
+    pub lined-no : nth mem (lineAt capacity + edgeIn (nth links k) .from) ≡ 0 → false ≡ linedTo capacity mem links a n
     unfolding all
-    lined-no z = rw (pass-more a links k n h e, eq-eqb (nth mem (lineAt rooms + edgeIn (nth links k) .from)) 0 z)
+    lined-no z = rw (pass-more a links k n h e, eq-eqb (nth mem (lineAt capacity + edgeIn (nth links k) .from)) 0 z)
 
-    pub lined-next : (nth mem (lineAt rooms + edgeIn (nth links k) .from) ≡ 0 → ⊥) → linedTo rooms mem links a k ≡ linedTo rooms mem links a n
+    pub lined-next : (nth mem (lineAt capacity + edgeIn (nth links k) .from) ≡ 0 → ⊥) → linedTo capacity mem links a k ≡ linedTo capacity mem links a n
     unfolding all
-    lined-next z = rw (pass-more a links k n h e, ne-eqb (nth mem (lineAt rooms + edgeIn (nth links k) .from)) 0 z)
+    lined-next z = rw (pass-more a links k n h e, ne-eqb (nth mem (lineAt capacity + edgeIn (nth links k) .from)) 0 z)
 
 -- The run of the edges that enter task t.
-module _ {rooms : ℕ} {mem links : List ℕ} (h : JobHeld rooms mem) (l : LinksHeld mem links) (t : ℕ) (g : t < nth mem 0) where
+module _ {capacity : ℕ} {mem links : List ℕ} (h : JobHeld capacity mem) (l : LinksHeld mem links) (t : ℕ) (g : t < nth mem 0) where
   pub entering-run : Run (linkIn (nth mem 0) t (inStartAt (nth mem 0) t) links) (linkIn (nth mem 0) t (inStartAt (nth mem 0) (t + 1)) links) links (incoming (jobIn mem) t)
   entering-run = rw (link-in (nth mem 0) t (inStartAt (nth mem 0) t) links (nth mem 2) (l .size) g, link-in (nth mem 0) t (inStartAt (nth mem 0) (t + 1)) links (nth mem 2) (l .size) g) (l .ins t g)
 
   module _ {a b : ℕ} (r : Run a b links (incoming (jobIn mem) t)) where
-    pub lined-all : linedTo rooms mem links a b ≡ all (λ e. hasLine rooms mem (e .from)) (incoming (jobIn mem) t)
+    pub lined-all : linedTo capacity mem links a b ≡ all (λ e. hasLine capacity mem (e .from)) (incoming (jobIn mem) t)
     unfolding all
     lined-all =
         rw (pass-all r b refl)
-        (all-reverse (λ e. hasLine rooms mem (e .from)) (incoming (jobIn mem) t) [] ∙ and-true (all (λ e. hasLine rooms mem (e .from)) (incoming (jobIn mem) t)))
+        (all-reverse (λ e. hasLine capacity mem (e .from)) (incoming (jobIn mem) t) [] ∙ and-true (all (λ e. hasLine capacity mem (e .from)) (incoming (jobIn mem) t)))
 
     -- A predecessor has its place in the table.
-    pub sender-below : (k : ℕ) → a ≤ k → k < b → lineAt rooms + edgeIn (nth links k) .from < length mem
+    pub sender-below : (k : ℕ) → a ≤ k → k < b → lineAt capacity + edgeIn (nth links k) .from < length mem
     unfolding incoming
     sender-below k p q =
         let w = sizes h in
@@ -230,51 +230,51 @@ module _ {rooms : ℕ} {mem links : List ℕ} (h : JobHeld rooms mem) (l : Links
         omega (arith, w .size, w .tasks-most, tasks-in mem, h .facts .from-task (edgeIn (nth links k)) m)
 
 -- The tasks of the first k lines, in order.
-module _ (rooms w : ℕ) (mem : List ℕ) where
+module _ (capacity w : ℕ) (mem : List ℕ) where
   abbrev pub tasksIn : ℕ → List ℕ
-  tasksIn k = map (λ n. n .task) (linesIn rooms w k mem)
+  tasksIn k = map (λ n. n .task) (linesIn capacity w k mem)
 
-  tasks-last : (k : ℕ) → tasksIn (suc k) ≡ tasksIn k ++ nth mem (rowAt rooms k) ∷ []
+  tasks-last : (k : ℕ) → tasksIn (suc k) ≡ tasksIn k ++ nth mem (rowAt capacity k) ∷ []
   unfolding linesIn
-  tasks-last k = map-append (λ n. n .task) (linesIn rooms w k mem) (record { task = nth mem (rowAt rooms k); replicas = rowReplicas (rowAt rooms k) w mem } ∷ [])
+  tasks-last k = map-append (λ n. n .task) (linesIn capacity w k mem) (record { task = nth mem (rowAt capacity k); replicas = rowReplicas (rowAt capacity k) w mem } ∷ [])
 
-  pub row-in-tasks : (k i : ℕ) → i < k → In (nth mem (rowAt rooms i)) (tasksIn k)
+  pub row-in-tasks : (k i : ℕ) → i < k → In (nth mem (rowAt capacity i)) (tasksIn k)
   row-in-tasks zero i h = absurd (omega arith)
   row-in-tasks (suc k) i h =
       rw (tasks-last k)
       (⊎-elim
-      (λ (e : i ≡ k). append-right (nth mem (rowAt rooms i)) (tasksIn k) (nth mem (rowAt rooms k) ∷ []) (inl (rw e)))
-      (λ l. append-left (nth mem (rowAt rooms i)) (tasksIn k) (nth mem (rowAt rooms k) ∷ []) (row-in-tasks k i l))
+      (λ (e : i ≡ k). append-right (nth mem (rowAt capacity i)) (tasksIn k) (nth mem (rowAt capacity k) ∷ []) (inl (rw e)))
+      (λ l. append-left (nth mem (rowAt capacity i)) (tasksIn k) (nth mem (rowAt capacity k) ∷ []) (row-in-tasks k i l))
       (last-or-before k i h))
 
-  pub in-tasks-row : (k t : ℕ) → In t (tasksIn k) → (i : ℕ) × (i < k) × (nth mem (rowAt rooms i) ≡ t)
+  pub in-tasks-row : (k t : ℕ) → In t (tasksIn k) → (i : ℕ) × (i < k) × (nth mem (rowAt capacity i) ≡ t)
   unfolding linesIn
   in-tasks-row zero t m = absurd m
   in-tasks-row (suc k) t m =
       ⊎-elim
       (λ a. let r = in-tasks-row k t a in (r .0, omega (arith, r .1), r .2))
       (λ b. ⊎-elim (λ e. (k, omega arith, e)) (λ n. absurd n) b)
-      (in-append t (tasksIn k) (nth mem (rowAt rooms k) ∷ []) (rw (tasks-last k) at m))
+      (in-append t (tasksIn k) (nth mem (rowAt capacity k) ∷ []) (rw (tasks-last k) at m))
 
   -- A task is in one of the lines exactly if the table has its line.
-  pub has-line : (k t : ℕ) → LinesHeld rooms k mem → t < nth mem 0 → has t (tasksIn k) ≡ hasLine rooms mem t
+  pub has-line : (k t : ℕ) → LinesHeld capacity k mem → t < nth mem 0 → has t (tasksIn k) ≡ hasLine capacity mem t
   has-line k t s h =
       ⊎-elim
-      (λ (z : nth mem (lineAt rooms + t) ≡ 0).
+      (λ (z : nth mem (lineAt capacity + t) ≡ 0).
       has-not t (tasksIn k) (λ m.
       let r = in-tasks-row k t m in
-      let e : nth mem (lineAt rooms + t) ≡ suc (r .0) = ap (λ (u : ℕ). nth mem (lineAt rooms + u)) (sym (r .2)) ∙ s .line-of (r .0) (r .1) in
-      omega arith) ∙ rw (eq-eqb (nth mem (lineAt rooms + t)) 0 z))
-      (λ (p : (i : ℕ) × (i < k) × (nth mem (lineAt rooms + t) ≡ suc i) × (nth mem (rowAt rooms i) ≡ t)).
-      let n : nth mem (lineAt rooms + t) ≡ 0 → ⊥ = λ z. omega (arith, p .2) in
-      in-has t (tasksIn k) (rw (p .3) at (row-in-tasks k (p .0) (p .1))) ∙ rw (ne-eqb (nth mem (lineAt rooms + t)) 0 n))
+      let e : nth mem (lineAt capacity + t) ≡ suc (r .0) = ap (λ (u : ℕ). nth mem (lineAt capacity + u)) (sym (r .2)) ∙ s .line-of (r .0) (r .1) in
+      omega arith) ∙ rw (eq-eqb (nth mem (lineAt capacity + t)) 0 z))
+      (λ (p : (i : ℕ) × (i < k) × (nth mem (lineAt capacity + t) ≡ suc i) × (nth mem (rowAt capacity i) ≡ t)).
+      let n : nth mem (lineAt capacity + t) ≡ 0 → ⊥ = λ z. omega (arith, p .2) in
+      in-has t (tasksIn k) (rw (p .3) at (row-in-tasks k (p .0) (p .1))) ∙ rw (ne-eqb (nth mem (lineAt capacity + t)) 0 n))
       (s .placed t h)
 
 -- The rule of a line ----------------------------------------------------------------------------------------------------
 
-module _ {rooms : ℕ} (mem : List ℕ) (a k : ℕ) (s : LinesHeld rooms k mem) where
+module _ {capacity : ℕ} (mem : List ℕ) (a k : ℕ) (s : LinesHeld capacity k mem) where
   abbrev seen : List Line
-  seen = linesIn rooms (nth mem 3 + 1) k mem
+  seen = linesIn capacity (nth mem 3 + 1) k mem
 
   pub line-strays : true ≡ strays document01 (jobIn mem) (lineIn a mem) → 3 ≡ planLineRule document01 (jobIn mem) seen (lineIn a mem)
   unfolding planLineRule firstOf
@@ -289,23 +289,23 @@ module _ {rooms : ℕ} (mem : List ℕ) (a k : ℕ) (s : LinesHeld rooms k mem) 
       task-below : nth mem a < nth mem 0
       task-below = strays-not mem a (sym e) .0
 
-      lines-of-all : all (λ d. has (d .from) (tasksIn rooms (nth mem 3 + 1) mem k)) (incoming (jobIn mem) (nth mem a)) ≡ all (λ d. hasLine rooms mem (d .from)) (incoming (jobIn mem) (nth mem a))
+      lines-of-all : all (λ d. has (d .from) (tasksIn capacity (nth mem 3 + 1) mem k)) (incoming (jobIn mem) (nth mem a)) ≡ all (λ d. hasLine capacity mem (d .from)) (incoming (jobIn mem) (nth mem a))
       unfolding incoming
       lines-of-all =
-          all-same (λ d. has (d .from) (tasksIn rooms (nth mem 3 + 1) mem k)) (λ d. hasLine rooms mem (d .from)) (incoming (jobIn mem) (nth mem a))
+          all-same (λ d. has (d .from) (tasksIn capacity (nth mem 3 + 1) mem k)) (λ d. hasLine capacity mem (d .from)) (incoming (jobIn mem) (nth mem a))
           (λ d i.
           let (m, _) = in-keep (λ d. eqb (d .to) (nth mem a)) d (jobIn mem .edges) i in
-          has-line rooms (nth mem 3 + 1) mem k (d .from) s (rw (tasks-in mem) at (s .job .facts .from-task d m)))
+          has-line capacity (nth mem 3 + 1) mem k (d .from) s (rw (tasks-in mem) at (s .job .facts .from-task d m)))
 
-      pub line-again : (nth mem (lineAt rooms + nth mem a) ≡ 0 → ⊥) → 10 ≡ planLineRule document01 (jobIn mem) seen (lineIn a mem)
+      pub line-again : (nth mem (lineAt capacity + nth mem a) ≡ 0 → ⊥) → 10 ≡ planLineRule document01 (jobIn mem) seen (lineIn a mem)
       unfolding planLineRule firstOf
-      line-again n = rw (← e, ← f, has-line rooms (nth mem 3 + 1) mem k (nth mem a) s task-below, ne-eqb (nth mem (lineAt rooms + nth mem a)) 0 n)
+      line-again n = rw (← e, ← f, has-line capacity (nth mem 3 + 1) mem k (nth mem a) s task-below, ne-eqb (nth mem (lineAt capacity + nth mem a)) 0 n)
 
-      module _ (z : nth mem (lineAt rooms + nth mem a) ≡ 0) where
-        pub line-unfed : false ≡ all (λ d. hasLine rooms mem (d .from)) (incoming (jobIn mem) (nth mem a)) → 10 ≡ planLineRule document01 (jobIn mem) seen (lineIn a mem)
+      module _ (z : nth mem (lineAt capacity + nth mem a) ≡ 0) where
+        pub predecessor-missing : false ≡ all (λ d. hasLine capacity mem (d .from)) (incoming (jobIn mem) (nth mem a)) → 10 ≡ planLineRule document01 (jobIn mem) seen (lineIn a mem)
         unfolding planLineRule firstOf
-        line-unfed g = rw (← e, ← f, has-line rooms (nth mem 3 + 1) mem k (nth mem a) s task-below, eq-eqb (nth mem (lineAt rooms + nth mem a)) 0 z, lines-of-all, ← g)
+        predecessor-missing g = rw (← e, ← f, has-line capacity (nth mem 3 + 1) mem k (nth mem a) s task-below, eq-eqb (nth mem (lineAt capacity + nth mem a)) 0 z, lines-of-all, ← g)
 
-        pub line-good : true ≡ all (λ d. hasLine rooms mem (d .from)) (incoming (jobIn mem) (nth mem a)) → 0 ≡ planLineRule document01 (jobIn mem) seen (lineIn a mem)
+        pub line-good : true ≡ all (λ d. hasLine capacity mem (d .from)) (incoming (jobIn mem) (nth mem a)) → 0 ≡ planLineRule document01 (jobIn mem) seen (lineIn a mem)
         unfolding planLineRule firstOf
-        line-good g = rw (← e, ← f, has-line rooms (nth mem 3 + 1) mem k (nth mem a) s task-below, eq-eqb (nth mem (lineAt rooms + nth mem a)) 0 z, lines-of-all, ← g)
+        line-good g = rw (← e, ← f, has-line capacity (nth mem 3 + 1) mem k (nth mem a) s task-below, eq-eqb (nth mem (lineAt capacity + nth mem a)) 0 z, lines-of-all, ← g)

@@ -8,7 +8,7 @@ use Rattle.plans.specs.Lines.{lineCells, rowEnd, rowReplicas, linesIn, R
 use Rattle.lists.specs.Kept.{KeptOutside}
 use Rattle.text.specs.declared.Step.{Step}
 use Rattle.text.specs.declared.Step.the-variants.{Next, Refused}
-use Rattle.text.specs.Told.{told, ruled}
+use Rattle.text.specs.Meaning.{stepReading, ruled}
 use Rattle.plans.specs.Loading.{lineIn, LineRead}
 use Rattle.lines.proofs.LineLaws.{ruled-bad, ruled-no, ruled-yes, lines-end, lines-no, lines-next}
 use Rattle.lists.proofs.Counting.{equal-or-not, last-or-before}
@@ -18,16 +18,16 @@ use Rattle.plans.proofs.Lines.{lines-same, row-held-same, standing-behi
 
 -- The table of lines, emptied -------------------------------------------------------------------------------------------
 
-pub cleared-more : (rooms : ℕ) (d : List ℕ) (t : ℕ) → lineAt rooms + t < length d → ((u : ℕ) → u < t → nth d (lineAt rooms + u) ≡ 0) → (u : ℕ) → u < t + 1
-    → nth (set d (lineAt rooms + t) 0) (lineAt rooms + u) ≡ 0
-cleared-more rooms d t l h u g =
+pub cleared-more : (capacity : ℕ) (d : List ℕ) (t : ℕ) → lineAt capacity + t < length d → ((u : ℕ) → u < t → nth d (lineAt capacity + u) ≡ 0) → (u : ℕ) → u < t + 1
+    → nth (set d (lineAt capacity + t) 0) (lineAt capacity + u) ≡ 0
+cleared-more capacity d t l h u g =
     ⊎-elim
-    (λ (e : u ≡ t). rw e (getD-set-same d (lineAt rooms + t) 0 0 l))
-    (λ b. getD-set-other d (lineAt rooms + t) (lineAt rooms + u) 0 0 (λ e. omega arith) ∙ h u b)
+    (λ (e : u ≡ t). rw e (getD-set-same d (lineAt capacity + t) 0 0 l))
+    (λ b. getD-set-other d (lineAt capacity + t) (lineAt capacity + u) 0 0 (λ e. omega arith) ∙ h u b)
     (last-or-before t u (omega arith))
 
 -- No line yet.
-pub standing-none : {rooms : ℕ} {d : List ℕ} → JobHeld rooms d → ((t : ℕ) → t < 8 * rooms → nth d (lineAt rooms + t) ≡ 0) → LinesHeld rooms 0 d
+pub standing-none : {capacity : ℕ} {d : List ℕ} → JobHeld capacity d → ((t : ℕ) → t < 8 * capacity → nth d (lineAt capacity + t) ≡ 0) → LinesHeld capacity 0 d
 standing-none h z =
     let w = sizes h in
     record {
@@ -40,71 +40,71 @@ standing-none h z =
     }
 
 -- The line of row k, of a task, gets its place in the table.
-module _ {rooms k : ℕ} {d : List ℕ} (s : LinesHeld rooms k d) (b : k < nth d 0) (task : ℕ) (here : nth d (rowAt rooms k) ≡ task) (t : task < nth d 0)
-    (z : nth d (lineAt rooms + task) ≡ 0) (r : RowHeld (rowAt rooms k) d) where
+module _ {capacity k : ℕ} {d : List ℕ} (s : LinesHeld capacity k d) (b : k < nth d 0) (task : ℕ) (here : nth d (rowAt capacity k) ≡ task) (t : task < nth d 0)
+    (z : nth d (lineAt capacity + task) ≡ 0) (r : RowHeld (rowAt capacity k) d) where
   abbrev e : List ℕ
-  e = set d (lineAt rooms + task) (suc k)
+  e = set d (lineAt capacity + task) (suc k)
 
-  w : Sizes rooms d
+  w : Sizes capacity d
   w = sizes (s .job)
 
-  other : (i : ℕ) → (i ≡ lineAt rooms + task → ⊥) → nth e i ≡ nth d i
-  other i n = getD-set-other d (lineAt rooms + task) i (suc k) 0 n
+  other : (i : ℕ) → (i ≡ lineAt capacity + task → ⊥) → nth e i ≡ nth d i
+  other i n = getD-set-other d (lineAt capacity + task) i (suc k) 0 n
 
-  new : nth e (lineAt rooms + task) ≡ suc k
-  new = getD-set-same d (lineAt rooms + task) (suc k) 0 (omega (arith, w))
+  new : nth e (lineAt capacity + task) ≡ suc k
+  new = getD-set-same d (lineAt capacity + task) (suc k) 0 (omega (arith, w))
 
-  same-job : Same 0 (levelAt rooms) d e
+  same-job : Same 0 (levelAt capacity) d e
   same-job = record { cell = λ i p q. other i (λ f. omega arith) }
 
-  row-cell : (i : ℕ) → nth e (rowAt rooms i) ≡ nth d (rowAt rooms i)
-  row-cell i = other (rowAt rooms i) (λ f. omega (arith, w))
+  row-cell : (i : ℕ) → nth e (rowAt capacity i) ≡ nth d (rowAt capacity i)
+  row-cell i = other (rowAt capacity i) (λ f. omega (arith, w))
 
-  line-cell : (u : ℕ) → (u ≡ task → ⊥) → nth e (lineAt rooms + u) ≡ nth d (lineAt rooms + u)
-  line-cell u n = other (lineAt rooms + u) (λ f. n (omega arith))
+  line-cell : (u : ℕ) → (u ≡ task → ⊥) → nth e (lineAt capacity + u) ≡ nth d (lineAt capacity + u)
+  line-cell u n = other (lineAt capacity + u) (λ f. n (omega arith))
 
-  same-rows : (i : ℕ) → Same (rowAt rooms i) (rowEnd (rowAt rooms i)) d e
+  same-rows : (i : ℕ) → Same (rowAt capacity i) (rowEnd (rowAt capacity i)) d e
   same-rows i = record { cell = λ x p q. other x (λ f. omega (arith, w)) }
 
   tasks-same : nth e 0 ≡ nth d 0
   tasks-same = same-job .cell 0 (omega arith) (omega arith)
 
-  of-task : (i : ℕ) → i < suc k → nth d (rowAt rooms i) < nth d 0
+  of-task : (i : ℕ) → i < suc k → nth d (rowAt capacity i) < nth d 0
   of-task i h = ⊎-elim (λ (q : i ≡ k). rw (q, here) t) (λ l. s .task-of i l) (last-or-before k i h)
 
-  of-line : (i : ℕ) → i < suc k → nth e (lineAt rooms + nth d (rowAt rooms i)) ≡ suc i
+  of-line : (i : ℕ) → i < suc k → nth e (lineAt capacity + nth d (rowAt capacity i)) ≡ suc i
   of-line i h =
       ⊎-elim
       (λ (q : i ≡ k). rw (q, here) new)
       (λ l.
-      let n : nth d (rowAt rooms i) ≡ task → ⊥ = λ (q : nth d (rowAt rooms i) ≡ task). let x : nth d (lineAt rooms + task) ≡ suc i = rw q at (s .line-of i l) in omega arith in
-      line-cell (nth d (rowAt rooms i)) n ∙ s .line-of i l)
+      let n : nth d (rowAt capacity i) ≡ task → ⊥ = λ (q : nth d (rowAt capacity i) ≡ task). let x : nth d (lineAt capacity + task) ≡ suc i = rw q at (s .line-of i l) in omega arith in
+      line-cell (nth d (rowAt capacity i)) n ∙ s .line-of i l)
       (last-or-before k i h)
 
-  of-place : (u : ℕ) → u < nth d 0 → (nth e (lineAt rooms + u) ≡ 0) ⊎ ((i : ℕ) × (i < suc k) × (nth e (lineAt rooms + u) ≡ suc i) × (nth e (rowAt rooms i) ≡ u))
+  of-place : (u : ℕ) → u < nth d 0 → (nth e (lineAt capacity + u) ≡ 0) ⊎ ((i : ℕ) × (i < suc k) × (nth e (lineAt capacity + u) ≡ suc i) × (nth e (rowAt capacity i) ≡ u))
   of-place u h =
       ⊎-elim
       (λ (q : u ≡ task). inr (k, omega arith, rw q new, row-cell k ∙ here ∙ sym q))
       (λ n.
       ⊎-elim
       (λ x. inl (line-cell u n ∙ x))
-      (λ (x : (i : ℕ) × (i < k) × (nth d (lineAt rooms + u) ≡ suc i) × (nth d (rowAt rooms i) ≡ u)). inr (x .0, omega (arith, x .1), line-cell u n ∙ x .2, row-cell (x .0) ∙ x .3))
+      (λ (x : (i : ℕ) × (i < k) × (nth d (lineAt capacity + u) ≡ suc i) × (nth d (rowAt capacity i) ≡ u)). inr (x .0, omega (arith, x .1), line-cell u n ∙ x .2, row-cell (x .0) ∙ x .3))
       (s .placed u h))
       (equal-or-not u task)
 
-  of-row : (i : ℕ) → i < suc k → RowHeld (rowAt rooms i) d
+  of-row : (i : ℕ) → i < suc k → RowHeld (rowAt capacity i) d
   of-row i h = ⊎-elim (λ (q : i ≡ k). rw q r) (λ l. s .row i l) (last-or-before k i h)
 
-  pub standing-more : LinesHeld rooms (suc k) (set d (lineAt rooms + task) (suc k))
+  pub standing-more : LinesHeld capacity (suc k) (set d (lineAt capacity + task) (suc k))
   standing-more =
-      let c : KeptOutside (lineAt rooms) (blockedAt rooms) d e = kept-set (lineAt rooms + task) (suc k) kept-all (omega arith) (omega (arith, w)) in
+      let c : KeptOutside (lineAt capacity) (blockedAt capacity) d e = kept-set (lineAt capacity + task) (suc k) kept-all (omega arith) (omega (arith, w)) in
       record {
         job = held-kept (s .job) c (omega arith);
         count = rw tasks-same (omega arith);
         task-of = λ i h. rw (row-cell i, tasks-same) (of-task i h);
         line-of = λ i h. rw (row-cell i) (of-line i h);
         placed = λ u h. of-place u (rw tasks-same at h);
-        row = λ i h. row-held-same (rowAt rooms i) w (same-part 0 4 same-job (omega arith) (omega arith)) (same-rows i) (of-row i h);
+        row = λ i h. row-held-same (rowAt capacity i) w (same-part 0 4 same-job (omega arith) (omega arith)) (same-rows i) (of-row i h);
       }
 
 -- A row that was read ---------------------------------------------------------------------------------------------------
@@ -182,10 +182,10 @@ unfolding planLine
 line-read d s vs r n q e = let m : 1 + 3 * (1 + jobIn d .losses) ≡ n = omega (arith, losses-in d) in rw (m, e)
 
 -- One line more, after the lines in `seen`.
-lines-more : (rooms : ℕ) (d mem : List ℕ) (k a : ℕ) (seen : List Line) → a ≡ rowAt rooms k → linesIn rooms (nth d 3 + 1) k mem ≡ seen → nth mem 3 ≡ nth d 3
-    → linesIn rooms (nth d 3 + 1) (suc k) mem ≡ seen ++ lineIn a mem ∷ []
+lines-more : (capacity : ℕ) (d mem : List ℕ) (k a : ℕ) (seen : List Line) → a ≡ rowAt capacity k → linesIn capacity (nth d 3 + 1) k mem ≡ seen → nth mem 3 ≡ nth d 3
+    → linesIn capacity (nth d 3 + 1) (suc k) mem ≡ seen ++ lineIn a mem ∷ []
 unfolding linesIn
-lines-more rooms d mem k a seen z e l = rw (e, l, z)
+lines-more capacity d mem k a seen z e l = rw (e, l, z)
 
 -- What a T line of the job in d has to be.
 abbrev formOf : List ℕ → Reader Line
@@ -199,22 +199,22 @@ refused-no : {A : Type 0} (x n : ℕ) → Refused x ≡ Next n → A
 refused-no x n e = let z : _≡_ {A = ℕ} 0 1 = cc in absurd (omega (arith, z))
 
 -- The row of one line more ends within the memory.
-pub row-within : {rooms k : ℕ} {d : List ℕ} → LinesHeld rooms k d → k < nth d 0 → rowEnd (rowAt rooms k) ≤ length d
+pub row-within : {capacity k : ℕ} {d : List ℕ} → LinesHeld capacity k d → k < nth d 0 → rowEnd (rowAt capacity k) ≤ length d
 row-within u h = omega (arith, sizes (u .job), h)
 
-pub row-numbers : {rooms k : ℕ} {d : List ℕ} → LinesHeld rooms k d → lineCells d ≤ rowEnd 0
+pub row-numbers : {capacity k : ℕ} {d : List ℕ} → LinesHeld capacity k d → lineCells d ≤ rowEnd 0
 row-numbers u = omega (arith, sizes (u .job) .losses-most)
 
 -- k lines stand in d, and the numbers of one more, n, were read from the text s into its row, at a.
-module _ {rooms k : ℕ} {d : List ℕ} (u : LinesHeld rooms k d) (h : k < nth d 0) (a n : ℕ) (z : a ≡ rowAt rooms k) (q : n ≡ lineCells d) (ys : List ℕ)
+module _ {capacity k : ℕ} {d : List ℕ} (u : LinesHeld capacity k d) (h : k < nth d 0) (a n : ℕ) (z : a ≡ rowAt capacity k) (q : n ≡ lineCells d) (ys : List ℕ)
     (l : length ys ≡ length (midOf a (a + n - a) d)) where
   abbrev seen : List Line
-  seen = linesIn rooms (nth d 3 + 1) k d
+  seen = linesIn capacity (nth d 3 + 1) k d
 
   abbrev filled : List ℕ
   filled = putMid a (a + n - a) d ys
 
-  limits : Sizes rooms d
+  limits : Sizes capacity d
   limits = sizes (u .job)
 
   fits : a + n ≤ rowEnd a
@@ -232,17 +232,17 @@ module _ {rooms k : ℕ} {d : List ℕ} (u : LinesHeld rooms k d) (h : k < nth d
   row-kept : KeptOutside a (a + n) d filled
   row-kept = lent-kept a (a + n) d ys (omega arith) within width
 
-  all-kept : KeptOutside (lineAt rooms) (largestDelayAt rooms) d filled
-  all-kept = kept-wider (lineAt rooms) (largestDelayAt rooms) row-kept (omega (arith, z)) (omega (arith, limits, fits, h, z))
+  all-kept : KeptOutside (lineAt capacity) (largestDelayAt capacity) d filled
+  all-kept = kept-wider (lineAt capacity) (largestDelayAt capacity) row-kept (omega (arith, z)) (omega (arith, limits, fits, h, z))
 
-  pub line-standing : LinesHeld rooms k (putMid a (a + n - a) d ys)
+  pub line-standing : LinesHeld capacity k (putMid a (a + n - a) d ys)
   line-standing = standing-behind row-kept u (omega (arith, z))
 
   pub line-links : {links : List ℕ} → LinksHeld d links → LinksHeld (putMid a (a + n - a) d ys) links
   line-links = links-kept (u .job) row-kept (omega (arith, z))
 
   -- The task that stands in the row, if the job has it, has its place in the memory.
-  pub line-place : nth filled a < nth filled 0 → lineAt rooms + nth filled a < length filled
+  pub line-place : nth filled a < nth filled 0 → lineAt capacity + nth filled a < length filled
   line-place t = omega (arith, sizes (line-standing .job), t)
 
   job-filled : jobIn filled ≡ jobIn d
@@ -251,11 +251,11 @@ module _ {rooms k : ℕ} {d : List ℕ} (u : LinesHeld rooms k d) (h : k < nth d
   losses-filled : nth filled 3 ≡ nth d 3
   losses-filled = all-kept .before 3 (omega arith)
 
-  lines-filled : linesIn rooms (nth d 3 + 1) k filled ≡ seen
-  lines-filled = lines-same d filled rooms (nth d 3 + 1) k (omega (arith, limits)) (same-before (rowAt rooms 0) (rowAt rooms k) row-kept (omega (arith, z)))
+  lines-filled : linesIn capacity (nth d 3 + 1) k filled ≡ seen
+  lines-filled = lines-same d filled capacity (nth d 3 + 1) k (omega (arith, limits)) (same-before (rowAt capacity 0) (rowAt capacity k) row-kept (omega (arith, z)))
 
   module _ (s : List ℕ) (at : ℕ) where
-    pub read-bad : (x : ℕ) → line document01 (bytes "T,") n (drop at s) ≡ refused x → LineRead rooms k s at d filled (Refused x)
+    pub read-bad : (x : ℕ) → line document01 (bytes "T,") n (drop at s) ≡ refused x → LineRead capacity k s at d filled (Refused x)
     read-bad x e =
         record {
           kept = all-kept;
@@ -267,7 +267,7 @@ module _ {rooms k : ℕ} {d : List ℕ} (u : LinesHeld rooms k d) (h : k < nth d
 
     -- The line was read, and r is the place after it; x is what its rule says.
     module _ (r : ℕ) (e : line document01 (bytes "T,") n (drop at s) ≡ found (take n ys) (drop r s)) (x : ℕ)
-        (f : x ≡ planLineRule document01 (jobIn filled) (linesIn rooms (nth filled 3 + 1) k filled) (lineIn a filled)) where
+        (f : x ≡ planLineRule document01 (jobIn filled) (linesIn capacity (nth filled 3 + 1) k filled) (lineIn a filled)) where
       read-line : formOf d (drop at s) ≡ found (lineIn a filled) (drop r s)
       read-line =
           let m : length ys ≡ n = omega (arith, width) in
@@ -276,11 +276,11 @@ module _ {rooms k : ℕ} {d : List ℕ} (u : LinesHeld rooms k d) (h : k < nth d
 
       by-rule : x ≡ ruleOf d seen (lineIn a filled)
       by-rule =
-          f ∙ ap (λ (j : Job). planLineRule document01 j (linesIn rooms (nth filled 3 + 1) k filled) (lineIn a filled)) job-filled
-          ∙ ap (λ (z : ℕ). ruleOf d (linesIn rooms (z + 1) k filled) (lineIn a filled)) losses-filled
+          f ∙ ap (λ (j : Job). planLineRule document01 j (linesIn capacity (nth filled 3 + 1) k filled) (lineIn a filled)) job-filled
+          ∙ ap (λ (z : ℕ). ruleOf d (linesIn capacity (z + 1) k filled) (lineIn a filled)) losses-filled
           ∙ ap (λ (ns : List Line). ruleOf d ns (lineIn a filled)) lines-filled
 
-      pub read-no : 0 < x → LineRead rooms k s at d filled (Refused x)
+      pub read-no : 0 < x → LineRead capacity k s at d filled (Refused x)
       read-no g =
           record {
             kept = all-kept;
@@ -290,22 +290,23 @@ module _ {rooms k : ℕ} {d : List ℕ} (u : LinesHeld rooms k d) (h : k < nth d
             more = λ m f. refused-no x m f;
           }
 
-      pub read-yes : x ≤ 0 → (nth filled a < nth filled 0) × (nth filled (lineAt rooms + nth filled a) ≡ 0) × RowHeld a filled
-          → LineRead rooms k s at d (set filled (lineAt rooms + nth filled a) (k + 1)) (Next r)
+      pub read-yes : x ≤ 0 → (nth filled a < nth filled 0) × (nth filled (lineAt capacity + nth filled a) ≡ 0) × RowHeld a filled
+          → LineRead capacity k s at d (set filled (lineAt capacity + nth filled a) (k + 1)) (Next r)
       read-yes g (b, v, t) =
-          let last = set filled (lineAt rooms + nth filled a) (suc k) in
-          let c : KeptOutside (lineAt rooms) (blockedAt rooms) filled last = kept-set (lineAt rooms + nth filled a) (suc k) kept-all (omega arith) (omega (arith, sizes (line-standing .job), b)) in
+          let last = set filled (lineAt capacity + nth filled a) (suc k) in
+          let c : KeptOutside (lineAt capacity) (blockedAt capacity) filled last = kept-set (lineAt capacity + nth filled a)
+          (suc k) kept-all (omega arith) (omega (arith, sizes (line-standing .job), b)) in
           let w : nth d 3 + 1 ≤ 8 = omega (arith, limits) in
           rw (add-one k)
           (record {
-            kept = kept-then all-kept (kept-wider (lineAt rooms) (largestDelayAt rooms) c (omega arith) (omega arith));
+            kept = kept-then all-kept (kept-wider (lineAt capacity) (largestDelayAt capacity) c (omega arith) (omega arith));
             latest = lineIn a filled;
             answer = ruled-yes (formOf d) (ruleOf d) seen (drop at s) (lineIn a filled) (drop r s) read-line x by-rule g;
             standing = λ m f. standing-more line-standing (omega (arith, all-kept .before 0 (omega arith), h)) (nth filled a) (ap (nth filled) (sym z)) b v
                 (subst (λ (i : ℕ). RowHeld i filled) z t);
             more = λ m f.
-                lines-same filled last rooms (nth d 3 + 1) (suc k) w (same-behind (rowAt rooms 0) (rowAt rooms (suc k)) c (omega arith))
-                ∙ lines-more rooms d filled k a seen z lines-filled losses-filled;
+                lines-same filled last capacity (nth d 3 + 1) (suc k) w (same-behind (rowAt capacity 0) (rowAt capacity (suc k)) c (omega arith))
+                ∙ lines-more capacity d filled k a seen z lines-filled losses-filled;
           })
 
 -- Line by line ----------------------------------------------------------------------------------------------------------
@@ -315,17 +316,17 @@ abbrev pub allLines : List ℕ → List ℕ → ℕ → Reading (List Line)
 allLines d s at = lines (planLine document01 (jobIn d)) (planLineRule document01 (jobIn d)) (nth d 0) [] (drop at s)
 
 -- k lines were read, up to the place p of the text s, into the memory d.
-pub record LinesUpTo (rooms : ℕ) (s : List ℕ) (at : ℕ) (d : List ℕ) (k p : ℕ) (mem : List ℕ) : Type 0 where
-  pub job : JobHeld rooms d
-  pub kept : KeptOutside (lineAt rooms) (largestDelayAt rooms) d mem
-  pub standing : LinesHeld rooms k mem
-  pub rest : lines (planLine document01 (jobIn d)) (planLineRule document01 (jobIn d)) (nth d 0 - k) (linesIn rooms (nth d 3 + 1) k mem) (drop p s) ≡ allLines d s at
+pub record LinesUpTo (capacity : ℕ) (s : List ℕ) (at : ℕ) (d : List ℕ) (k p : ℕ) (mem : List ℕ) : Type 0 where
+  pub job : JobHeld capacity d
+  pub kept : KeptOutside (lineAt capacity) (largestDelayAt capacity) d mem
+  pub standing : LinesHeld capacity k mem
+  pub rest : lines (planLine document01 (jobIn d)) (planLineRule document01 (jobIn d)) (nth d 0 - k) (linesIn capacity (nth d 3 + 1) k mem) (drop p s) ≡ allLines d s at
 
-pub upto-none : {rooms : ℕ} (s : List ℕ) (at : ℕ) (d : List ℕ) → LinesHeld rooms 0 d → LinesUpTo rooms s at d 0 at d
+pub upto-none : {capacity : ℕ} (s : List ℕ) (at : ℕ) (d : List ℕ) → LinesHeld capacity 0 d → LinesUpTo capacity s at d 0 at d
 unfolding linesIn
 upto-none s at d h = record { job = h .job; kept = kept-all; standing = h; rest = rw sub-zero }
 
-module _ {rooms : ℕ} {s : List ℕ} {at : ℕ} {d : List ℕ} {k p : ℕ} {mem : List ℕ} (u : LinesUpTo rooms s at d k p mem) where
+module _ {capacity : ℕ} {s : List ℕ} {at : ℕ} {d : List ℕ} {k p : ℕ} {mem : List ℕ} (u : LinesUpTo capacity s at d k p mem) where
   pub tasks-kept : nth mem 0 ≡ nth d 0
   tasks-kept = u .kept .before 0 (omega arith)
 
@@ -333,32 +334,33 @@ module _ {rooms : ℕ} {s : List ℕ} {at : ℕ} {d : List ℕ} {k p : ℕ} {mem
   losses-kept = u .kept .before 3 (omega arith)
 
   -- All lines were read.
-  pub upto-end : nth d 0 ≤ k → (found (linesIn rooms (nth mem 3 + 1) (nth mem 0) mem) (drop p s) ≡ allLines d s at) × LinesHeld rooms (nth mem 0) mem
+  pub upto-end : nth d 0 ≤ k → (found (linesIn capacity (nth mem 3 + 1) (nth mem 0) mem) (drop p s) ≡ allLines d s at) × LinesHeld capacity (nth mem 0) mem
   upto-end h =
       let e : nth mem 0 ≡ k = omega (arith, u .standing .count, tasks-kept, h) in
-      (rw (e, losses-kept) (lines-end (formOf d) (ruleOf d) (nth d 0) k (linesIn rooms (nth d 3 + 1) k mem) (drop p s) h ∙ u .rest), rw e (u .standing))
+      (rw (e, losses-kept) (lines-end (formOf d) (ruleOf d) (nth d 0) k (linesIn capacity (nth d 3 + 1) k mem) (drop p s) h ∙ u .rest), rw e (u .standing))
 
   -- One line more was read, with the answer r.
-  module _ (h : k < nth d 0) (new : List ℕ) (r : Step) (v : LineRead rooms k s p mem new r) where
-    answer-is : told s (v .latest) r ≡ ruled (formOf d) (ruleOf d) (linesIn rooms (nth d 3 + 1) k mem) (drop p s)
+  module _ (h : k < nth d 0) (new : List ℕ) (r : Step) (v : LineRead capacity k s p mem new r) where
+    answer-is : stepReading s (v .latest) r ≡ ruled (formOf d) (ruleOf d) (linesIn capacity (nth d 3 + 1) k mem) (drop p s)
     answer-is =
         v .answer
-        ∙ ap (λ (j : Job). ruled (planLine document01 j) (planLineRule document01 j) (linesIn rooms (nth mem 3 + 1) k mem) (drop p s)) (job-kept (u .job) (u .kept) (omega arith))
-        ∙ ap (λ (z : ℕ). ruled (formOf d) (ruleOf d) (linesIn rooms (z + 1) k mem) (drop p s)) losses-kept
+        ∙ ap (λ (j : Job). ruled (planLine document01 j) (planLineRule document01 j) (linesIn capacity (nth mem 3 + 1) k mem) (drop p s)) (job-kept (u .job) (u .kept) (omega arith))
+        ∙ ap (λ (z : ℕ). ruled (formOf d) (ruleOf d) (linesIn capacity (z + 1) k mem) (drop p s)) losses-kept
 
-    pub upto-kept : KeptOutside (lineAt rooms) (largestDelayAt rooms) d new
+    pub upto-kept : KeptOutside (lineAt capacity) (largestDelayAt capacity) d new
     upto-kept = kept-then (u .kept) (v .kept)
 
     pub upto-no : (x : ℕ) → r ≡ Refused x → refused x ≡ allLines d s at
-    upto-no x e = lines-no (formOf d) (ruleOf d) (nth d 0) k (linesIn rooms (nth d 3 + 1) k mem) (drop p s) h x (sym answer-is ∙ ap (told s (v .latest)) e) ∙ u .rest
+    upto-no x e = lines-no (formOf d) (ruleOf d) (nth d 0) k (linesIn capacity (nth d 3 + 1) k mem) (drop p s) h x (sym answer-is ∙ ap (stepReading s (v .latest)) e) ∙ u .rest
 
-    pub upto-next : (n : ℕ) → r ≡ Next n → LinesUpTo rooms s at d (k + 1) n new
+    pub upto-next : (n : ℕ) → r ≡ Next n → LinesUpTo capacity s at d (k + 1) n new
     upto-next n e =
-        let more : linesIn rooms (nth d 3 + 1) (k + 1) new ≡ linesIn rooms (nth d 3 + 1) k mem ++ v .latest ∷ [] =
+        let more : linesIn capacity (nth d 3 + 1) (k + 1) new ≡ linesIn capacity (nth d 3 + 1) k mem ++ v .latest ∷ [] =
         rw (add-one k, ← losses-kept) (v .more n e) in
         record {
           job = u .job;
           kept = upto-kept;
           standing = rw (add-one k) (v .standing n e);
-          rest = rw more (lines-next (formOf d) (ruleOf d) (nth d 0) k (linesIn rooms (nth d 3 + 1) k mem) (drop p s) h (v .latest) (drop n s) (sym answer-is ∙ ap (told s (v .latest)) e) ∙ u .rest);
+          rest = rw more (lines-next (formOf d) (ruleOf d) (nth d 0) k (linesIn capacity (nth d 3 + 1) k mem) (drop p s) h (v .latest) (drop n s) (sym answer-is ∙ ap (stepReading s (v .latest)) e)
+              ∙ u .rest);
         }

@@ -31,8 +31,8 @@ rowOutcomes late a (suc c) mem =
 
 -- The replicas of the first k lines, w in each, newest first.
 unfoldable pub placedIn : ℕ → Bool → ℕ → ℕ → List ℕ → List Outcome
-placedIn rooms late w zero mem = []
-placedIn rooms late w (suc k) mem = rowOutcomes late (rowAt rooms k) w mem ++ placedIn rooms late w k mem
+placedIn capacity late w zero mem = []
+placedIn capacity late w (suc k) mem = rowOutcomes late (rowAt capacity k) w mem ++ placedIn capacity late w k mem
 
 -- Replica c of the line at a, as a plan's line has it.
 abbrev pub replicaIn : ℕ → ℕ → List ℕ → Replica
@@ -49,12 +49,12 @@ rowReplicas a (suc c) mem = rowReplicas a c mem ++ replicaIn a c mem ∷ []
 
 -- The first k lines of a plan, w replicas in each.
 unfoldable pub linesIn : ℕ → ℕ → ℕ → List ℕ → List Line
-linesIn rooms w zero mem = []
-linesIn rooms w (suc k) mem = linesIn rooms w k mem ++ record { task = nth mem (rowAt rooms k); replicas = rowReplicas (rowAt rooms k) w mem } ∷ []
+linesIn capacity w zero mem = []
+linesIn capacity w (suc k) mem = linesIn capacity w k mem ++ record { task = nth mem (rowAt capacity k); replicas = rowReplicas (rowAt capacity k) w mem } ∷ []
 
 -- The line of a task that is placed.
 abbrev pub rowOf : ℕ → ℕ → List ℕ → ℕ
-rowOf rooms t mem = rowAt rooms (nth mem (lineAt rooms + t) - 1)
+rowOf capacity t mem = rowAt capacity (nth mem (lineAt capacity + t) - 1)
 
 -- The line at a has processors of the job and ticks of a plan's range.
 pub record RowHeld (a : ℕ) (mem : List ℕ) : Type 0 where
@@ -63,10 +63,10 @@ pub record RowHeld (a : ℕ) (mem : List ℕ) : Type 0 where
   pub late-of : (c : ℕ) → c < nth mem 3 + 1 → Small (document01 .tick) (nth mem (lateAt a c))
 
 -- A job, and k lines of a plan, each task in one line at the most.
-pub record LinesHeld (rooms k : ℕ) (mem : List ℕ) : Type 0 where
-  pub job : JobHeld rooms mem
+pub record LinesHeld (capacity k : ℕ) (mem : List ℕ) : Type 0 where
+  pub job : JobHeld capacity mem
   pub count : k ≤ nth mem 0
-  pub task-of : (i : ℕ) → i < k → nth mem (rowAt rooms i) < nth mem 0
-  pub line-of : (i : ℕ) → i < k → nth mem (lineAt rooms + nth mem (rowAt rooms i)) ≡ suc i
-  pub placed : (t : ℕ) → t < nth mem 0 → (nth mem (lineAt rooms + t) ≡ 0) ⊎ ((i : ℕ) × (i < k) × (nth mem (lineAt rooms + t) ≡ suc i) × (nth mem (rowAt rooms i) ≡ t))
-  pub row : (i : ℕ) → i < k → RowHeld (rowAt rooms i) mem
+  pub task-of : (i : ℕ) → i < k → nth mem (rowAt capacity i) < nth mem 0
+  pub line-of : (i : ℕ) → i < k → nth mem (lineAt capacity + nth mem (rowAt capacity i)) ≡ suc i
+  pub placed : (t : ℕ) → t < nth mem 0 → (nth mem (lineAt capacity + t) ≡ 0) ⊎ ((i : ℕ) × (i < k) × (nth mem (lineAt capacity + t) ≡ suc i) × (nth mem (rowAt capacity i) ≡ t))
+  pub row : (i : ℕ) → i < k → RowHeld (rowAt capacity i) mem

@@ -10,9 +10,9 @@ use Rattle.definitions.specs.Job.{Job, JobHead, readJob}
 use Rattle.definitions.specs.Plan.{Line, Plan, planLine, planLineRule, readPlan}
 use Rattle.text.specs.declared.Step.{Step}
 use Rattle.text.specs.declared.Step.the-variants.{Next}
-use Rattle.text.specs.Told.{told, stepTold, ruled}
+use Rattle.text.specs.Meaning.{stepReading, stepResult, ruled}
 use Rattle.lists.specs.Kept.{KeptOutside}
-use Rattle.heads.specs.Layout.{bestAt, worstAt, lineAt, largestDelayAt}
+use Rattle.heads.specs.Layout.{lowerAt, upperAt, lineAt, largestDelayAt}
 use Rattle.jobs.specs.Held.{jobIn, LinksHeld}
 use Rattle.jobs.specs.Loading.{jobFrom}
 use Rattle.plans.specs.Lines.{rowReplicas, linesIn, LinesHeld}
@@ -23,27 +23,27 @@ abbrev pub lineIn : ℕ → List ℕ → Line
 lineIn a mem = record { task = nth mem a; replicas = rowReplicas a (nth mem 3 + 1) mem }
 
 -- The answer r to the T line at a place of the text s, which becomes row k of the memory: the line, which then stands after the k lines before it, or the refusal.
-pub record LineRead (rooms k : ℕ) (s : List ℕ) (at : ℕ) (d mem : List ℕ) (r : Step) : Type 0 where
-  pub kept : KeptOutside (lineAt rooms) (largestDelayAt rooms) d mem
+pub record LineRead (capacity k : ℕ) (s : List ℕ) (at : ℕ) (d mem : List ℕ) (r : Step) : Type 0 where
+  pub kept : KeptOutside (lineAt capacity) (largestDelayAt capacity) d mem
   pub latest : Line
-  pub answer : told s latest r ≡ ruled (planLine document01 (jobIn d)) (planLineRule document01 (jobIn d)) (linesIn rooms (nth d 3 + 1) k d) (drop at s)
-  pub standing : (n : ℕ) → r ≡ Next n → LinesHeld rooms (suc k) mem
-  pub more : (n : ℕ) → r ≡ Next n → linesIn rooms (nth d 3 + 1) (suc k) mem ≡ linesIn rooms (nth d 3 + 1) k d ++ latest ∷ []
+  pub answer : stepReading s latest r ≡ ruled (planLine document01 (jobIn d)) (planLineRule document01 (jobIn d)) (linesIn capacity (nth d 3 + 1) k d) (drop at s)
+  pub standing : (n : ℕ) → r ≡ Next n → LinesHeld capacity (suc k) mem
+  pub more : (n : ℕ) → r ≡ Next n → linesIn capacity (nth d 3 + 1) (suc k) mem ≡ linesIn capacity (nth d 3 + 1) k d ++ latest ∷ []
 
 -- The plan in a memory: M*, M and a line for each task.
 unfoldable pub planIn : ℕ → List ℕ → Plan
-planIn rooms mem = record { best = nth mem (bestAt rooms); worst = nth mem (worstAt rooms); lines = linesIn rooms (nth mem 3 + 1) (nth mem 0) mem }
+planIn capacity mem = record { lower = nth mem (lowerAt capacity); upper = nth mem (upperAt capacity); lines = linesIn capacity (nth mem 3 + 1) (nth mem 0) mem }
 
 -- A plan of this M* and M for a job, from its T lines on.
 unfoldable pub planFrom : Job → ℕ → ℕ → List ℕ → Result Plan
-planFrom j best worst s =
+planFrom j lower upper s =
     ended
-    (next (lines (planLine document01 j) (planLineRule document01 j) (j .tasks) [] s) (λ ns. return (record { best = best; worst = worst; lines = ns })))
+    (next (lines (planLine document01 j) (planLineRule document01 j) (j .tasks) [] s) (λ ns. return (record { lower = lower; upper = upper; lines = ns })))
 
 -- The plan that was read stands in the memory, each line in its row; or the refusal.
 abbrev pub PlanLoaded : ℕ → Result Plan → List ℕ → Step → Type 0
-PlanLoaded rooms (good p) mem r = ((n : ℕ) × (stepTold r ≡ good n)) × (planIn rooms mem ≡ p) × LinesHeld rooms (nth mem 0) mem
-PlanLoaded rooms (bad n) mem r = stepTold r ≡ bad n
+PlanLoaded capacity (good p) mem r = ((n : ℕ) × (stepResult r ≡ good n)) × (planIn capacity mem ≡ p) × LinesHeld capacity (nth mem 0) mem
+PlanLoaded capacity (bad n) mem r = stepResult r ≡ bad n
 
 -- A job that was read, then a plan's text for it.
 unfoldable pub withPlan : Result Job → List ℕ → Result (Job × Plan)
@@ -55,14 +55,14 @@ readBoth job plan = withPlan (readJob document01 job) plan
 
 -- The same after the job's head, for a memory and links of so many cells.
 abbrev pub bothFrom : ℕ → ℕ → ℕ → JobHead → List ℕ → List ℕ → Result (Job × Plan)
-bothFrom rooms size links h s plan = withPlan (jobFrom rooms size links h s) plan
+bothFrom capacity size links h s plan = withPlan (jobFrom capacity size links h s) plan
 
 -- The job and the plan that were read stand in one memory, and the job's links in theirs; or the refusal.
 abbrev pub BothLoaded : ℕ → Result (Job × Plan) → List ℕ → List ℕ → Step → Type 0
-BothLoaded rooms (good (j, p)) mem links r = ((n : ℕ) × (stepTold r ≡ good n)) × (jobIn mem ≡ j) × (planIn rooms mem ≡ p) × LinesHeld rooms (nth mem 0) mem × LinksHeld mem links
-BothLoaded rooms (bad n) mem links r = stepTold r ≡ bad n
+BothLoaded capacity (good (j, p)) mem links r = ((n : ℕ) × (stepResult r ≡ good n)) × (jobIn mem ≡ j) × (planIn capacity mem ≡ p) × LinesHeld capacity (nth mem 0) mem × LinksHeld mem links
+BothLoaded capacity (bad n) mem links r = stepResult r ≡ bad n
 
 -- A plan that was read stands in a memory with its job, a line for each task.
-pub record PlanHeld (rooms : ℕ) (mem : List ℕ) : Type 0 where
-  pub standing : LinesHeld rooms (nth mem 0) mem
-  pub facts : PlanFacts document01 (jobIn mem) (planIn rooms mem)
+pub record PlanHeld (capacity : ℕ) (mem : List ℕ) : Type 0 where
+  pub standing : LinesHeld capacity (nth mem 0) mem
+  pub facts : PlanFacts document01 (jobIn mem) (planIn capacity mem)

@@ -8,7 +8,7 @@ use text::Step;
 mod plans;
 mod row;
 
-// The rest of a job's text, from `at` on, after its head, and a plan's text, into a memory of so many rooms, and the links between
+// The rest of a job's text, from `at` on, after its head, and a plan's text, into a memory of this capacity, and the links between
 // the job's edges.
 pub fn load_both(
     job: &[u8],
@@ -17,13 +17,13 @@ pub fn load_both(
     plan: &[u8],
     mem: &mut [u64],
     links: &mut [u64],
-    rooms: usize,
+    capacity: usize,
 ) -> Step
-    ensures { λ r. ⌜ (BothLoaded rooms
-        (bothFrom rooms (length (now (mem .entry))) (length (now (links .entry))) (headOf head) (drop at (now (job .entry))) (now (plan .entry))) (now (mem .exit)) (now (links .exit)) r) ⌝ }
+    ensures { λ r. ⌜ (BothLoaded capacity
+        (bothFrom capacity (length (now (mem .entry))) (length (now (links .entry))) (headOf head) (drop at (now (job .entry))) (now (plan .entry))) (now (mem .exit)) (now (links .exit)) r) ⌝ }
 {
-    match jobs::load_job(job, at, head, mem, links, rooms) {
-        Step::Next(_) => plans::load_plan(plan, mem, links, rooms),
+    match jobs::load_job(job, at, head, mem, links, capacity) {
+        Step::Next(_) => plans::load_plan(plan, mem, links, capacity),
         Step::Refused(x) => Step::Refused(x),
     }
 }

@@ -11,7 +11,7 @@ ghost use Rattle.definitions.specs.Text.{lines};
 ghost use Rattle.definitions.specs.Job.{outside, incoming};
 ghost use Rattle.definitions.specs.Plan.{processorsOf, planHeadOf, planHeadRule, planLine, planLineRule, readPlan};
 ghost use Rattle.definitions.specs.Plan as Plan;
-ghost use Rattle.text.specs.Told.{told};
+ghost use Rattle.text.specs.Meaning.{stepReading};
 ghost use Rattle.text.specs.declared.Step.the-variants.{Next};
 ghost use Rattle.heads.specs.Layout.{memorySize, lineAt, blockedAt, largestDelayAt, replicaEnd};
 ghost use Rattle.jobs.specs.Held.{jobIn, JobHeld, SomeJobHeld, LinksHeld};
@@ -19,16 +19,16 @@ ghost use Rattle.plans.specs.Lines.{rowEnd, replicaStrays, linesIn, RowH
 ghost use Rattle.lists.specs.Kept.{KeptOutside};
 ghost use Rattle.plans.specs.Loading.{lineIn, LineRead, planFrom, PlanLoaded};
 use crate::row;
-use heads::layout::BEST;
 use heads::layout::LINE;
-use heads::layout::WORST;
+use heads::layout::LOWER;
+use heads::layout::UPPER;
 use text::Step;
 
 const LAST_TICK: u64 = 4294967295;
 
 // Some number of a plan's head is outside its range.
-fn head_strays(tasks: u64, processors: u64, losses: u64, best: u64, worst: u64) -> bool
-    ensures { λ r. ⌜ r ≡ (outside 1 255 tasks || outside 1 16 processors || outside 0 7 losses || outside 0 4294967295 best || outside 0 4294967295 worst) ⌝ }
+fn head_strays(tasks: u64, processors: u64, losses: u64, lower: u64, upper: u64) -> bool
+    ensures { λ r. ⌜ r ≡ (outside 1 255 tasks || outside 1 16 processors || outside 0 7 losses || outside 0 4294967295 lower || outside 0 4294967295 upper) ⌝ }
 {
     if tasks < 1 {
         return true;
@@ -45,10 +45,10 @@ fn head_strays(tasks: u64, processors: u64, losses: u64, best: u64, worst: u64) 
     if losses > 7 {
         return true;
     }
-    if best > LAST_TICK {
+    if lower > LAST_TICK {
         return true;
     }
-    worst > LAST_TICK
+    upper > LAST_TICK
 }
 
 // The number of the refusal of a plan's head, or 0. Its five numbers stand at the front of `head`.
@@ -125,11 +125,11 @@ fn descends(mem: &[u64], a: usize) -> bool
 }
 
 // Every predecessor of t has a line.
-fn fed(mem: &[u64], links: &[u64], rooms: usize, t: usize) -> bool
-    requires { ⌜ JobHeld rooms (now mem) × LinksHeld (now mem) (now links) × (t < nth (now mem) 0) ⌝ }
-    ensures { λ r. ⌜ r ≡ all (λ e. not (eqb (nth (now (mem .entry)) (lineAt rooms + e .from)) 0)) (incoming (jobIn (now (mem .entry))) t) ⌝ }
+fn predecessors_placed(mem: &[u64], links: &[u64], capacity: usize, t: usize) -> bool
+    requires { ⌜ JobHeld capacity (now mem) × LinksHeld (now mem) (now links) × (t < nth (now mem) 0) ⌝ }
+    ensures { λ r. ⌜ r ≡ all (λ e. not (eqb (nth (now (mem .entry)) (lineAt capacity + e .from)) 0)) (incoming (jobIn (now (mem .entry))) t) ⌝ }
 {
-    let line = LINE * rooms;
+    let line = LINE * capacity;
     let run = orders::entering(links, mem[0] as usize, t);
     let start = run.start;
     let mut k = run.end;
@@ -144,11 +144,11 @@ fn fed(mem: &[u64], links: &[u64], rooms: usize, t: usize) -> bool
 }
 
 // The number of the refusal of the line at `a`, after the lines that have a place in the table, or 0.
-fn check_line(mem: &[u64], links: &[u64], rooms: usize, a: usize) -> u64
-    requires { ⌜ JobHeld rooms (now mem) × LinksHeld (now mem) (now links) × (rowEnd a ≤ length (now mem)) ⌝ }
-    ensures { λ r. ⌜ ((k : ℕ) → LinesHeld rooms k (now (mem .entry)) → r ≡ planLineRule document01 (jobIn (now (mem .entry)))
-        (linesIn rooms (nth (now (mem .entry)) 3 + 1) k (now (mem .entry))) (lineIn a (now (mem .entry))))
-        × (r ≡ 0 → (nth (now (mem .entry)) a < nth (now (mem .entry)) 0) × (nth (now (mem .entry)) (lineAt rooms + nth (now (mem .entry)) a) ≡ 0) × RowHeld a (now (mem .entry))) ⌝ }
+fn check_line(mem: &[u64], links: &[u64], capacity: usize, a: usize) -> u64
+    requires { ⌜ JobHeld capacity (now mem) × LinksHeld (now mem) (now links) × (rowEnd a ≤ length (now mem)) ⌝ }
+    ensures { λ r. ⌜ ((k : ℕ) → LinesHeld capacity k (now (mem .entry)) → r ≡ planLineRule document01 (jobIn (now (mem .entry)))
+        (linesIn capacity (nth (now (mem .entry)) 3 + 1) k (now (mem .entry))) (lineIn a (now (mem .entry))))
+        × (r ≡ 0 → (nth (now (mem .entry)) a < nth (now (mem .entry)) 0) × (nth (now (mem .entry)) (lineAt capacity + nth (now (mem .entry)) a) ≡ 0) × RowHeld a (now (mem .entry))) ⌝ }
 {
     if strays(mem, a) {
         return 3;
@@ -157,22 +157,22 @@ fn check_line(mem: &[u64], links: &[u64], rooms: usize, a: usize) -> u64
         return 11;
     }
     let t = mem[a] as usize;
-    if row::line_of(mem, rooms, t) != 0 {
+    if row::line_of(mem, capacity, t) != 0 {
         return 10;
     }
-    if fed(mem, links, rooms, t) {
+    if predecessors_placed(mem, links, capacity, t) {
         return 0;
     }
     10
 }
 
 // No task has a line.
-fn clear_lines(mem: &mut [u64], rooms: usize)
-    requires { ⌜ length (now mem) ≡ memorySize rooms ⌝ }
-    ensures { λ _. ⌜ KeptOutside (lineAt rooms) (blockedAt rooms) (now (mem .entry)) (now (mem .exit)) × ((t : ℕ) → t < 8 * rooms → nth (now (mem .exit)) (lineAt rooms + t) ≡ 0) ⌝ }
+fn clear_lines(mem: &mut [u64], capacity: usize)
+    requires { ⌜ length (now mem) ≡ memorySize capacity ⌝ }
+    ensures { λ _. ⌜ KeptOutside (lineAt capacity) (blockedAt capacity) (now (mem .entry)) (now (mem .exit)) × ((t : ℕ) → t < 8 * capacity → nth (now (mem .exit)) (lineAt capacity + t) ≡ 0) ⌝ }
 {
-    let line = LINE * rooms;
-    let n = 8 * rooms;
+    let line = LINE * capacity;
+    let n = 8 * capacity;
     let mut t = 0;
     while t < n {
         mem[line + t] = 0;
@@ -186,23 +186,23 @@ fn read_plan_line(
     at: usize,
     mem: &mut [u64],
     links: &[u64],
-    rooms: usize,
+    capacity: usize,
     k: usize,
 ) -> Step
-    requires { ⌜ LinesHeld rooms k (now mem) × LinksHeld (now mem) (now links) × (k < nth (now mem) 0) ⌝ }
-    ensures { λ r. ⌜ LineRead rooms k (now (s .entry)) at (now (mem .entry)) (now (mem .exit)) r ⌝ }
+    requires { ⌜ LinesHeld capacity k (now mem) × LinksHeld (now mem) (now links) × (k < nth (now mem) 0) ⌝ }
+    ensures { λ r. ⌜ LineRead capacity k (now (s .entry)) at (now (mem .entry)) (now (mem .exit)) r ⌝ }
 {
     let n = row::line_cells(&mem[..]);
-    let a = row::row_at(rooms, k);
+    let a = row::row_at(capacity, k);
     let b = a + n;
     match lines::read_line(s, at, b"T,", n, &mut mem[a..b]) {
         Step::Next(p) => {
-            let x = check_line(&mem[..], links, rooms, a);
+            let x = check_line(&mem[..], links, capacity, a);
             if x > 0 {
                 return Step::Refused(x);
             }
             let t = mem[a] as usize;
-            row::put_line(mem, rooms, t, k);
+            row::put_line(mem, capacity, t, k);
             Step::Next(p)
         }
         Step::Refused(x) => Step::Refused(x),
@@ -210,18 +210,18 @@ fn read_plan_line(
 }
 
 // The T lines, kept as rows.
-fn read_plan_lines(s: &[u8], at: usize, mem: &mut [u64], links: &[u64], rooms: usize) -> Step
-    requires { ⌜ LinesHeld rooms 0 (now mem) × LinksHeld (now mem) (now links) ⌝ }
-    ensures { λ r. ⌜ KeptOutside (lineAt rooms) (largestDelayAt rooms) (now (mem .entry)) (now (mem .exit))
-        × (told (now (s .entry)) (linesIn rooms (nth (now (mem .exit)) 3 + 1) (nth (now (mem .exit)) 0) (now (mem .exit))) r ≡ lines
+fn read_plan_lines(s: &[u8], at: usize, mem: &mut [u64], links: &[u64], capacity: usize) -> Step
+    requires { ⌜ LinesHeld capacity 0 (now mem) × LinksHeld (now mem) (now links) ⌝ }
+    ensures { λ r. ⌜ KeptOutside (lineAt capacity) (largestDelayAt capacity) (now (mem .entry)) (now (mem .exit))
+        × (stepReading (now (s .entry)) (linesIn capacity (nth (now (mem .exit)) 3 + 1) (nth (now (mem .exit)) 0) (now (mem .exit))) r ≡ lines
         (planLine document01 (jobIn (now (mem .entry)))) (planLineRule document01 (jobIn (now (mem .entry)))) (nth (now (mem .entry)) 0) [] (drop at (now (s .entry))))
-        × ((n : ℕ) → r ≡ Next n → LinesHeld rooms (nth (now (mem .exit)) 0) (now (mem .exit))) ⌝ }
+        × ((n : ℕ) → r ≡ Next n → LinesHeld capacity (nth (now (mem .exit)) 0) (now (mem .exit))) ⌝ }
 {
     let v = mem[0] as usize;
     let mut p = at;
     let mut k = 0;
     while k < v {
-        match read_plan_line(s, p, mem, links, rooms, k) {
+        match read_plan_line(s, p, mem, links, capacity, k) {
             Step::Next(next) => p = next,
             Step::Refused(x) => return Step::Refused(x),
         }
@@ -234,24 +234,24 @@ fn read_plan_lines(s: &[u8], at: usize, mem: &mut [u64], links: &[u64], rooms: u
 fn load_lines(
     s: &[u8],
     at: usize,
-    best: u64,
-    worst: u64,
+    lower: u64,
+    upper: u64,
     mem: &mut [u64],
     links: &[u64],
-    rooms: usize,
+    capacity: usize,
 ) -> Step
-    requires { ⌜ JobHeld rooms (now mem) × LinksHeld (now mem) (now links) ⌝ }
-    ensures { λ r. ⌜ KeptOutside (lineAt rooms) (largestDelayAt rooms) (now (mem .entry)) (now (mem .exit))
-        × PlanLoaded rooms (planFrom (jobIn (now (mem .entry))) best worst (drop at (now (s .entry)))) (now (mem .exit)) r ⌝ }
+    requires { ⌜ JobHeld capacity (now mem) × LinksHeld (now mem) (now links) ⌝ }
+    ensures { λ r. ⌜ KeptOutside (lineAt capacity) (largestDelayAt capacity) (now (mem .entry)) (now (mem .exit))
+        × PlanLoaded capacity (planFrom (jobIn (now (mem .entry))) lower upper (drop at (now (s .entry)))) (now (mem .exit)) r ⌝ }
 {
-    clear_lines(mem, rooms);
-    match read_plan_lines(s, at, mem, links, rooms) {
+    clear_lines(mem, capacity);
+    match read_plan_lines(s, at, mem, links, capacity) {
         Step::Next(p) => {
             if p < s.len() {
                 return Step::Refused(2);
             }
-            mem[BEST * rooms] = best;
-            mem[WORST * rooms] = worst;
+            mem[LOWER * capacity] = lower;
+            mem[UPPER * capacity] = upper;
             Step::Next(p)
         }
         Step::Refused(x) => Step::Refused(x),
@@ -259,10 +259,10 @@ fn load_lines(
 }
 
 // A plan's text for the job in memory, whose links are in theirs.
-pub fn load_plan(s: &[u8], mem: &mut [u64], links: &[u64], rooms: usize) -> Step
-    requires { ⌜ JobHeld rooms (now mem) × LinksHeld (now mem) (now links) ⌝ }
-    ensures { λ r. ⌜ KeptOutside (lineAt rooms) (largestDelayAt rooms) (now (mem .entry)) (now (mem .exit))
-        × PlanLoaded rooms (readPlan document01 (jobIn (now (mem .entry))) (now (s .entry))) (now (mem .exit)) r ⌝ }
+pub fn load_plan(s: &[u8], mem: &mut [u64], links: &[u64], capacity: usize) -> Step
+    requires { ⌜ JobHeld capacity (now mem) × LinksHeld (now mem) (now links) ⌝ }
+    ensures { λ r. ⌜ KeptOutside (lineAt capacity) (largestDelayAt capacity) (now (mem .entry)) (now (mem .exit))
+        × PlanLoaded capacity (readPlan document01 (jobIn (now (mem .entry))) (now (s .entry))) (now (mem .exit)) r ⌝ }
 {
     if s.len() > 65536 {
         return Step::Refused(1);
@@ -274,7 +274,7 @@ pub fn load_plan(s: &[u8], mem: &mut [u64], links: &[u64], rooms: usize) -> Step
             if x > 0 {
                 return Step::Refused(x);
             }
-            load_lines(s, p, head[3], head[4], mem, links, rooms)
+            load_lines(s, p, head[3], head[4], mem, links, capacity)
         }
         Step::Refused(x) => Step::Refused(x),
     }

@@ -16,27 +16,27 @@ pub struct Replica {
 }
 
 // The line of task t, counted from 1; 0 if it has none.
-pub fn line_of(mem: &[u64], rooms: usize, t: usize) -> u64
-    requires { ⌜ lineAt rooms + t < length (now mem) ⌝ }
-    ensures { λ r. ⌜ r ≡ nth (now (mem .entry)) (lineAt rooms + t) ⌝ }
+pub fn line_of(mem: &[u64], capacity: usize, t: usize) -> u64
+    requires { ⌜ lineAt capacity + t < length (now mem) ⌝ }
+    ensures { λ r. ⌜ r ≡ nth (now (mem .entry)) (lineAt capacity + t) ⌝ }
 {
-    mem[LINE * rooms + t]
+    mem[LINE * capacity + t]
 }
 
 // Task t has line k.
-pub fn put_line(mem: &mut [u64], rooms: usize, t: usize, k: usize)
-    requires { ⌜ (lineAt rooms + t < length (now mem)) × (k < length (now mem)) ⌝ }
-    ensures { λ _. ⌜ now (mem .exit) ≡ set (now (mem .entry)) (lineAt rooms + t) (k + 1) ⌝ }
+pub fn put_line(mem: &mut [u64], capacity: usize, t: usize, k: usize)
+    requires { ⌜ (lineAt capacity + t < length (now mem)) × (k < length (now mem)) ⌝ }
+    ensures { λ _. ⌜ now (mem .exit) ≡ set (now (mem .entry)) (lineAt capacity + t) (k + 1) ⌝ }
 {
-    mem[LINE * rooms + t] = (k + 1) as u64;
+    mem[LINE * capacity + t] = (k + 1) as u64;
 }
 
 // Where line k stands.
-pub fn row_at(rooms: usize, k: usize) -> usize
-    requires { ⌜ rowAt rooms k < 18446744073709551616 ⌝ }
-    ensures { λ r. ⌜ r ≡ rowAt rooms k ⌝ }
+pub fn row_at(capacity: usize, k: usize) -> usize
+    requires { ⌜ rowAt capacity k < 18446744073709551616 ⌝ }
+    ensures { λ r. ⌜ r ≡ rowAt capacity k ⌝ }
 {
-    ROWS * rooms + k * 25
+    ROWS * capacity + k * 25
 }
 
 // The cells that a line of the job in memory takes.

@@ -3,7 +3,7 @@ use Rattle.lists.proofs.Prelude.{_≡_, refl, ap, sym, _∙_, List, [], _∷_, 
 use borrow.Rule.Slice.PartMut.{putMid, midOf, mid-len, put-same}
 use Rattle.lists.specs.Over.{over}
 use Rattle.lists.proofs.Over.{over-nil, over-over, length-over, lent}
-use Rattle.text.specs.Told.{written}
+use Rattle.text.specs.Meaning.{written}
 use Rattle.text.proofs.Writing.{written-fits, written-unfit}
 use Rattle.printing.specs.Rendered.{Rendered}
 

@@ -4,7 +4,7 @@ use native.Mathlib.Nat.{mul-suc}
 use Rattle.definitions.proofs.Decimal.{width-powers, length-none, length-numbers, length-line}
 use Rattle.lists.specs.Over.{over}
 use Rattle.lists.proofs.Over.{over-put, over-over, over-then, length-over}
-use Rattle.text.specs.Told.{written, placeAfter}
+use Rattle.text.specs.Meaning.{written, placeAfter}
 use Rattle.text.proofs.Writing.{written-fits, place-fits}
 
 module _ (l : Limits) where

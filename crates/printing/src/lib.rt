@@ -4,7 +4,7 @@ ghost use Prim.Native.Nat.{_%_, _^_, min};
 ghost use lib.ListN.{length};
 ghost use Rattle.definitions.specs.Limits.{document01};
 ghost use Rattle.definitions.specs.Text.{lineText};
-ghost use Rattle.text.specs.Told.{written};
+ghost use Rattle.text.specs.Meaning.{written};
 
 mod writer;
 

@@ -1,5 +1,5 @@
 -- The program's output holds the longest answer of the replay.
-use Rattle.lists.proofs.Prelude.{_≡_, refl, ap, inl, inr, ⊎-elim, List, [], _∷_, ℕ, _<_, _≤_, arith, le-ltb, length, In, document01, Result, good, bad, andThen, Job, readJob, Line, processorsOf, readPlan, Stop, readStops, never, least, Copy, Outcome, walk, copiesOf, copies, replay, replayText, fitting, replayed, replayAnswer, printed, replayPrinted, Ordered}
+use Rattle.lists.proofs.Prelude.{_≡_, refl, ap, inl, inr, ⊎-elim, List, [], _∷_, ℕ, _<_, _≤_, arith, le-ltb, length, In, document01, Result, good, bad, andThen, Job, readJob, Line, processorsOf, readPlan, Stop, readStops, never, least, Placement, Outcome, walk, placementsOf, placements, replay, replayText, fitting, replayed, replayAnswer, printed, replayPrinted, Ordered}
 use Rattle.definitions.proofs.Lists.{in-append, in-map}
 use Rattle.definitions.proofs.Reading.{andThen-good, job-facts, plan-facts}
 use Rattle.console.proofs.Shown.{refusal-most}
@@ -7,20 +7,20 @@ use Rattle.rounds.proofs.Longest.{text-most}
 
 -- Boxes ---------------------------------------------------------------------------------------------------------------
 
--- An outcome is on the processor of its copy, and a copy is on a processor of its line.
-walk-on : (j : Job) (ss : List Stop) (placed : List Outcome) (cs : List Copy) (d : Outcome) → In d (walk j least ss placed cs)
-    → (c : Copy) × In c cs × (c .processor ≡ d .processor)
+-- An outcome is on the processor of its replica, and a replica is on a processor of its line.
+walk-on : (j : Job) (ss : List Stop) (placed : List Outcome) (cs : List Placement) (d : Outcome) → In d (walk j least ss placed cs)
+    → (c : Placement) × In c cs × (c .processor ≡ d .processor)
 unfolding walk
 walk-on j ss placed (c ∷ cs) d (inl e) = (c, inl refl, ap (λ (d : Outcome). d .processor) e)
 walk-on j ss placed (c ∷ cs) d (inr i) = let (a, k, e) = walk-on j ss _ cs d i in (a, inr k, e)
 
-copies-on : (j : Job) (seen : List ℕ) (ns : List Line) → Ordered j seen ns → (c : Copy) → In c (copies j ns) → c .processor < j .processors
-unfolding copies
-copies-on j seen (n ∷ ns) (o, os) c i =
+placements-on : (j : Job) (seen : List ℕ) (ns : List Line) → Ordered j seen ns → (c : Placement) → In c (placements j ns) → c .processor < j .processors
+unfolding placements
+placements-on j seen (n ∷ ns) (o, os) c i =
     ⊎-elim
     (λ k. let (p, m, e) = in-map _ c (processorsOf n) k in rw (← e) (o .processors-below p m))
-    (copies-on j (n .task ∷ seen) ns os c)
-    (in-append c (copiesOf j (n .task) (processorsOf n)) (copies j ns) i)
+    (placements-on j (n .task ∷ seen) ns os c)
+    (in-append c (placementsOf j (n .task) (processorsOf n)) (placements j ns) i)
 
 -- Answers -------------------------------------------------------------------------------------------------------------
 
@@ -35,8 +35,8 @@ module _ (job plan stops : List ℕ) where
       let pf = plan-facts document01 j plan p b in
       let on : (d : Outcome) → In d (replay j ss (p .lines)) → d .processor ≤ 16 =
       λ d i.
-      let (c, k, q) = walk-on j ss [] (copies j (p .lines)) d i in
-      omega (arith, copies-on j [] (p .lines) (pf .ordered) c k, jf .processors-most) in
+      let (c, k, q) = walk-on j ss [] (placements j (p .lines)) d i in
+      omega (arith, placements-on j [] (p .lines) (pf .ordered) c k, jf .processors-most) in
       let s : replayText document01 j (replay j ss (p .lines)) ≡ t = cc in
       rw s at (text-most (replay j ss (p .lines)) on j (jf .tasks-most))
 

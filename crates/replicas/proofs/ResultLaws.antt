@@ -2,7 +2,7 @@
 use Rattle.lists.proofs.Prelude.{_≡_, sym, _∙_, List, [], _∷_, _++_, ℕ, _+_, _≤_, arith, length, length-append, ne-eqb, bytes, Limits, width, decimal, lineText, never, resultLine, endLine}
 use Rattle.definitions.proofs.Decimal.{length-decimal}
 use Rattle.lists.specs.Over.{over}
-use Rattle.text.specs.Told.{written, placeAfter}
+use Rattle.text.specs.Meaning.{written, placeAfter}
 use Rattle.text.proofs.Writing.{written-fits, place-fits, written-more, place-more}
 use Rattle.ticks.specs.Cells.{neverCell, timeIn}
 

@@ -8,7 +8,7 @@ ghost use lib.ListN.{length};
 ghost use Rattle.definitions.specs.Lists.{if_then_else_};
 ghost use Rattle.definitions.specs.Limits.{document01};
 ghost use Rattle.definitions.specs.Replay.{resultLine, endLine};
-ghost use Rattle.text.specs.Told.{written};
+ghost use Rattle.text.specs.Meaning.{written};
 ghost use Rattle.ticks.specs.Cells.{timeIn};
 ghost use Rattle.replicas.specs.Cells.{replicasOf, linesOf, doubledIn, firstTwice, leastEarly, leastOn};
 use ticks::lanes::NEVER;

@@ -5,7 +5,7 @@ ghost use lib.ListN.{length};
 ghost use Rattle.definitions.specs.Limits.{document01};
 ghost use Rattle.definitions.specs.Times.{never};
 ghost use Rattle.definitions.specs.Replay.{resultLine};
-ghost use Rattle.text.specs.Told.{written};
+ghost use Rattle.text.specs.Meaning.{written};
 
 // `R,t,-,-`, written at the front of `out`, if it fits. The answer is its length in either case.
 pub fn undone_line(out: &mut [u8], t: u64) -> usize

@@ -27,7 +27,7 @@ pub record Offered (volume a : ℕ) (mem l : List ℕ) (c : ℕ) (low g : List �
   pub first-most : (p : ℕ) → p < nth mem 1 → 0 < c → nth low p ≤ lastArrival
   pub last-most : (p : ℕ) → p < nth mem 1 → nth l p ≤ lastArrival → nth g p ≤ lastArrival
 
-module _ {rooms : ℕ} (volume a : ℕ) (mem l : List ℕ) (s : Sizes rooms mem) where
+module _ {capacity : ℕ} (volume a : ℕ) (mem l : List ℕ) (s : Sizes capacity mem) where
   pub offer-none : length l ≡ 16 → Offered volume a mem l 0 (replicate 16 shortNever) l
   unfolding chosenBy rowOutcomes least largest
   offer-none h =
@@ -97,16 +97,16 @@ module _ {rooms : ℕ} (volume a : ℕ) (mem l : List ℕ) (s : Sizes rooms mem)
 -- All data of a task ------------------------------------------------------------------------------------------------
 
 -- e and l have for each processor the largest times of the edges that are passed at cell k of a run from a on.
-pub record BothGathered (rooms : ℕ) (mem : List ℕ) (a : ℕ) (cells e l : List ℕ) (k : ℕ) : Type 0 where
+pub record BothGathered (capacity : ℕ) (mem : List ℕ) (a : ℕ) (cells e l : List ℕ) (k : ℕ) : Type 0 where
   pub early-size : length e ≡ 16
   pub late-size : length l ≡ 16
-  pub early : (p : ℕ) → p < nth mem 1 → Gathered (arrives rooms false p mem) a cells (tick (nth e p)) k
-  pub late : (p : ℕ) → p < nth mem 1 → Gathered (arrives rooms true p mem) a cells (tick (nth l p)) k
+  pub early : (p : ℕ) → p < nth mem 1 → Gathered (arrives capacity false p mem) a cells (tick (nth e p)) k
+  pub late : (p : ℕ) → p < nth mem 1 → Gathered (arrives capacity true p mem) a cells (tick (nth l p)) k
   pub early-most : (p : ℕ) → p < nth mem 1 → nth e p ≤ lastArrival
   pub late-most : (p : ℕ) → p < nth mem 1 → nth l p ≤ lastArrival
 
-module _ {rooms : ℕ} {mem : List ℕ} {a : ℕ} {cells : List ℕ} where
-  pub both-first : nth mem 1 ≤ 16 → BothGathered rooms mem a cells (replicate 16 0) (replicate 16 0) a
+module _ {capacity : ℕ} {mem : List ℕ} {a : ℕ} {cells : List ℕ} where
+  pub both-first : nth mem 1 ≤ 16 → BothGathered capacity mem a cells (replicate 16 0) (replicate 16 0) a
   both-first few =
       let nothing : (p : ℕ) → p < nth mem 1 → nth (replicate 16 0) p ≡ 0 = λ p h. getD-replicate {A = ℕ} 16 p 0 0 (omega arith) in
       record {
@@ -118,22 +118,22 @@ module _ {rooms : ℕ} {mem : List ℕ} {a : ℕ} {cells : List ℕ} where
         late-most = λ p j. omega (arith, nothing p j);
       }
 
-  module _ {e l : List ℕ} {k : ℕ} (g : BothGathered rooms mem a cells e l k) where
-    pub both-next : {row volume : ℕ} {f h : List ℕ} → row ≡ rowOf rooms (edgeIn (nth cells k) .from) mem → volume ≡ edgeIn (nth cells k) .volume
-        → BothRaised volume row mem e f l h → BothGathered rooms mem a cells f h (k + 1)
+  module _ {e l : List ℕ} {k : ℕ} (g : BothGathered capacity mem a cells e l k) where
+    pub both-next : {row volume : ℕ} {f h : List ℕ} → row ≡ rowOf capacity (edgeIn (nth cells k) .from) mem → volume ≡ edgeIn (nth cells k) .volume
+        → BothRaised volume row mem e f l h → BothGathered capacity mem a cells f h (k + 1)
     both-next {f} {h} i j o =
         let here = edgeIn (nth cells k) in
-        let r : BothRaised (here .volume) (rowOf rooms (here .from) mem) mem e f l h = rw (← i, ← j) o in
+        let r : BothRaised (here .volume) (rowOf capacity (here .from) mem) mem e f l h = rw (← i, ← j) o in
         record {
           early-size = r .early-size;
           late-size = r .late-size;
-          early = λ p j. gather-next (g .early p j) (tick (nth f p)) (r .early-raised p j ∙ later-comm (tick (nth e p)) (arrives rooms false p mem here));
-          late = λ p j. gather-next (g .late p j) (tick (nth h p)) (r .late-raised p j ∙ later-comm (tick (nth l p)) (arrives rooms true p mem here));
+          early = λ p j. gather-next (g .early p j) (tick (nth f p)) (r .early-raised p j ∙ later-comm (tick (nth e p)) (arrives capacity false p mem here));
+          late = λ p j. gather-next (g .late p j) (tick (nth h p)) (r .late-raised p j ∙ later-comm (tick (nth l p)) (arrives capacity true p mem here));
           early-most = λ p j. r .early-most p j (g .early-most p j);
           late-most = λ p j. r .late-most p j (g .late-most p j);
         }
 
-    pub both-done : {b t : ℕ} → Passed a b cells (incoming (jobIn mem) t) k → b ≤ k → BothReady rooms t mem e l
+    pub both-done : {b t : ℕ} → Passed a b cells (incoming (jobIn mem) t) k → b ≤ k → BothReady capacity t mem e l
     unfolding dataIn
     both-done w z =
         record {
@@ -149,31 +149,31 @@ module _ {rooms : ℕ} {mem : List ℕ} {a : ℕ} {cells : List ℕ} where
 
 -- The tick x is the finish of t on p, if it is ready at the tick of its clock.
 abbrev pub Finish : ℕ → Bool → ℕ → List ℕ → List ℕ → ℕ → ℕ → Type 0
-Finish rooms late t clocks mem p x = tick x ≡ after (runTime (jobIn mem) t p) (later (tick (nth clocks p)) (dataIn rooms late t p mem))
+Finish capacity late t clocks mem p x = tick x ≡ after (runTime (jobIn mem) t p) (later (tick (nth clocks p)) (dataIn capacity late t p mem))
 
-finish-cell : (rooms : ℕ) (late : Bool) (t : ℕ) (clocks mem : List ℕ) (p y n x : ℕ)
-    → tick y ≡ dataIn rooms late t p mem
+finish-cell : (capacity : ℕ) (late : Bool) (t : ℕ) (clocks mem : List ℕ) (p y n x : ℕ)
+    → tick y ≡ dataIn capacity late t p mem
     → n ≡ runTime (jobIn mem) t p
     → x ≡ max (nth clocks p) y + n
-    → Finish rooms late t clocks mem p x
-finish-cell rooms late t clocks mem p y n x d r e = rw (e, r, ← d)
+    → Finish capacity late t clocks mem p x
+finish-cell capacity late t clocks mem p y n x d r e = rw (e, r, ← d)
 
 -- On all processors, from the run times.
-pub finish-made : (rooms t : ℕ) (clocks : Clocks) (mem e l runs f g : List ℕ) → t < nth mem 0 → nth mem 1 ≤ 16
-    → BothReady rooms t mem e l → ShortClocks clocks mem → RunsOf t mem runs
+pub finish-made : (capacity t : ℕ) (clocks : Clocks) (mem e l runs f g : List ℕ) → t < nth mem 0 → nth mem 1 ≤ 16
+    → BothReady capacity t mem e l → ShortClocks clocks mem → RunsOf t mem runs
     → f ≡ lanes (λ p z. finishes (nth (clocks .early) p) z (nth runs p)) 16 e
     → g ≡ lanes (λ p z. finishes (nth (clocks .late) p) z (nth runs p)) 16 l
-    → BothFinish rooms t clocks mem f g
-finish-made rooms t clocks mem e l runs f g h m b s r i j =
+    → BothFinish capacity t clocks mem f g
+finish-made capacity t clocks mem e l runs f g h m b s r i j =
     let (u, early) = lanes-each (λ p z. finishes (nth (clocks .early) p) z (nth runs p)) e f i (b .early-size) in
     let (v, late) = lanes-each (λ p z. finishes (nth (clocks .late) p) z (nth runs p)) l g j (b .late-size) in
     record {
       early-size = u;
       late-size = v;
       early-finish = λ p o.
-          finish-cell rooms false t (clocks .early) mem p (nth e p) (nth runs p) (nth f p) (b .early-ready p o) (r .run p o)
+          finish-cell capacity false t (clocks .early) mem p (nth e p) (nth runs p) (nth f p) (b .early-ready p o) (r .run p o)
           (early p (omega arith) ∙ finishes-short (nth (clocks .early) p) (nth e p) (nth runs p) (s .early-short p o) (b .early-most p o) (r .most p o));
       late-finish = λ p o.
-          finish-cell rooms true t (clocks .late) mem p (nth l p) (nth runs p) (nth g p) (b .late-ready p o) (r .run p o)
+          finish-cell capacity true t (clocks .late) mem p (nth l p) (nth runs p) (nth g p) (b .late-ready p o) (r .run p o)
           (late p (omega arith) ∙ finishes-short (nth (clocks .late) p) (nth l p) (nth runs p) (s .late-short p o) (b .late-most p o) (r .most p o));
     }

@@ -148,23 +148,24 @@ module _ (a : ℕ) (mem : List ℕ) where
 
 -- Line by line ------------------------------------------------------------------------------------------------------
 
-lines-split : (rooms : ℕ) (k v : ℕ) (mem : List ℕ) → k < v → (ys : List Line) × (linesIn rooms (nth mem 3 + 1) v mem ≡ linesIn rooms (nth mem 3 + 1) k mem ++ lineIn (rowAt rooms k) mem ∷ ys)
+lines-split : (capacity : ℕ) (k v : ℕ) (mem : List ℕ) → k < v
+    → (ys : List Line) × (linesIn capacity (nth mem 3 + 1) v mem ≡ linesIn capacity (nth mem 3 + 1) k mem ++ lineIn (rowAt capacity k) mem ∷ ys)
 unfolding linesIn
-lines-split rooms k zero mem l = absurd (omega arith)
-lines-split rooms k (suc v) mem l =
+lines-split capacity k zero mem l = absurd (omega arith)
+lines-split capacity k (suc v) mem l =
     ⊎-elim
     (λ (e : k ≡ v). rw (← e) ([], refl))
     (λ (g : k < v).
-    let (ys, e) = lines-split rooms k v mem g in
-    (ys ++ lineIn (rowAt rooms v) mem ∷ [], rw e (append-assoc (linesIn rooms (nth mem 3 + 1) k mem) (lineIn (rowAt rooms k) mem ∷ ys) (lineIn (rowAt rooms v) mem ∷ []))))
+    let (ys, e) = lines-split capacity k v mem g in
+    (ys ++ lineIn (rowAt capacity v) mem ∷ [], rw e (append-assoc (linesIn capacity (nth mem 3 + 1) k mem) (lineIn (rowAt capacity k) mem ∷ ys) (lineIn (rowAt capacity v) mem ∷ []))))
     (last-or-before v k l)
 
-pub line-among : (rooms : ℕ) (k v : ℕ) (mem : List ℕ) → k < v → In (lineIn (rowAt rooms k) mem) (linesIn rooms (nth mem 3 + 1) v mem)
-line-among rooms k v mem l =
-    let (ys, e) = lines-split rooms k v mem l in
-    rw e (append-right (lineIn (rowAt rooms k) mem) (linesIn rooms (nth mem 3 + 1) k mem) (lineIn (rowAt rooms k) mem ∷ ys) (inl refl))
+pub line-among : (capacity : ℕ) (k v : ℕ) (mem : List ℕ) → k < v → In (lineIn (rowAt capacity k) mem) (linesIn capacity (nth mem 3 + 1) v mem)
+line-among capacity k v mem l =
+    let (ys, e) = lines-split capacity k v mem l in
+    rw e (append-right (lineIn (rowAt capacity k) mem) (linesIn capacity (nth mem 3 + 1) k mem) (lineIn (rowAt capacity k) mem ∷ ys) (inl refl))
 
--- Tasks with two copies on one processor ----------------------------------------------------------------------------
+-- Tasks with two replicas on one processor ----------------------------------------------------------------------------
 
 doubled-more : (ns : List Line) (n : Line) → distinct (processorsOf n) ≡ true → doubledTasks (ns ++ n ∷ []) ≡ doubledTasks ns
 unfolding doubledTasks keep
@@ -183,23 +184,23 @@ doubled-in n ns i d = map-in (λ n. n .task) n (keep (λ n. not (distinct (proce
 
 module _ (mem : List ℕ) (k : ℕ) where
   -- The first k lines, none of which has a processor twice; and line k.
-  doubled-none : (rooms : ℕ) → doubledTasks (linesIn rooms (nth mem 3 + 1) 0 mem) ≡ []
+  doubled-none : (capacity : ℕ) → doubledTasks (linesIn capacity (nth mem 3 + 1) 0 mem) ≡ []
   unfolding doubledTasks keep linesIn
-  doubled-none rooms = refl
+  doubled-none capacity = refl
 
-  doubled-next : (rooms : ℕ) → false ≡ not (distinct (processorsOf (lineIn (rowAt rooms k) mem))) → doubledTasks (linesIn rooms (nth mem 3 + 1) k mem) ≡ []
-      → doubledTasks (linesIn rooms (nth mem 3 + 1) (k + 1) mem) ≡ []
+  doubled-next : (capacity : ℕ) → false ≡ not (distinct (processorsOf (lineIn (rowAt capacity k) mem))) → doubledTasks (linesIn capacity (nth mem 3 + 1) k mem) ≡ []
+      → doubledTasks (linesIn capacity (nth mem 3 + 1) (k + 1) mem) ≡ []
   unfolding linesIn
-  doubled-next rooms d e =
-      rw (add-one k) (doubled-more (linesIn rooms (nth mem 3 + 1) k mem) (lineIn (rowAt rooms k) mem) (not-false (distinct (processorsOf (lineIn (rowAt rooms k) mem))) (sym d)) ∙ e)
+  doubled-next capacity d e =
+      rw (add-one k) (doubled-more (linesIn capacity (nth mem 3 + 1) k mem) (lineIn (rowAt capacity k) mem) (not-false (distinct (processorsOf (lineIn (rowAt capacity k) mem))) (sym d)) ∙ e)
 
-  doubled-here : (rooms : ℕ) → k < nth mem 0 → true ≡ not (distinct (processorsOf (lineIn (rowAt rooms k) mem))) → In (nth mem (rowAt rooms k)) (doubledTasks (planIn rooms mem .lines))
+  doubled-here : (capacity : ℕ) → k < nth mem 0 → true ≡ not (distinct (processorsOf (lineIn (rowAt capacity k) mem))) → In (nth mem (rowAt capacity k)) (doubledTasks (planIn capacity mem .lines))
   unfolding planIn
-  doubled-here rooms l d = doubled-in (lineIn (rowAt rooms k) mem) (linesIn rooms (nth mem 3 + 1) (nth mem 0) mem) (line-among rooms k (nth mem 0) mem l) d
+  doubled-here capacity l d = doubled-in (lineIn (rowAt capacity k) mem) (linesIn capacity (nth mem 3 + 1) (nth mem 0) mem) (line-among capacity k (nth mem 0) mem l) d
 
-  doubled-done : (rooms : ℕ) → nth mem 0 ≤ k → k ≤ nth mem 0 → doubledTasks (linesIn rooms (nth mem 3 + 1) k mem) ≡ [] → doubledTasks (planIn rooms mem .lines) ≡ []
+  doubled-done : (capacity : ℕ) → nth mem 0 ≤ k → k ≤ nth mem 0 → doubledTasks (linesIn capacity (nth mem 3 + 1) k mem) ≡ [] → doubledTasks (planIn capacity mem .lines) ≡ []
   unfolding planIn
-  doubled-done rooms l h e = let q : k ≡ nth mem 0 = omega arith in rw q at e
+  doubled-done capacity l h e = let q : k ≡ nth mem 0 = omega arith in rw q at e
 
 -- A line of a plan that was read ------------------------------------------------------------------------------------
 
@@ -211,21 +212,21 @@ ordered-at j seen (m ∷ ms) n ns (o, os) =
     let (us, f, h) = ordered-at j (m .task ∷ seen) ms n ns os in
     (us, f, λ u i. ⊎-elim (⊎-elim (λ e. inr (inl e)) inl) (λ k. inr (inr k)) (h u i))
 
-module _ {rooms : ℕ} {mem : List ℕ} (h : PlanHeld rooms mem) (k : ℕ) (l : k < nth mem 0) where
-  pub line-facts : (us : List ℕ) × LineFacts (jobIn mem) us (lineIn (rowAt rooms k) mem) × ((u : ℕ) → In u us → (i : ℕ) × (i < k) × (nth mem (rowAt rooms i) ≡ u))
+module _ {capacity : ℕ} {mem : List ℕ} (h : PlanHeld capacity mem) (k : ℕ) (l : k < nth mem 0) where
+  pub line-facts : (us : List ℕ) × LineFacts (jobIn mem) us (lineIn (rowAt capacity k) mem) × ((u : ℕ) → In u us → (i : ℕ) × (i < k) × (nth mem (rowAt capacity i) ≡ u))
   unfolding planIn
   line-facts =
       let w = nth mem 3 + 1 in
-      let (ns, e) = lines-split rooms k (nth mem 0) mem l in
-      let (us, f, m) = ordered-at (jobIn mem) [] (linesIn rooms w k mem) (lineIn (rowAt rooms k) mem) ns (rw e at (h .facts .ordered)) in
-      (us, f, λ u i. in-tasks-row rooms w mem k u (⊎-elim absurd (λ k. k) (m u i)))
+      let (ns, e) = lines-split capacity k (nth mem 0) mem l in
+      let (us, f, m) = ordered-at (jobIn mem) [] (linesIn capacity w k mem) (lineIn (rowAt capacity k) mem) ns (rw e at (h .facts .ordered)) in
+      (us, f, λ u i. in-tasks-row capacity w mem k u (⊎-elim absurd (λ k. k) (m u i)))
 
-  pub line-ascends : descends (processorsOf (lineIn (rowAt rooms k) mem)) ≡ false
+  pub line-ascends : descends (processorsOf (lineIn (rowAt capacity k) mem)) ≡ false
   line-ascends = let (us, f, m) = line-facts in f .ascends
 
 -- The line that is found --------------------------------------------------------------------------------------------
 
-module _ {rooms : ℕ} {mem : List ℕ} (h : PlanHeld rooms mem) (from to : ℕ) (x : from ≡ rowAt rooms 0) (y : to ≡ rowAt rooms (nth mem 0)) where
+module _ {capacity : ℕ} {mem : List ℕ} (h : PlanHeld capacity mem) (from to : ℕ) (x : from ≡ rowAt capacity 0) (y : to ≡ rowAt capacity (nth mem 0)) where
   -- The lines as they are looked at.
   abbrev lines : List ℕ
   lines = take (to - from) (drop from mem)
@@ -247,33 +248,33 @@ module _ {rooms : ℕ} {mem : List ℕ} (h : PlanHeld rooms mem) (from to : ℕ)
         let s = sizes (h .standing .job) in
         omega (arith, part-length lines (k * 25 + 1) (3 * (nth mem 3 + 1)) (omega (arith, lines-length, s .losses-most)))
 
-    cells-on : (c : ℕ) → c < nth mem 3 + 1 → nth (cells k) (3 * c) ≡ nth mem (processorAt (rowAt rooms k) c)
+    cells-on : (c : ℕ) → c < nth mem 3 + 1 → nth (cells k) (3 * c) ≡ nth mem (processorAt (rowAt capacity k) c)
     cells-on c g =
         let s = sizes (h .standing .job) in
-        let e : from + (k * 25 + 1 + 3 * c) ≡ processorAt (rowAt rooms k) c = omega arith in
+        let e : from + (k * 25 + 1 + 3 * c) ≡ processorAt (rowAt capacity k) c = omega arith in
         part-nth lines (k * 25 + 1) (3 * (nth mem 3 + 1)) (3 * c) (omega arith) ∙ lines-nth (k * 25 + 1 + 3 * c) (omega (arith, s .losses-most)) ∙ ap (nth mem) e
 
-    twice-here : twice (cells k) ≡ not (distinct (processorsOf (lineIn (rowAt rooms k) mem)))
-    twice-here = line-twice (rowAt rooms k) mem (cells k) cells-on (line-ascends h k l) (length (cells k) / 3 - 1) cells-count
+    twice-here : twice (cells k) ≡ not (distinct (processorsOf (lineIn (rowAt capacity k) mem)))
+    twice-here = line-twice (rowAt capacity k) mem (cells k) cells-on (line-ascends h k l) (length (cells k) / 3 - 1) cells-count
 
-    task-here : nth lines (k * 25) ≡ nth mem (rowAt rooms k)
-    task-here = let e : from + k * 25 ≡ rowAt rooms k = omega arith in lines-nth (k * 25) (omega arith) ∙ ap (nth mem) e
+    task-here : nth lines (k * 25) ≡ nth mem (rowAt capacity k)
+    task-here = let e : from + k * 25 ≡ rowAt capacity k = omega arith in lines-nth (k * 25) (omega arith) ∙ ap (nth mem) e
 
-  none-to : ((k : ℕ) → k < nth mem 0 → twice (cells k) ≡ false) → (k : ℕ) → k ≤ nth mem 0 → doubledTasks (linesIn rooms (nth mem 3 + 1) k mem) ≡ []
-  none-to f zero l = doubled-none mem 0 rooms
-  none-to f (suc k) l = rw (← add-one k) (doubled-next mem k rooms (sym (f k (omega arith)) ∙ twice-here k (omega arith)) (none-to f k (omega arith)))
+  none-to : ((k : ℕ) → k < nth mem 0 → twice (cells k) ≡ false) → (k : ℕ) → k ≤ nth mem 0 → doubledTasks (linesIn capacity (nth mem 3 + 1) k mem) ≡ []
+  none-to f zero l = doubled-none mem 0 capacity
+  none-to f (suc k) l = rw (← add-one k) (doubled-next mem k capacity (sym (f k (omega arith)) ∙ twice-here k (omega arith)) (none-to f k (omega arith)))
 
   pub doubled-said : (r : Doubling) → doubledIn r ≡ (if leb (nth mem 3 + 1) 8 then firstTwice (nth mem 3 + 1) (length lines / 25) lines else [])
-      → DoubledBy (doubledTasks (planIn rooms mem .lines)) (doubledIn r)
+      → DoubledBy (doubledTasks (planIn capacity mem .lines)) (doubledIn r)
   doubled-said r e = by r (rw (le-leb (nth mem 3 + 1) 8 (omega (arith, sizes (h .standing .job) .losses-most)), n) at e)
     where
       n : length lines / 25 ≡ nth mem 0
       n = omega (arith, lines-length)
 
-      by : (r : Doubling) → doubledIn r ≡ firstTwice (nth mem 3 + 1) (nth mem 0) lines → DoubledBy (doubledTasks (planIn rooms mem .lines)) (doubledIn r)
-      by Single e = doubled-done mem (nth mem 0) rooms (omega arith) (omega arith) (none-to (first-all (nth mem 3 + 1) lines (nth mem 0) (sym e)) (nth mem 0) (omega arith))
+      by : (r : Doubling) → doubledIn r ≡ firstTwice (nth mem 3 + 1) (nth mem 0) lines → DoubledBy (doubledTasks (planIn capacity mem .lines)) (doubledIn r)
+      by Single e = doubled-done mem (nth mem 0) capacity (omega arith) (omega arith) (none-to (first-all (nth mem 3 + 1) lines (nth mem 0) (sym e)) (nth mem 0) (omega arith))
       by (Twice t) e =
           let (k, l, f, q) = first-some (nth mem 3 + 1) lines t (nth mem 0) (sym e) in
           let s = sizes (h .standing .job) in
-          let g : nth mem (rowAt rooms k) ≡ t = sym (task-here k l) ∙ q in
-          rw (← g) (doubled-here mem k rooms l (sym f ∙ twice-here k l), omega (arith, h .standing .task-of k l, s .tasks-most .0))
+          let g : nth mem (rowAt capacity k) ≡ t = sym (task-here k l) ∙ q in
+          rw (← g) (doubled-here mem k capacity l (sym f ∙ twice-here k l), omega (arith, h .standing .task-of k l, s .tasks-most .0))

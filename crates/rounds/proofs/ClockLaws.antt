@@ -52,23 +52,24 @@ clocks-next {a} {mem} h clocks next c g e₀ f₀ es ls s =
     })
 
 -- A line among those whose ticks are short.
-pub line-timed : {rooms n i : ℕ} {mem : List ℕ} → LinesHeld rooms n mem → i ≤ n → ShortTo rooms i mem → (k : ℕ) → k < i → LineTimed (rowAt rooms k) mem
-line-timed {rooms} {n} {i} {mem} h l s k g =
+pub line-timed : {capacity n i : ℕ} {mem : List ℕ} → LinesHeld capacity n mem → i ≤ n → ShortTo capacity i mem → (k : ℕ) → k < i → LineTimed (rowAt capacity k) mem
+line-timed {capacity} {n} {i} {mem} h l s k g =
     let w = sizes (h .job) in
     let m = h .count in
     record {
-      job = (rooms, h .job);
+      job = (capacity, h .job);
       row = h .row k (omega arith);
       within = omega arith;
       ticks = λ c o. let (x, y) = s k c g o in (omega arith, omega arith);
     }
 
 -- The clocks after line k.
-pub clocks-line : (rooms k : ℕ) (mem : List ℕ) (clocks : Clocks)
-    → ClocksHeld clocks (jobIn mem) (rowOutcomes false (rowAt rooms k) (nth mem 3 + 1) mem ++ earliesIn rooms k mem) (rowOutcomes true (rowAt rooms k) (nth mem 3 + 1) mem ++ latesIn rooms k mem)
-    → ClocksHeld clocks (jobIn mem) (earliesIn rooms (k + 1) mem) (latesIn rooms (k + 1) mem)
+pub clocks-line : (capacity k : ℕ) (mem : List ℕ) (clocks : Clocks)
+    → ClocksHeld clocks (jobIn mem) (rowOutcomes false (rowAt capacity k) (nth mem 3 + 1) mem ++ earliesIn capacity k mem)
+    (rowOutcomes true (rowAt capacity k) (nth mem 3 + 1) mem ++ latesIn capacity k mem)
+    → ClocksHeld clocks (jobIn mem) (earliesIn capacity (k + 1) mem) (latesIn capacity (k + 1) mem)
 unfolding placedIn
-clocks-line rooms k mem clocks s = rw (add-one k) s
+clocks-line capacity k mem clocks s = rw (add-one k) s
 
 -- All clocks are at 0.
 pub outset-clocks : {j : Job} {clocks : Clocks} → j .processors ≤ 16 → clocks .early ≡ replicate 16 0 → clocks .late ≡ replicate 16 0 → ClocksHeld clocks j [] []

@@ -1,10 +1,10 @@
 -- One turn of the planner: the free tasks, the critical one, its line, and what waits after it.
-use Rattle.lists.proofs.Prelude.{_≡_, refl, ap, ap₂, _∙_, sym, inl, inr, List, [], _∷_, map, map-map, reverseAux, Bool, true, false, not, _&&_, ℕ, zero, suc, _+_, _-_, _<_, _≤_, arith, ne-eqb, eqb, ltb, length, if_then_else_, In, nth, keep, all, countFrom, below, Job, after, least, largest, Copy, Outcome, finish, walk, copiesOf, copyOf, tickOf, Waiting, waitingFrom, freeTasks, ranked, trial, goesBefore, replicas, place}
+use Rattle.lists.proofs.Prelude.{_≡_, refl, ap, ap₂, _∙_, sym, inl, inr, List, [], _∷_, map, map-map, reverseAux, Bool, true, false, not, _&&_, ℕ, zero, suc, _+_, _-_, _<_, _≤_, arith, ne-eqb, eqb, ltb, length, if_then_else_, In, nth, keep, all, countFrom, below, Job, after, least, largest, Placement, Outcome, finish, walk, placementsOf, placementOf, tickOf, Waiting, waitingFrom, freeTasks, ranked, trial, goesBefore, replicas, place}
 use Rattle.definitions.specs.Planner.{criticalTask, chosen}
 use Rattle.definitions.proofs.Lists.{in-below, nth-below}
 use Rattle.definitions.proofs.Chosen.{chosen-count}
 use Rattle.definitions.proofs.Placing.{greatest-in}
-use Rattle.rounds.specs.Planning.{bestOf}
+use Rattle.rounds.specs.Planning.{criticalOf}
 use Rattle.lists.proofs.ListLaws.{keep-same, keep-keep}
 use Rattle.lists.proofs.Upward.{count-yes, count-no}
 
@@ -60,9 +60,9 @@ none-kept f (x ∷ xs) = by (f x) (none-kept f xs)
 
 -- The greatest is one of them ---------------------------------------------------------------------------------------
 
-pub best-in : (d : ℕ) (xs : List (ℕ × ℕ)) → 0 < length xs → In (bestOf d xs) (map (λ y. y .0) xs)
-best-in d [] h = absurd (omega arith)
-best-in d (x ∷ xs) h = greatest-in x xs
+pub critical-in : (d : ℕ) (xs : List (ℕ × ℕ)) → 0 < length xs → In (criticalOf d xs) (map (λ y. y .0) xs)
+critical-in d [] h = absurd (omega arith)
+critical-in d (x ∷ xs) h = greatest-in x xs
 
 -- The tasks that wait at first: the numbers from k on, with their bottom levels.
 pub waiting-from : (f : ℕ → ℕ) (k n : ℕ) → waitingFrom k (map f (countFrom k n)) ≡ map (λ t. record { task = t; bottom = f t }) (countFrom k n)
@@ -84,8 +84,8 @@ module _ (j : Job) (losses n : ℕ) (waiting : List Waiting) (es ls : List Outco
   -- The task of greatest rank among these is placed, and the others wait.
   abbrev Turn : ℕ → List Waiting → Type 0
   Turn d fs =
-      let t = bestOf d (map (ranked j es) fs) in
-      let cs = copiesOf j t (chosen j (losses + 1) (trial j es t)) in
+      let t = criticalOf d (map (ranked j es) fs) in
+      let cs = placementsOf j t (chosen j (losses + 1) (trial j es t)) in
       let e = walk j least [] es cs in
       let x = walk j largest [] ls cs in
       place j losses (suc n) waiting es ls
@@ -122,11 +122,11 @@ chosen-same j w xs ys h =
     (λ p i. ap (λ (ps : List ℕ). ltb (length ps) w)
     (keep-same (goesBefore xs p) (goesBefore ys p) (below m) (λ q k. rw (h p (in-below m p i), h q (in-below m q k)))))
 
-pub trial-nth : (j : Job) (placed : List Outcome) (t p : ℕ) → p < j .processors → nth (trial j placed t) p ≡ tickOf (finish j least [] placed (copyOf j t p))
+pub trial-nth : (j : Job) (placed : List Outcome) (t p : ℕ) → p < j .processors → nth (trial j placed t) p ≡ tickOf (finish j least [] placed (placementOf j t p))
 unfolding trial
 trial-nth j placed t p h =
-    let f : Copy → ℕ = λ c. tickOf (finish j least [] placed c) in
-    ap (λ (xs : List ℕ). nth xs p) (map-map f (copyOf j t) (below (j .processors))) ∙ nth-below (λ p. f (copyOf j t p)) (j .processors) p h
+    let f : Placement → ℕ = λ c. tickOf (finish j least [] placed c) in
+    ap (λ (xs : List ℕ). nth xs p) (map-map f (placementOf j t) (below (j .processors))) ∙ nth-below (λ p. f (placementOf j t p)) (j .processors) p h
 
 count-most : (f : ℕ → Bool) (n k : ℕ) → length (keep f (below n)) ≤ length (keep f (below (n + k)))
 count-most f n zero = let e : n + 0 ≡ n = omega arith in rw e (omega arith)

@@ -11,7 +11,7 @@ use Rattle.rounds.specs.Replaying.{outcomesIn, RisingIn, FirstIn}
 use Rattle.lists.proofs.Counting.{equal-or-not}
 use Rattle.rounds.proofs.TimeLaws.{time-tick, sooner-left, sooner-right}
 use Rattle.rounds.proofs.Placed.{placed-rowOf}
-use Rattle.rounds.proofs.EndLaws.{all-placed, row-of-task}
+use Rattle.rounds.proofs.MakespanLaws.{all-placed, row-of-task}
 
 -- Least times ---------------------------------------------------------------------------------------------------------
 
@@ -137,45 +137,45 @@ module _ (ds : List Outcome) (x p : ℕ) (f : FirstOf ds x p) (h : x ≤ neverCe
 
 -- The first of a task ---------------------------------------------------------------------------------------------------
 
-module _ (rooms : ℕ) (mem : List ℕ) (r : RisingIn rooms mem) (i : ℕ) (h : i < nth mem 0) where
+module _ (capacity : ℕ) (mem : List ℕ) (r : RisingIn capacity mem) (i : ℕ) (h : i < nth mem 0) where
   -- A line's processors before a place are not higher than the one at it.
-  rising-row : (c : ℕ) → c < nth mem 3 + 1 → (d : Outcome) → In d (rowOutcomes false (rowAt rooms i) c mem) → d .processor ≤ nth mem (processorAt (rowAt rooms i) c)
+  rising-row : (c : ℕ) → c < nth mem 3 + 1 → (d : Outcome) → In d (rowOutcomes false (rowAt capacity i) c mem) → d .processor ≤ nth mem (processorAt (rowAt capacity i) c)
   unfolding rowOutcomes
   rising-row (suc c) g d m =
-      let up : nth mem (processorAt (rowAt rooms i) c) ≤ nth mem (processorAt (rowAt rooms i) (suc c)) = rw (add-one c) at (r i c h (omega arith)) in
+      let up : nth mem (processorAt (rowAt capacity i) c) ≤ nth mem (processorAt (rowAt capacity i) (suc c)) = rw (add-one c) at (r i c h (omega arith)) in
       ⊎-elim
-      (λ e. let q : nth mem (processorAt (rowAt rooms i) c) ≡ d .processor = ap (λ (d : Outcome). d .processor) e in omega arith)
+      (λ e. let q : nth mem (processorAt (rowAt capacity i) c) ≡ d .processor = ap (λ (d : Outcome). d .processor) e in omega arith)
       (λ k. omega (arith, rising-row c (omega arith) d k))
       m
 
 -- x is the first finish, on p, of the first c replicas of a task's line.
 abbrev Seen : ℕ → List ℕ → ℕ → ℕ → ℕ → ℕ → Type 0
-Seen rooms mem t c x p = FirstOf (rowOutcomes false (rowOf rooms t mem) c mem) x p
+Seen capacity mem t c x p = FirstOf (rowOutcomes false (rowOf capacity t mem) c mem) x p
 
-seen-none : (rooms : ℕ) (mem : List ℕ) (t p : ℕ) → Seen rooms mem t 0 neverCell p
+seen-none : (capacity : ℕ) (mem : List ℕ) (t p : ℕ) → Seen capacity mem t 0 neverCell p
 unfolding rowOutcomes
-seen-none rooms mem t p = first-none p
+seen-none capacity mem t p = first-none p
 
-module _ {rooms : ℕ} {mem : List ℕ} (s : LinesHeld rooms (nth mem 0) mem) (r : RisingIn rooms mem) (t : ℕ) (h : t < nth mem 0) where
-  module _ (c x p : ℕ) (f : Seen rooms mem t c x p) (g : c < nth mem 3 + 1) (m : x ≤ neverCell) where
-    seen-sooner : nth mem (earlyAt (rowOf rooms t mem) c) < x → Seen rooms mem t (c + 1) (nth mem (earlyAt (rowOf rooms t mem) c)) (nth mem (processorAt (rowOf rooms t mem) c))
+module _ {capacity : ℕ} {mem : List ℕ} (s : LinesHeld capacity (nth mem 0) mem) (r : RisingIn capacity mem) (t : ℕ) (h : t < nth mem 0) where
+  module _ (c x p : ℕ) (f : Seen capacity mem t c x p) (g : c < nth mem 3 + 1) (m : x ≤ neverCell) where
+    seen-sooner : nth mem (earlyAt (rowOf capacity t mem) c) < x → Seen capacity mem t (c + 1) (nth mem (earlyAt (rowOf capacity t mem) c)) (nth mem (processorAt (rowOf capacity t mem) c))
     unfolding rowOutcomes
     seen-sooner l = rw (add-one c) (first-sooner _ x p f m _ _ _ l)
 
-    seen-stays : x ≤ nth mem (earlyAt (rowOf rooms t mem) c) → nth mem (earlyAt (rowOf rooms t mem) c) ≤ neverCell → Seen rooms mem t (c + 1) x p
+    seen-stays : x ≤ nth mem (earlyAt (rowOf capacity t mem) c) → nth mem (earlyAt (rowOf capacity t mem) c) ≤ neverCell → Seen capacity mem t (c + 1) x p
     unfolding rowOutcomes
     seen-stays l n =
         rw (add-one c)
-        (first-stays (rowOutcomes false (rowOf rooms t mem) c mem) x p f m _ _ _ l n
-        (rising-row rooms mem r (nth mem (lineAt rooms + t) - 1) (omega (arith, all-placed s t h, row-of-task s t h .1)) c g))
+        (first-stays (rowOutcomes false (rowOf capacity t mem) c mem) x p f m _ _ _ l n
+        (rising-row capacity mem r (nth mem (lineAt capacity + t) - 1) (omega (arith, all-placed s t h, row-of-task s t h .1)) c g))
 
-  seen-all : (c x p : ℕ) → c ≡ nth mem 3 + 1 → Seen rooms mem t c x p → FirstIn rooms t x p mem
+  seen-all : (c x p : ℕ) → c ≡ nth mem 3 + 1 → Seen capacity mem t c x p → FirstIn capacity t x p mem
   unfolding firstFinish firstProcessor
   seen-all c x p e f₀ =
-      let own : ofTask t (outcomesIn rooms mem) ≡ rowOutcomes false (rowOf rooms t mem) (nth mem 3 + 1) mem = placed-rowOf s false (nth mem 3 + 1) (nth mem 0) (omega arith) t h
+      let own : ofTask t (outcomesIn capacity mem) ≡ rowOutcomes false (rowOf capacity t mem) (nth mem 3 + 1) mem = placed-rowOf s false (nth mem 3 + 1) (nth mem 0) (omega arith) t h
       (all-placed s t h) (row-of-task s t h .1) in
-      let f : FirstOf (ofTask t (outcomesIn rooms mem)) x p = rw (own, ← e) f₀ in
-      let ds = ofTask t (outcomesIn rooms mem) in
+      let f : FirstOf (ofTask t (outcomesIn capacity mem)) x p = rw (own, ← e) f₀ in
+      let ds = ofTask t (outcomesIn capacity mem) in
       let same-time : Outcome → Bool = λ d. same (d .time) (timeIn x) in
       record {
         finish = f .finish;
@@ -189,26 +189,26 @@ module _ {rooms : ℕ} {mem : List ℕ} (s : LinesHeld rooms (nth mem 0) mem) (r
       }
 
   -- The cells of the task's replicas, and what is seen in them.
-  module _ (small : (i : ℕ) → nth mem i ≤ neverCell) (cells : List ℕ) (on : (c : ℕ) → c < nth mem 3 + 1 → nth cells (3 * c) ≡ nth mem (processorAt (rowOf rooms t mem) c))
-      (early : (c : ℕ) → c < nth mem 3 + 1 → nth cells (3 * c + 1) ≡ nth mem (earlyAt (rowOf rooms t mem) c)) where
-    seen-more : (c : ℕ) → c < nth mem 3 + 1 → Seen rooms mem t c (leastEarly c cells) (leastOn c cells) → leastEarly c cells ≤ neverCell
-        → Seen rooms mem t (c + 1) (leastEarly (c + 1) cells) (leastOn (c + 1) cells) × (leastEarly (c + 1) cells ≤ neverCell)
+  module _ (small : (i : ℕ) → nth mem i ≤ neverCell) (cells : List ℕ) (on : (c : ℕ) → c < nth mem 3 + 1 → nth cells (3 * c) ≡ nth mem (processorAt (rowOf capacity t mem) c))
+      (early : (c : ℕ) → c < nth mem 3 + 1 → nth cells (3 * c + 1) ≡ nth mem (earlyAt (rowOf capacity t mem) c)) where
+    seen-more : (c : ℕ) → c < nth mem 3 + 1 → Seen capacity mem t c (leastEarly c cells) (leastOn c cells) → leastEarly c cells ≤ neverCell
+        → Seen capacity mem t (c + 1) (leastEarly (c + 1) cells) (leastOn (c + 1) cells) × (leastEarly (c + 1) cells ≤ neverCell)
     seen-more c l f m = by (ltb (nth cells (3 * c + 1)) (leastEarly c cells)) refl
       where
         by : (b : Bool) → ltb (nth cells (3 * c + 1)) (leastEarly c cells) ≡ b
-            → Seen rooms mem t (c + 1) (leastEarly (c + 1) cells) (leastOn (c + 1) cells) × (leastEarly (c + 1) cells ≤ neverCell)
+            → Seen capacity mem t (c + 1) (leastEarly (c + 1) cells) (leastOn (c + 1) cells) × (leastEarly (c + 1) cells ≤ neverCell)
         by true e =
             let g = ltb-true _ _ e in
             let (p, q) = least-sooner cells c g in
-            rw (← p, ← q, early c l, on c l) (seen-sooner c _ _ f l m (rw (early c l) at g), small (earlyAt (rowOf rooms t mem) c))
+            rw (← p, ← q, early c l, on c l) (seen-sooner c _ _ f l m (rw (early c l) at g), small (earlyAt (rowOf capacity t mem) c))
         by false e =
             let g = ltb-false _ _ e in
             let (p, q) = least-stays cells c g in
-            rw (← p, ← q) (seen-stays c _ _ f l m (rw (early c l) at g) (small (earlyAt (rowOf rooms t mem) c)), m)
+            rw (← p, ← q) (seen-stays c _ _ f l m (rw (early c l) at g) (small (earlyAt (rowOf capacity t mem) c)), m)
 
-    seen-to : (c : ℕ) → c ≤ nth mem 3 + 1 → Seen rooms mem t c (leastEarly c cells) (leastOn c cells) × (leastEarly c cells ≤ neverCell)
-    seen-to zero l = let (e, f) = least-none cells in rw (e, f) (seen-none rooms mem t 0, omega arith)
+    seen-to : (c : ℕ) → c ≤ nth mem 3 + 1 → Seen capacity mem t c (leastEarly c cells) (leastOn c cells) × (leastEarly c cells ≤ neverCell)
+    seen-to zero l = let (e, f) = least-none cells in rw (e, f) (seen-none capacity mem t 0, omega arith)
     seen-to (suc c) l = let (f, m) = seen-to c (omega arith) in rw (← add-one c) (seen-more c (omega arith) f m)
 
-    pub first-seen : (w : ℕ) → w ≡ nth mem 3 + 1 → FirstIn rooms t (leastEarly w cells) (leastOn w cells) mem
+    pub first-seen : (w : ℕ) → w ≡ nth mem 3 + 1 → FirstIn capacity t (leastEarly w cells) (leastOn w cells) mem
     first-seen w e = seen-all w _ _ e (seen-to w (omega arith) .0)

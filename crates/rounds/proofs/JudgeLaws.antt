@@ -1,9 +1,9 @@
 -- M* and M of a plan whose ticks are the equations', and the checker's answer.
-use Rattle.lists.proofs.Prelude.{_≡_, refl, ap, _∙_, sym, List, [], _∷_, reverse, reverseAux, Bool, true, false, ℕ, _+_, _<_, min, arith, eqb-true, eq-eqb, ne-eqb, eqb, if_then_else_, nth, In, keep, document01, firstOf, good, Job, Plan, Time, tick, never, later, sooner, same, least, largest, Outcome, ofTask, times, earlies, lates, exits, end, doubledTasks, ticksAgree, endsAgree, verdictFor}
-use Rattle.definitions.specs.Times.{bestEnd, worstEnd}
+use Rattle.lists.proofs.Prelude.{_≡_, refl, ap, _∙_, sym, List, [], _∷_, reverse, reverseAux, Bool, true, false, ℕ, _+_, _<_, min, arith, eqb-true, eq-eqb, ne-eqb, eqb, if_then_else_, nth, In, keep, document01, firstOf, good, Job, Plan, Time, tick, never, later, sooner, same, least, largest, Outcome, ofTask, times, earlies, lates, exits, makespan, doubledTasks, ticksAgree, boundsAgree, verdictFor}
+use Rattle.definitions.specs.Times.{lowerBound, upperBound}
 use Rattle.definitions.specs.Refusals.{planRefusal}
 use Rattle.definitions.proofs.Lists.{map-same, in-some}
-use Rattle.heads.specs.Layout.{bestAt, worstAt}
+use Rattle.heads.specs.Layout.{lowerAt, upperAt}
 use Rattle.jobs.specs.Held.{jobIn}
 use Rattle.ticks.specs.Cells.{neverCell, timeIn}
 use Rattle.plans.specs.Lines.{placedIn}
@@ -73,9 +73,9 @@ module _ (late : Bool) (t : ℕ) where
       by true = sym (joined-assoc late (chosen xs) (x .time) (chosen ys)) ∙ ap (λ (z : Time). joined late z (chosen ys)) (joined-comm late (chosen xs) (x .time))
       by false = refl
 
-end-reverse : (j : Job) (late : Bool) (ds : List Outcome) → end j (choiceOf late) (reverse ds) ≡ end j (choiceOf late) ds
-unfolding end
-end-reverse j late ds =
+makespan-reverse : (j : Job) (late : Bool) (ds : List Outcome) → makespan j (choiceOf late) (reverse ds) ≡ makespan j (choiceOf late) ds
+unfolding makespan
+makespan-reverse j late ds =
     ap largest
     (map-same (λ t. chosen late t (reverse ds)) (λ t. chosen late t ds) (exits j)
     (λ t i. chosen-reverse late t ds [] ∙ joined-comm late (chosen late t ds) (chosen late t []) ∙ chosen-none late t (chosen late t ds)))
@@ -90,30 +90,32 @@ same-cell x y l = by (eqb x neverCell) refl
     by true p = let q = eqb-true x neverCell p in sym (ne-eqb x y (λ e. omega arith))
     by false p = refl
 
-module _ {rooms : ℕ} {mem : List ℕ} (h : PlanHeld rooms mem) (one : doubledTasks (planIn rooms mem .lines) ≡ []) (t : ticksAgree (jobIn mem) (planIn rooms mem .lines) ≡ true) where
-  best-same : (x : ℕ) → timeIn x ≡ end (jobIn mem) (choiceOf false) (placedIn rooms false (nth mem 3 + 1) (nth mem 0) mem)
-      → same (bestEnd (jobIn mem) (planIn rooms mem .lines)) (tick (planIn rooms mem .best)) ≡ eqb x (nth mem (bestAt rooms))
-  unfolding bestEnd earlies planIn
-  best-same x e =
-      let ds = placedIn rooms false (nth mem 3 + 1) (nth mem 0) mem in
-      rw (agreed-walk h one false (nth mem 0) (omega arith) (ticks-all h one t), end-reverse (jobIn mem) false ds, ← e) (same-cell x (nth mem (bestAt rooms)) (omega (arith, h .facts .best-most)))
+module _ {capacity : ℕ} {mem : List ℕ} (h : PlanHeld capacity mem) (one : doubledTasks (planIn capacity mem .lines) ≡ []) (t : ticksAgree (jobIn mem) (planIn capacity mem .lines) ≡ true) where
+  lower-same : (x : ℕ) → timeIn x ≡ makespan (jobIn mem) (choiceOf false) (placedIn capacity false (nth mem 3 + 1) (nth mem 0) mem)
+      → same (lowerBound (jobIn mem) (planIn capacity mem .lines)) (tick (planIn capacity mem .lower)) ≡ eqb x (nth mem (lowerAt capacity))
+  unfolding lowerBound earlies planIn
+  lower-same x e =
+      let ds = placedIn capacity false (nth mem 3 + 1) (nth mem 0) mem in
+      rw (agreed-walk h one false (nth mem 0) (omega arith) (ticks-all h one t), makespan-reverse (jobIn mem) false ds, ← e)
+      (same-cell x (nth mem (lowerAt capacity)) (omega (arith, h .facts .lower-most)))
 
-  worst-same : (y : ℕ) → timeIn y ≡ end (jobIn mem) (choiceOf true) (placedIn rooms true (nth mem 3 + 1) (nth mem 0) mem)
-      → same (worstEnd (jobIn mem) (planIn rooms mem .lines)) (tick (planIn rooms mem .worst)) ≡ eqb y (nth mem (worstAt rooms))
-  unfolding worstEnd lates planIn
-  worst-same y e =
-      let ds = placedIn rooms true (nth mem 3 + 1) (nth mem 0) mem in
-      rw (agreed-walk h one true (nth mem 0) (omega arith) (ticks-all h one t), end-reverse (jobIn mem) true ds, ← e) (same-cell y (nth mem (worstAt rooms)) (omega (arith, h .facts .worst-most)))
+  upper-same : (y : ℕ) → timeIn y ≡ makespan (jobIn mem) (choiceOf true) (placedIn capacity true (nth mem 3 + 1) (nth mem 0) mem)
+      → same (upperBound (jobIn mem) (planIn capacity mem .lines)) (tick (planIn capacity mem .upper)) ≡ eqb y (nth mem (upperAt capacity))
+  unfolding upperBound lates planIn
+  upper-same y e =
+      let ds = placedIn capacity true (nth mem 3 + 1) (nth mem 0) mem in
+      rw (agreed-walk h one true (nth mem 0) (omega arith) (ticks-all h one t), makespan-reverse (jobIn mem) true ds, ← e)
+      (same-cell y (nth mem (upperAt capacity)) (omega (arith, h .facts .upper-most)))
 
-  module _ (x : ℕ) (e : timeIn x ≡ end (jobIn mem) (choiceOf false) (placedIn rooms false (nth mem 3 + 1) (nth mem 0) mem)) where
-    pub best-differs : (x ≡ nth mem (bestAt rooms) → ⊥) → false ≡ endsAgree (jobIn mem) (planIn rooms mem)
-    unfolding endsAgree
-    best-differs n = rw (best-same x e, ne-eqb x (nth mem (bestAt rooms)) n)
+  module _ (x : ℕ) (e : timeIn x ≡ makespan (jobIn mem) (choiceOf false) (placedIn capacity false (nth mem 3 + 1) (nth mem 0) mem)) where
+    pub lower-differs : (x ≡ nth mem (lowerAt capacity) → ⊥) → false ≡ boundsAgree (jobIn mem) (planIn capacity mem)
+    unfolding boundsAgree
+    lower-differs n = rw (lower-same x e, ne-eqb x (nth mem (lowerAt capacity)) n)
 
-    pub worst-decides : x ≡ nth mem (bestAt rooms) → (y : ℕ) → timeIn y ≡ end (jobIn mem) (choiceOf true) (placedIn rooms true (nth mem 3 + 1) (nth mem 0) mem)
-        → eqb y (nth mem (worstAt rooms)) ≡ endsAgree (jobIn mem) (planIn rooms mem)
-    unfolding endsAgree
-    worst-decides q y f = rw (best-same x e, eq-eqb x (nth mem (bestAt rooms)) q, worst-same y f)
+    pub upper-decides : x ≡ nth mem (lowerAt capacity) → (y : ℕ) → timeIn y ≡ makespan (jobIn mem) (choiceOf true) (placedIn capacity true (nth mem 3 + 1) (nth mem 0) mem)
+        → eqb y (nth mem (upperAt capacity)) ≡ boundsAgree (jobIn mem) (planIn capacity mem)
+    unfolding boundsAgree
+    upper-decides q y f = rw (lower-same x e, eq-eqb x (nth mem (lowerAt capacity)) q, upper-same y f)
 
 -- The answer --------------------------------------------------------------------------------------------------------
 
@@ -128,10 +130,10 @@ module _ (j : Job) (p : Plan) where
     answer-ticks e = rw (one, e)
 
     module _ (e : ticksAgree j (p .lines) ≡ true) where
-      pub answer-ends : endsAgree j p ≡ false → Judged (verdictFor document01 j (good p)) (Refused 14)
+      pub answer-bounds : boundsAgree j p ≡ false → Judged (verdictFor document01 j (good p)) (Refused 14)
       unfolding planRefusal firstOf
-      answer-ends f = rw (one, e, f)
+      answer-bounds f = rw (one, e, f)
 
-      pub answer-accepted : endsAgree j p ≡ true → Judged (verdictFor document01 j (good p)) Accepted
+      pub answer-accepted : boundsAgree j p ≡ true → Judged (verdictFor document01 j (good p)) Accepted
       unfolding planRefusal firstOf
       answer-accepted f = rw (one, e, f)

@@ -66,13 +66,13 @@ module _ {f : Edge → ℕ} {a : ℕ} {cells : List ℕ} where
   longest-done {es} w h g = g .largest-of ∙ rw (pass-done w h) (omega (arith, greatest-reverse f es []))
 
 -- An edge that leaves a task: its task, its message and its successor's level are within their limits.
-pub record Message (rooms total : ℕ) (mem : List ℕ) (e : Edge) : Type 0 where
+pub record Message (capacity total : ℕ) (mem : List ℕ) (e : Edge) : Type 0 where
   pub to-below : e .to < nth mem 0
   pub little : e .volume * total ≤ 267_321_600
-  pub level : nth mem (levelAt rooms + e .to) ≤ levelMost
-  pub sent-same : e .volume * total + nth mem (levelAt rooms + e .to) ≡ sent rooms mem e
+  pub level : nth mem (levelAt capacity + e .to) ≤ levelMost
+  pub sent-same : e .volume * total + nth mem (levelAt capacity + e .to) ≡ sent capacity mem e
 
-module _ {rooms : ℕ} {mem : List ℕ} (held : JobHeld rooms mem) where
+module _ {capacity : ℕ} {mem : List ℕ} (held : JobHeld capacity mem) where
   -- What a message takes at most, scaled.
   message-most : (e : Edge) → In e (jobIn mem .edges) → e .volume * totalDelay (jobIn mem) ≤ 267_321_600
   message-most e i =
@@ -86,8 +86,8 @@ module _ {rooms : ℕ} {mem : List ℕ} (held : JobHeld rooms mem) where
   pub leaves-to : (t : ℕ) (e : Edge) → In e (outgoing (jobIn mem) t) → e .to < nth mem 0
   leaves-to t e i = to-in e (in-outgoing (jobIn mem) t e i .0)
 
-  pub message : {total : ℕ} (t : ℕ) → total ≡ totalDelay (jobIn mem) → ((e : Edge) → In e (outgoing (jobIn mem) t) → nth mem (levelAt rooms + e .to) ≤ levelMost)
-      → (e : Edge) → In e (outgoing (jobIn mem) t) → Message rooms total mem e
+  pub message : {total : ℕ} (t : ℕ) → total ≡ totalDelay (jobIn mem) → ((e : Edge) → In e (outgoing (jobIn mem) t) → nth mem (levelAt capacity + e .to) ≤ levelMost)
+      → (e : Edge) → In e (outgoing (jobIn mem) t) → Message capacity total mem e
   message t q f e i =
       record {
         to-below = leaves-to t e i;
@@ -99,14 +99,14 @@ module _ {rooms : ℕ} {mem : List ℕ} (held : JobHeld rooms mem) where
 -- Levels filled ------------------------------------------------------------------------------------------------
 
 -- d became mem: the tasks of the order from place i on have their bottom level.
-pub record Filling (rooms : ℕ) (order d mem : List ℕ) (i : ℕ) : Type 0 where
-  pub kept : KeptOutside (levelAt rooms) (lineAt rooms) d mem
-  pub filled : (k : ℕ) → i ≤ k → k < nth d 0 → nth mem (levelAt rooms + nth order k) ≡ nth (bottomLevels (jobIn d)) (nth order k)
+pub record Filling (capacity : ℕ) (order d mem : List ℕ) (i : ℕ) : Type 0 where
+  pub kept : KeptOutside (levelAt capacity) (lineAt capacity) d mem
+  pub filled : (k : ℕ) → i ≤ k → k < nth d 0 → nth mem (levelAt capacity + nth order k) ≡ nth (bottomLevels (jobIn d)) (nth order k)
 
-pub filling-none : {rooms i : ℕ} (order d : List ℕ) → i ≡ nth d 0 → Filling rooms order d d i
+pub filling-none : {capacity i : ℕ} (order d : List ℕ) → i ≡ nth d 0 → Filling capacity order d d i
 filling-none order d e = record { kept = kept-all; filled = λ k h g. absurd (omega arith) }
 
-module _ {rooms : ℕ} {d : List ℕ} (held : JobHeld rooms d) where
+module _ {capacity : ℕ} {d : List ℕ} (held : JobHeld capacity d) where
   -- No bottom level passes its bound.
   pub level-most : (t : ℕ) → nth (bottomLevels (jobIn d)) t ≤ levelMost
   unfolding jobIn
@@ -116,8 +116,8 @@ module _ {rooms : ℕ} {d : List ℕ} (held : JobHeld rooms d) where
       let few : m * m ≤ 256 = mul-le-mul {n₁ = m} {m₁ = m} {n₂ = 16} {m₂ = 16} (w .processors-most) (w .processors-most) in
       omega (arith, nth-most (bottomLevels (jobIn d)) t (bottom-most document01 (jobIn d) (held .facts)))
 
-  module _ {order mem : List ℕ} (a : Arranged (nth d 0) (jobIn d .edges) order (nth d 0)) {i : ℕ} (f : Filling rooms order d mem i) where
-    filling-held : JobHeld rooms mem
+  module _ {order mem : List ℕ} (a : Arranged (nth d 0) (jobIn d .edges) order (nth d 0)) {i : ℕ} (f : Filling capacity order d mem i) where
+    filling-held : JobHeld capacity mem
     filling-held = held-kept held (f .kept) (omega arith)
 
     filling-job : jobIn mem ≡ jobIn d
@@ -138,39 +138,39 @@ module _ {rooms : ℕ} {d : List ℕ} (held : JobHeld rooms d) where
       filling-run = scaled-most mem filling-held t filling-below
 
       -- The levels of its successors are there.
-      successor : (e : Edge) → In e (outgoing (jobIn d) t) → nth mem (levelAt rooms + e .to) ≡ nth (bottomLevels (jobIn d)) (e .to)
+      successor : (e : Edge) → In e (outgoing (jobIn d) t) → nth mem (levelAt capacity + e .to) ≡ nth (bottomLevels (jobIn d)) (e .to)
       successor e m =
           let (n, q) = in-outgoing (jobIn d) t e m in
           let (k, b, g, p) = order-later a (i - 1) (omega arith) e n q (to-in held e n) in
           rw (← p) (f .filled k (omega arith) g)
 
-      filling-most : (e : Edge) → In e (outgoing (jobIn mem) t) → nth mem (levelAt rooms + e .to) ≤ levelMost
+      filling-most : (e : Edge) → In e (outgoing (jobIn mem) t) → nth mem (levelAt capacity + e .to) ≤ levelMost
       filling-most e m = rw (successor e (rw filling-job at m)) (level-most (e .to))
 
       -- What is stored is its bottom level.
-      filling-level : scaledRun (jobIn mem) t + greatest (map (sent rooms mem) (outgoing (jobIn mem) t)) ≡ nth (bottomLevels (jobIn d)) t
+      filling-level : scaledRun (jobIn mem) t + greatest (map (sent capacity mem) (outgoing (jobIn mem) t)) ≡ nth (bottomLevels (jobIn d)) t
       filling-level =
           let j = jobIn d in
           rw filling-job
           (ap (λ (xs : List ℕ). scaledRun j t + greatest xs)
-          (map-same (sent rooms mem) (λ e. scaledMessage j e + nth (bottomLevels j) (e .to)) (outgoing j t) (λ e m. rw (filling-job, successor e m)))
+          (map-same (sent capacity mem) (λ e. scaledMessage j e + nth (bottomLevels j) (e .to)) (outgoing j t) (λ e m. rw (filling-job, successor e m)))
           ∙ sym (bottom-level document01 j (held .facts) t (rw (tasks-in d) filling-task)))
 
       -- One level more.
-      filling-more : (x : ℕ) → x ≡ scaledRun (jobIn mem) t + greatest (map (sent rooms mem) (outgoing (jobIn mem) t)) → Filling rooms order d (set mem (levelAt rooms + t) x) (i - 1)
+      filling-more : (x : ℕ) → x ≡ scaledRun (jobIn mem) t + greatest (map (sent capacity mem) (outgoing (jobIn mem) t)) → Filling capacity order d (set mem (levelAt capacity + t) x) (i - 1)
       filling-more x e =
           let w = sizes held in
           record {
-            kept = kept-set (levelAt rooms + t) x (f .kept) (omega arith) (omega (arith, filling-task));
+            kept = kept-set (levelAt capacity + t) x (f .kept) (omega arith) (omega (arith, filling-task));
             filled = λ k b g.
                 ⊎-elim
-                (λ (q : nth order k ≡ t). rw q (getD-set-same mem (levelAt rooms + t) x 0 (omega (arith, f .kept .size, filling-task)) ∙ e ∙ filling-level))
-                (λ q. getD-set-other mem (levelAt rooms + t) (levelAt rooms + nth order k) x 0 (λ s. q (omega arith))
+                (λ (q : nth order k ≡ t). rw q (getD-set-same mem (levelAt capacity + t) x 0 (omega (arith, f .kept .size, filling-task)) ∙ e ∙ filling-level))
+                (λ q. getD-set-other mem (levelAt capacity + t) (levelAt capacity + nth order k) x 0 (λ s. q (omega arith))
                 ∙ f .filled k (⊎-elim (λ (p : k ≡ i - 1). absurd (q (rw p))) (λ p. omega arith) (equal-or-not k (i - 1))) g)
                 (equal-or-not (nth order k) t);
           }
 
-    pub filling-done : i ≡ 0 → KeptOutside (levelAt rooms) (lineAt rooms) d mem × LevelsFilled rooms mem
+    pub filling-done : i ≡ 0 → KeptOutside (levelAt capacity) (lineAt capacity) d mem × LevelsFilled capacity mem
     filling-done z = (
       f .kept,
       λ t h.
@@ -180,18 +180,18 @@ module _ {rooms : ℕ} {d : List ℕ} (held : JobHeld rooms d) where
     )
 
 -- What the code asks for the next task t of the order, and what it leaves.
-pub record FillStep (rooms : ℕ) (order d mem links : List ℕ) (i t : ℕ) : Type 0 where
-  pub held : JobHeld rooms mem
+pub record FillStep (capacity : ℕ) (order d mem links : List ℕ) (i t : ℕ) : Type 0 where
+  pub held : JobHeld capacity mem
   pub linked : LinksHeld mem links
   pub task : t < nth d 0
   pub below : t < nth mem 0
   pub run : scaledRun (jobIn mem) t ≤ 240_000_000
-  pub levels : (e : Edge) → In e (outgoing (jobIn mem) t) → nth mem (levelAt rooms + e .to) ≤ levelMost
+  pub levels : (e : Edge) → In e (outgoing (jobIn mem) t) → nth mem (levelAt capacity + e .to) ≤ levelMost
   pub job : jobIn mem ≡ jobIn d
-  pub more : (x y : ℕ) → x ≡ scaledRun (jobIn mem) t → y ≡ greatest (map (sent rooms mem) (outgoing (jobIn mem) t)) → Filling rooms order d (set mem (levelAt rooms + t) (x + y)) (i - 1)
+  pub more : (x y : ℕ) → x ≡ scaledRun (jobIn mem) t → y ≡ greatest (map (sent capacity mem) (outgoing (jobIn mem) t)) → Filling capacity order d (set mem (levelAt capacity + t) (x + y)) (i - 1)
 
-pub filling-step : {rooms : ℕ} {order d mem links : List ℕ} → JobHeld rooms d → LinksHeld d links → Arranged (nth d 0) (jobIn d .edges) order (nth d 0)
-    → (i t : ℕ) → 0 < i → i ≤ nth d 0 → Filling rooms order d mem i → t ≡ nth order (i - 1) → FillStep rooms order d mem links i t
+pub filling-step : {capacity : ℕ} {order d mem links : List ℕ} → JobHeld capacity d → LinksHeld d links → Arranged (nth d 0) (jobIn d .edges) order (nth d 0)
+    → (i t : ℕ) → 0 < i → i ≤ nth d 0 → Filling capacity order d mem i → t ≡ nth order (i - 1) → FillStep capacity order d mem links i t
 filling-step h s a i t l g f e =
     rw e
     (record {

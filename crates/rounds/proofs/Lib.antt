@@ -4,7 +4,7 @@ pub mod CheckLaws
 pub mod ClockLaws
 pub mod DrawLaws
 pub mod Drawing
-pub mod EndLaws
+pub mod MakespanLaws
 pub mod FirstLaws
 pub mod FreeLaws
 pub mod JudgeLaws

@@ -1,5 +1,5 @@
 -- The longest answer of the replay: 255 R lines of at most 20 bytes each, and an L line of at most 13.
-use Rattle.lists.proofs.Prelude.{_≡_, refl, ap, inl, inr, ⊎-elim, List, [], _∷_, map, false, ℕ, zero, suc, _+_, _*_, _<_, _≤_, arith, length, length-append, bytes, nth, below, In, keep, document01, widthFrom, width, Job, Time, tick, never, same, Outcome, ofTask, firstFinish, lowest, firstProcessor, roundEnd, resultLine, resultLines, endLine, replayText}
+use Rattle.lists.proofs.Prelude.{_≡_, refl, ap, inl, inr, ⊎-elim, List, [], _∷_, map, false, ℕ, zero, suc, _+_, _*_, _<_, _≤_, arith, length, length-append, bytes, nth, below, In, keep, document01, widthFrom, width, Job, Time, tick, never, same, Outcome, ofTask, firstFinish, lowest, firstProcessor, replayMakespan, resultLine, resultLines, endLine, replayText}
 use Rattle.definitions.proofs.Lists.{in-append, in-map, in-keep, in-below, length-count}
 use Rattle.definitions.proofs.Decimal.{width-powers, width-monotone, length-decimal, length-none, length-numbers, length-line}
 use Rattle.definitions.proofs.Tasks.{in-task}
@@ -76,10 +76,10 @@ module _ (ds : List Outcome) (h : (d : Outcome) → In d ds → d .processor ≤
   text-most j g =
       omega (
         arith,
-        length-append (resultLines document01 (below (j .tasks)) ds) (endLine document01 (roundEnd j ds)),
+        length-append (resultLines document01 (below (j .tasks)) ds) (endLine document01 (replayMakespan j ds)),
         lines-most (below (j .tasks)) (λ t i. omega (arith, in-below (j .tasks) t i)),
         length-count 0 (j .tasks),
-        end-most (roundEnd j ds),
+        end-most (replayMakespan j ds),
       )
 
 -- The replay in memory ------------------------------------------------------------------------------------------------
@@ -93,15 +93,15 @@ row-on a (suc c) mem h d i =
     (λ k. row-on a c mem (λ n l. h n (omega arith)) d k)
     i
 
-placed-on : {rooms n : ℕ} {mem : List ℕ} → LinesHeld rooms n mem → (k : ℕ) → k ≤ n → (d : Outcome) → In d (placedIn rooms false (nth mem 3 + 1) k mem) → d .processor ≤ 16
+placed-on : {capacity n : ℕ} {mem : List ℕ} → LinesHeld capacity n mem → (k : ℕ) → k ≤ n → (d : Outcome) → In d (placedIn capacity false (nth mem 3 + 1) k mem) → d .processor ≤ 16
 unfolding placedIn
 placed-on s zero l d i = absurd i
-placed-on {rooms} {n} {mem} s (suc k) l d i =
+placed-on {capacity} {n} {mem} s (suc k) l d i =
     ⊎-elim
-    (row-on (rowAt rooms k) (nth mem 3 + 1) mem (λ c h. omega (arith, s .row k (omega arith) .processor-of c h, sizes (s .job) .processors-most)) d)
+    (row-on (rowAt capacity k) (nth mem 3 + 1) mem (λ c h. omega (arith, s .row k (omega arith) .processor-of c h, sizes (s .job) .processors-most)) d)
     (placed-on s k (omega arith) d)
-    (in-append d (rowOutcomes false (rowAt rooms k) (nth mem 3 + 1) mem) (placedIn rooms false (nth mem 3 + 1) k mem) i)
+    (in-append d (rowOutcomes false (rowAt capacity k) (nth mem 3 + 1) mem) (placedIn capacity false (nth mem 3 + 1) k mem) i)
 
-pub answer-most : {rooms : ℕ} {mem : List ℕ} → LinesHeld rooms (nth mem 0) mem → length (replayText document01 (jobIn mem) (outcomesIn rooms mem)) ≤ 5113
-answer-most {rooms} {mem} s =
-    text-most (outcomesIn rooms mem) (placed-on s (nth mem 0) (omega arith)) (jobIn mem) (rw (tasks-in mem) (sizes (s .job) .tasks-most .0))
+pub answer-most : {capacity : ℕ} {mem : List ℕ} → LinesHeld capacity (nth mem 0) mem → length (replayText document01 (jobIn mem) (outcomesIn capacity mem)) ≤ 5113
+answer-most {capacity} {mem} s =
+    text-most (outcomesIn capacity mem) (placed-on s (nth mem 0) (omega arith)) (jobIn mem) (rw (tasks-in mem) (sizes (s .job) .tasks-most .0))

@@ -1,5 +1,5 @@
 -- The replicas of a line in memory: their outcomes, the ticks by which they come, and the finishes after them.
-use Rattle.lists.proofs.Prelude.{_≡_, refl, ap, _∙_, sym, inl, inr, ⊎-elim, List, [], _∷_, _++_, map, map-append, reverse, append-nil, append-assoc, Bool, true, false, ℕ, zero, suc, _+_, _*_, _-_, _<_, _≤_, max, min, arith, eqb-true, eqb-false, ne-eqb, eqb, length, if_then_else_, In, nth, keep, distinct, Edge, Job, runTime, incoming, Replica, Line, processorsOf, tick, later, after, Outcome, ready, arrival, dataReady, start, stopTime, finish, Time, sooner, least, largest, outcome, ofTask, walk, copiesOf, copies, copyOf, tickOf}
+use Rattle.lists.proofs.Prelude.{_≡_, refl, ap, _∙_, sym, inl, inr, ⊎-elim, List, [], _∷_, _++_, map, map-append, reverse, append-nil, append-assoc, Bool, true, false, ℕ, zero, suc, _+_, _*_, _-_, _<_, _≤_, max, min, arith, eqb-true, eqb-false, ne-eqb, eqb, length, if_then_else_, In, nth, keep, distinct, Edge, Job, runTime, incoming, Replica, Line, processorsOf, tick, later, after, Outcome, ready, arrival, dataReady, start, stopTime, finish, Time, sooner, least, largest, outcome, ofTask, walk, placementsOf, placements, placementOf, tickOf}
 use mathlib.Core.List.{reverseAux-append}
 use Rattle.definitions.proofs.Ready.{first-ready}
 use Rattle.definitions.proofs.Lists.{map-same, in-append, append-left, append-right, apart-head}
@@ -8,20 +8,20 @@ use Rattle.jobs.specs.Held.{jobIn}
 use Rattle.ticks.specs.Cells.{neverCell, timeIn}
 use Rattle.plans.specs.Lines.{replicaIn, rowOutcomes, placedIn, rowReplicas, LinesHeld}
 use Rattle.rounds.specs.Schedule.{choiceOf, dataIn, lineTicks, ShortTo}
-use Rattle.rounds.specs.Arrivals.{lastShort, BothFed, ShortClocks}
+use Rattle.rounds.specs.Arrivals.{lastShort, BothSupplied, ShortClocks}
 use Rattle.ticks.specs.declared.clocks.Clocks.{Clocks}
 use Rattle.rounds.specs.Clocks.{earliesIn, latesIn, finishOn, ClocksHeld}
 use Rattle.jobs.proofs.Held.{processors-in, sizes}
 use Rattle.rounds.proofs.TimeLaws.{time-tick}
-use Rattle.rounds.proofs.Placed.{start-placed, FedBy}
+use Rattle.rounds.proofs.Placed.{start-placed, PredecessorsPlacedBy}
 
 -- Replicas and their outcomes ---------------------------------------------------------------------------------------
 
-pub copies-more : (j : Job) (ns : List Line) (n : Line) → copies j (ns ++ n ∷ []) ≡ copies j ns ++ copiesOf j (n .task) (processorsOf n)
-unfolding copies
-copies-more j [] n = append-nil (copiesOf j (n .task) (processorsOf n))
-copies-more j (m ∷ ns) n =
-    rw (copies-more j ns n) (sym (append-assoc (copiesOf j (m .task) (processorsOf m)) (copies j ns) (copiesOf j (n .task) (processorsOf n))))
+pub placements-more : (j : Job) (ns : List Line) (n : Line) → placements j (ns ++ n ∷ []) ≡ placements j ns ++ placementsOf j (n .task) (processorsOf n)
+unfolding placements
+placements-more j [] n = append-nil (placementsOf j (n .task) (processorsOf n))
+placements-more j (m ∷ ns) n =
+    rw (placements-more j ns n) (sym (append-assoc (placementsOf j (m .task) (processorsOf m)) (placements j ns) (placementsOf j (n .task) (processorsOf n))))
 
 other-task : (u : ℕ) (d : Outcome) (ds : List Outcome) → (d .task ≡ u → ⊥) → ofTask u (d ∷ ds) ≡ ofTask u ds
 unfolding ofTask keep
@@ -30,20 +30,20 @@ other-task u d ds h = rw (ne-eqb (d .task) u h)
 module _ (j : Job) (choose : List Time → Time) where
   -- The outcome of t on p after what is placed.
   abbrev pub outcomeOn : List Outcome → ℕ → ℕ → Outcome
-  outcomeOn placed t p = outcome (copyOf j t p) (finish j choose [] placed (copyOf j t p))
+  outcomeOn placed t p = outcome (placementOf j t p) (finish j choose [] placed (placementOf j t p))
 
   -- A replica that does not feed t, on another processor, changes nothing for t on p.
   finish-other : (placed : List Outcome) (d : Outcome) (t p : ℕ) → ((e : Edge) → In e (incoming j t) → d .task ≡ e .from → ⊥) → (d .processor ≡ p → ⊥)
-      → finish j choose [] (d ∷ placed) (copyOf j t p) ≡ finish j choose [] placed (copyOf j t p)
+      → finish j choose [] (d ∷ placed) (placementOf j t p) ≡ finish j choose [] placed (placementOf j t p)
   unfolding finish start dataReady arrival ready
   finish-other placed d t p h n =
       let a : map (arrival j choose (d ∷ placed) p) (incoming j t) ≡ map (arrival j choose placed p) (incoming j t) =
       map-same (arrival j choose (d ∷ placed) p) (arrival j choose placed p) (incoming j t) (λ e i. rw (other-task (e .from) d placed (h e i))) in
       rw (ne-eqb (d .processor) p n, a)
 
-  -- The copies of a task that does not feed itself, on different processors: each as if it were alone.
+  -- The replicas of a task that does not feed itself, on different processors: each as if it were alone.
   pub walk-apart : (t : ℕ) → ((e : Edge) → In e (incoming j t) → t ≡ e .from → ⊥) → (ps : List ℕ) → distinct ps ≡ true → (placed : List Outcome)
-      → walk j choose [] placed (copiesOf j t ps) ≡ map (outcomeOn placed t) ps
+      → walk j choose [] placed (placementsOf j t ps) ≡ map (outcomeOn placed t) ps
   unfolding walk
   walk-apart t h [] d placed = refl
   walk-apart t h (p ∷ ps) d placed =
@@ -51,7 +51,7 @@ module _ (j : Job) (choose : List Time → Time) where
       ap (outcomeOn placed t p ∷_)
       (walk-apart t h ps apart (outcomeOn placed t p ∷ placed)
       ∙ map-same (outcomeOn (outcomeOn placed t p ∷ placed) t) (outcomeOn placed t) ps
-      (λ q i. ap (outcome (copyOf j t q)) (finish-other placed (outcomeOn placed t p) t q h (λ e. new (rw (← e) at i)))))
+      (λ q i. ap (outcome (placementOf j t q)) (finish-other placed (outcomeOn placed t p) t q h (λ e. new (rw (← e) at i)))))
 
 -- Times that come by a tick -----------------------------------------------------------------------------------------
 
@@ -136,12 +136,12 @@ unfolding rowOutcomes
 row-come late a (suc c) b mem g h d (inl e) = rw (← e) (time-back (nth mem (timeAt late a c)) b (h c (omega arith)) g)
 row-come late a (suc c) b mem g h d (inr i) = row-come late a c b mem g (λ i l. h i (omega arith)) d i
 
-pub placed-come : (rooms : ℕ) (late : Bool) (w k b : ℕ) (mem : List ℕ) → b < neverCell → ((i c : ℕ) → i < k → c < w → nth mem (timeAt late (rowAt rooms i) c) ≤ b)
-    → AllCome b (placedIn rooms late w k mem)
+pub placed-come : (capacity : ℕ) (late : Bool) (w k b : ℕ) (mem : List ℕ) → b < neverCell → ((i c : ℕ) → i < k → c < w → nth mem (timeAt late (rowAt capacity i) c) ≤ b)
+    → AllCome b (placedIn capacity late w k mem)
 unfolding placedIn
-placed-come rooms late w (suc k) b mem g h d i =
-    ⊎-elim (row-come late (rowAt rooms k) w b mem g (λ c l. h k c (omega arith) l) d) (placed-come rooms late w k b mem g (λ i c l m. h i c (omega arith) m) d)
-    (in-append d (rowOutcomes late (rowAt rooms k) w mem) (placedIn rooms late w k mem) i)
+placed-come capacity late w (suc k) b mem g h d i =
+    ⊎-elim (row-come late (rowAt capacity k) w b mem g (λ c l. h k c (omega arith) l) d) (placed-come capacity late w k b mem g (λ i c l m. h i c (omega arith) m) d)
+    (in-append d (rowOutcomes late (rowAt capacity k) w mem) (placedIn capacity late w k mem) i)
 
 pub ready-comes : (j : Job) (p b : ℕ) (ds : List Outcome) → AllCome b ds → Comes b (ready j p ds)
 unfolding ready
@@ -163,34 +163,34 @@ row-on late a (suc c) m mem h d (inl e) = rw (← e) (h c (omega arith))
 row-on late a (suc c) m mem h d (inr i) = row-on late a c m mem (λ i l. h i (omega arith)) d i
 
 -- From the tick at which p is ready: the finish of t on p is that of the definition.
-pub finish-at : {rooms n k : ℕ} {mem : List ℕ} → LinesHeld rooms n mem → k ≤ n → (late : Bool) (t p x : ℕ) → FedBy rooms k t mem
-    → tick x ≡ ready (jobIn mem) p (placedIn rooms late (nth mem 3 + 1) k mem)
-    → after (runTime (jobIn mem) t p) (later (tick x) (dataIn rooms late t p mem)) ≡ finishOn rooms late k mem t p
+pub finish-at : {capacity n k : ℕ} {mem : List ℕ} → LinesHeld capacity n mem → k ≤ n → (late : Bool) (t p x : ℕ) → PredecessorsPlacedBy capacity k t mem
+    → tick x ≡ ready (jobIn mem) p (placedIn capacity late (nth mem 3 + 1) k mem)
+    → after (runTime (jobIn mem) t p) (later (tick x) (dataIn capacity late t p mem)) ≡ finishOn capacity late k mem t p
 unfolding finishOn finish stopTime
 finish-at {k = k} s l late t p x f e = rw (e, start-placed s k t l f late p)
 
 -- The first k lines have ticks that do not pass k times those of a line.
-module _ {rooms n k : ℕ} {mem : List ℕ} (s : LinesHeld rooms n mem) (l : k ≤ n) (h : ShortTo rooms k mem) where
+module _ {capacity n k : ℕ} {mem : List ℕ} (s : LinesHeld capacity n mem) (l : k ≤ n) (h : ShortTo capacity k mem) where
   -- So they are short.
   pub short-most : k * lineTicks ≤ lastShort
   short-most = let w = sizes (s .job) in let c = s .count in omega arith
 
-  pub cells-most : (late : Bool) (i c : ℕ) → i < k → c < nth mem 3 + 1 → nth mem (timeAt late (rowAt rooms i) c) ≤ k * lineTicks
+  pub cells-most : (late : Bool) (i c : ℕ) → i < k → c < nth mem 3 + 1 → nth mem (timeAt late (rowAt capacity i) c) ≤ k * lineTicks
   cells-most true i c g m = h i c g m .1
   cells-most false i c g m = h i c g m .0
 
-  pub all-come : (late : Bool) → AllCome (k * lineTicks) (placedIn rooms late (nth mem 3 + 1) k mem)
-  all-come late = let f = short-most in placed-come rooms late (nth mem 3 + 1) k (k * lineTicks) mem (omega arith) (cells-most late)
+  pub all-come : (late : Bool) → AllCome (k * lineTicks) (placedIn capacity late (nth mem 3 + 1) k mem)
+  all-come late = let f = short-most in placed-come capacity late (nth mem 3 + 1) k (k * lineTicks) mem (omega arith) (cells-most late)
 
   -- A processor's ready tick.
-  clock-most : (late : Bool) (p x : ℕ) → tick x ≡ ready (jobIn mem) p (placedIn rooms late (nth mem 3 + 1) k mem) → x ≤ lastShort
+  clock-most : (late : Bool) (p x : ℕ) → tick x ≡ ready (jobIn mem) p (placedIn capacity late (nth mem 3 + 1) k mem) → x ≤ lastShort
   clock-most late p x e =
-      let (y, f, m) = ready-comes (jobIn mem) p (k * lineTicks) (placedIn rooms late (nth mem 3 + 1) k mem) (all-come late) in
+      let (y, f, m) = ready-comes (jobIn mem) p (k * lineTicks) (placedIn capacity late (nth mem 3 + 1) k mem) (all-come late) in
       let q : x ≡ y = ap tickOf (e ∙ f) in
       omega (arith, short-most)
 
   -- The clocks have short ticks.
-  pub clocks-short : {clocks : Clocks} → ClocksHeld clocks (jobIn mem) (earliesIn rooms k mem) (latesIn rooms k mem) → ShortClocks clocks mem
+  pub clocks-short : {clocks : Clocks} → ClocksHeld clocks (jobIn mem) (earliesIn capacity k mem) (latesIn capacity k mem) → ShortClocks clocks mem
   clocks-short {clocks} c =
       record {
         early-size = c .early-size;
@@ -200,8 +200,8 @@ module _ {rooms n k : ℕ} {mem : List ℕ} (s : LinesHeld rooms n mem) (l : k �
       }
 
   -- The lines of a task's predecessors have short ticks.
-  pub fed-short : (t : ℕ) → FedBy rooms k t mem → BothFed rooms t mem
-  fed-short t f e i =
+  pub predecessors-short : (t : ℕ) → PredecessorsPlacedBy capacity k t mem → BothSupplied capacity t mem
+  predecessors-short t f e i =
       let (g, m) = f e i in
       let b = short-most in
-      (g, λ c o. let (x, y) = h (nth mem (lineAt rooms + e .from) - 1) c (omega arith) o in (omega arith, omega arith))
+      (g, λ c o. let (x, y) = h (nth mem (lineAt capacity + e .from) - 1) c (omega arith) o in (omega arith, omega arith))

@@ -1,7 +1,7 @@
 -- The text of a plan that stands in a memory, line by line.
 use Rattle.lists.proofs.Prelude.{_≡_, refl, ap, sym, _∙_, List, [], _∷_, _++_, append-assoc, append-nil, ℕ, zero, suc, _+_, _*_, _-_, _%_, _^_, _<_, _≤_, arith, add-one, length, take, drop, length-take, length-drop, drop-cons, getD-drop, take-suc, bytes, nth, document01, lineText, Replica, Line, planText}
 use Rattle.definitions.specs.Plan.{replicaNumbers, planLinesText}
-use Rattle.text.specs.Told.{written}
+use Rattle.text.specs.Meaning.{written}
 use Rattle.printing.specs.Rendered.{Rendered}
 use Rattle.printing.proofs.WriteLaws.{few-counted}
 use Rattle.printing.proofs.Rendering.{rendered-none, rendered-more}
@@ -46,57 +46,57 @@ lines-last (m ∷ ns) n =
     rw (lines-last ns n) (sym (append-assoc (lineText document01 (bytes "T,") (m .task ∷ replicaNumbers (m .replicas))) (planLinesText document01 ns)
     (lineText document01 (bytes "T,") (n .task ∷ replicaNumbers (n .replicas)))))
 
-module _ {rooms : ℕ} {mem : List ℕ} (s : Sizes rooms mem) where
+module _ {capacity : ℕ} {mem : List ℕ} (s : Sizes capacity mem) where
   -- The cells of row k are in the memory, 25 at the most.
-  pub row-within : (k : ℕ) → k < nth mem 0 → rowAt rooms k + 25 ≤ length mem
+  pub row-within : (k : ℕ) → k < nth mem 0 → rowAt capacity k + 25 ≤ length mem
   row-within k h = omega (arith, s, h)
 
   pub row-few : 4 + 3 * nth mem 3 ≤ 25
   row-few = omega (arith, s .losses-most)
 
-  rows-none : rowLines rooms 0 mem ≡ []
+  rows-none : rowLines capacity 0 mem ≡ []
   unfolding rowLines linesIn planLinesText
   rows-none = refl
 
-  rows-next : (k : ℕ) → k < nth mem 0 → rowLines rooms (k + 1) mem ≡ rowLines rooms k mem ++ rowLine rooms k mem
+  rows-next : (k : ℕ) → k < nth mem 0 → rowLines capacity (k + 1) mem ≡ rowLines capacity k mem ++ rowLine capacity k mem
   unfolding rowLines rowLine linesIn
   rows-next k h =
       let n : 1 + 3 * (nth mem 3 + 1) ≡ 4 + 3 * nth mem 3 = omega arith in
-      let r = row-numbers mem (rowAt rooms k) (nth mem 3 + 1) (omega (arith, row-within k h, row-few)) in
-      rw (add-one k, lines-last (linesIn rooms (nth mem 3 + 1) k mem) (record { task = nth mem (rowAt rooms k); replicas = rowReplicas (rowAt rooms k) (nth mem 3 + 1) mem }), r, n)
+      let r = row-numbers mem (rowAt capacity k) (nth mem 3 + 1) (omega (arith, row-within k h, row-few)) in
+      rw (add-one k, lines-last (linesIn capacity (nth mem 3 + 1) k mem) (record { task = nth mem (rowAt capacity k); replicas = rowReplicas (rowAt capacity k) (nth mem 3 + 1) mem }), r, n)
 
 -- The cells of row k, as they are passed.
 abbrev rowPart : ℕ → ℕ → List ℕ → List ℕ
-rowPart rooms k mem = take (rowAt rooms k + (4 + 3 * nth mem 3) - rowAt rooms k) (drop (rowAt rooms k) mem)
+rowPart capacity k mem = take (rowAt capacity k + (4 + 3 * nth mem 3) - rowAt capacity k) (drop (rowAt capacity k) mem)
 
-pub row-part : (rooms k : ℕ) (mem : List ℕ) → lineText document01 (bytes "T,") (rowPart rooms k mem) ≡ rowLine rooms k mem
+pub row-part : (capacity k : ℕ) (mem : List ℕ) → lineText document01 (bytes "T,") (rowPart capacity k mem) ≡ rowLine capacity k mem
 unfolding rowLine
-row-part rooms k mem = let e : rowAt rooms k + (4 + 3 * nth mem 3) - rowAt rooms k ≡ 4 + 3 * nth mem 3 = omega arith in rw e
+row-part capacity k mem = let e : rowAt capacity k + (4 + 3 * nth mem 3) - rowAt capacity k ≡ 4 + 3 * nth mem 3 = omega arith in rw e
 
-pub row-counted : {rooms : ℕ} {mem : List ℕ} → Sizes rooms mem → (k r : ℕ) → r ≡ length (lineText document01 (bytes "T,") (rowPart rooms k mem)) % 2 ^ 64
-    → (r ≡ length (rowLine rooms k mem)) × (r ≤ 277)
-row-counted {rooms} {mem} s k r e =
-    let m : length (rowPart rooms k mem) ≤ 25 = omega (arith, length-take (rowAt rooms k + (4 + 3 * nth mem 3) - rowAt rooms k) (drop (rowAt rooms k) mem), row-few s) in
-    let (f, g) = few-counted document01 (omega arith) (bytes "T,") (rowPart rooms k mem) 277 r (omega (arith, m)) (omega arith) e in
-    (f ∙ ap length (row-part rooms k mem), g)
+pub row-counted : {capacity : ℕ} {mem : List ℕ} → Sizes capacity mem → (k r : ℕ) → r ≡ length (lineText document01 (bytes "T,") (rowPart capacity k mem)) % 2 ^ 64
+    → (r ≡ length (rowLine capacity k mem)) × (r ≤ 277)
+row-counted {capacity} {mem} s k r e =
+    let m : length (rowPart capacity k mem) ≤ 25 = omega (arith, length-take (rowAt capacity k + (4 + 3 * nth mem 3) - rowAt capacity k) (drop (rowAt capacity k) mem), row-few s) in
+    let (f, g) = few-counted document01 (omega arith) (bytes "T,") (rowPart capacity k mem) 277 r (omega (arith, m)) (omega arith) e in
+    (f ∙ ap length (row-part capacity k mem), g)
 
 -- The plan's head and its first k rows.
 abbrev pub rowsAfterHead : ℕ → ℕ → List ℕ → List ℕ
-rowsAfterHead rooms k mem = headLine rooms mem ++ rowLines rooms k mem
+rowsAfterHead capacity k mem = headLine capacity mem ++ rowLines capacity k mem
 
-module _ {rooms : ℕ} {mem : List ℕ} (s : Sizes rooms mem) where
+module _ {capacity : ℕ} {mem : List ℕ} (s : Sizes capacity mem) where
   -- The head was rendered.
-  pub head-rendered : (vals d e : List ℕ) (n : ℕ) → vals ≡ headIn rooms mem → n ≡ length (lineText document01 (bytes "PLAN,") vals) % 2 ^ 64
-      → e ≡ written d 0 (lineText document01 (bytes "PLAN,") vals) → (n ≤ 60) × Rendered (rowsAfterHead rooms 0 mem) d e n
+  pub head-rendered : (vals d e : List ℕ) (n : ℕ) → vals ≡ headIn capacity mem → n ≡ length (lineText document01 (bytes "PLAN,") vals) % 2 ^ 64
+      → e ≡ written d 0 (lineText document01 (bytes "PLAN,") vals) → (n ≤ 60) × Rendered (rowsAfterHead capacity 0 mem) d e n
   unfolding headLine
   head-rendered vals d e n q f g =
-      let (l, m) = few-counted document01 (omega arith) (bytes "PLAN,") (headIn rooms mem) 60 n (omega arith) (omega arith) (rw q at f) in
-      (m, rw (rows-none s, append-nil (headLine rooms mem)) (rendered-more (rendered-none d) (headLine rooms mem) e n (omega (arith, l)) (rw q at g)))
+      let (l, m) = few-counted document01 (omega arith) (bytes "PLAN,") (headIn capacity mem) 60 n (omega arith) (omega arith) (rw q at f) in
+      (m, rw (rows-none s, append-nil (headLine capacity mem)) (rendered-more (rendered-none d) (headLine capacity mem) e n (omega (arith, l)) (rw q at g)))
 
   -- One row more.
-  pub rows-more : (k : ℕ) → k < nth mem 0 → rowsAfterHead rooms (k + 1) mem ≡ rowsAfterHead rooms k mem ++ rowLine rooms k mem
-  rows-more k h = rw (rows-next s k h) (sym (append-assoc (headLine rooms mem) (rowLines rooms k mem) (rowLine rooms k mem)))
+  pub rows-more : (k : ℕ) → k < nth mem 0 → rowsAfterHead capacity (k + 1) mem ≡ rowsAfterHead capacity k mem ++ rowLine capacity k mem
+  rows-more k h = rw (rows-next s k h) (sym (append-assoc (headLine capacity mem) (rowLines capacity k mem) (rowLine capacity k mem)))
 
-pub plan-text : (rooms : ℕ) (mem : List ℕ) → planText document01 (jobIn mem) (planIn rooms mem) ≡ rowsAfterHead rooms (nth mem 0) mem
+pub plan-text : (capacity : ℕ) (mem : List ℕ) → planText document01 (jobIn mem) (planIn capacity mem) ≡ rowsAfterHead capacity (nth mem 0) mem
 unfolding headLine rowLines planText jobIn planIn
-plan-text rooms mem = refl
+plan-text capacity mem = refl

@@ -1,5 +1,5 @@
 -- The replay's answer: it does not depend on the order of the outcomes, and what the memory gives is what the texts say.
-use Rattle.lists.proofs.Prelude.{_≡_, refl, ap, ap₂, ⊎-elim, List, [], _∷_, _++_, map, reverse, Bool, ℕ, _<_, _≤_, arith, lt-ltb, le-ltb, eqb, length, nth, below, keep, In, Limits, document01, Result, good, bad, Job, Plan, Stop, readStops, Time, same, largest, Outcome, ofTask, exits, end, replay, firstFinish, firstProcessor, roundEnd, resultLines, endLine, replayText}
+use Rattle.lists.proofs.Prelude.{_≡_, refl, ap, ap₂, ⊎-elim, List, [], _∷_, _++_, map, reverse, Bool, ℕ, _<_, _≤_, arith, lt-ltb, le-ltb, eqb, length, nth, below, keep, In, Limits, document01, Result, good, bad, Job, Plan, Stop, readStops, Time, same, largest, Outcome, ofTask, exits, makespan, replay, firstFinish, firstProcessor, replayMakespan, resultLines, endLine, replayText}
 use Rattle.definitions.proofs.Lists.{map-same, in-map, map-in, in-keep, keep-in, in-reverse, reverse-left}
 use Rattle.lists.specs.Over.{over}
 use Rattle.text.specs.declared.Step.the-variants.{Next, Refused}
@@ -53,9 +53,9 @@ module _ {ds es : List Outcome} (a : Alike ds es) where
   unfolding firstProcessor
   box-alike t x = let b = alike-map (alike-keep (task-alike t) (λ d. same (d .time) x)) (λ d. d .processor) in lowest-same _ _ (b .there) (b .back)
 
-  end-alike : (j : Job) → roundEnd j ds ≡ roundEnd j es
-  unfolding roundEnd end firstFinish
-  end-alike j = ap largest (map-same (λ t. firstFinish t ds) (λ t. firstFinish t es) (exits j) (λ t i. finish-alike t))
+  makespan-alike : (j : Job) → replayMakespan j ds ≡ replayMakespan j es
+  unfolding replayMakespan makespan firstFinish
+  makespan-alike j = ap largest (map-same (λ t. firstFinish t ds) (λ t. firstFinish t es) (exits j) (λ t i. finish-alike t))
 
   lines-alike : (l : Limits) (ts : List ℕ) → resultLines l ts ds ≡ resultLines l ts es
   unfolding resultLines
@@ -64,7 +64,7 @@ module _ {ds es : List Outcome} (a : Alike ds es) where
 
   text-alike : (l : Limits) (j : Job) → replayText l j ds ≡ replayText l j es
   unfolding replayText
-  text-alike l j = ap₂ _++_ (lines-alike l (below (j .tasks))) (ap (endLine l) (end-alike j))
+  text-alike l j = ap₂ _++_ (lines-alike l (below (j .tasks))) (ap (endLine l) (makespan-alike j))
 
 -- A round that has run ----------------------------------------------------------------------------------------------------
 
@@ -73,7 +73,7 @@ stops-all : (size : ℕ) (j : Job) (s : List ℕ) → j .processors ≤ size →
 unfolding stopsFrom
 stops-all size j s h = rw (le-ltb size (j .processors) h)
 
-few-processors : {rooms : ℕ} {mem : List ℕ} → JobHeld rooms mem → jobIn mem .processors ≤ 16
+few-processors : {capacity : ℕ} {mem : List ℕ} → JobHeld capacity mem → jobIn mem .processors ≤ 16
 few-processors {mem = mem} h = rw (processors-in mem) (sizes h .processors-most)
 
 -- The stops' text was refused, or gave stops.
@@ -86,48 +86,48 @@ stops-read (good ss) cells n z (_, f) = (ss, refl, λ p h. f p (omega (arith, h,
 stops-read (bad k) cells n z e = absurd (let z : _≡_ {A = ℕ} 0 1 = cc in omega arith)
 
 -- The plan in d has run under the stops in the cells, and e is the memory after it.
-module _ {rooms : ℕ} {d e cells : List ℕ} (h : PlanHeld rooms d) (r : RoundRun rooms cells d e) where
-  pub run-asked : {links : List ℕ} → LinksHeld d links → LinesHeld rooms (nth e 0) e × RisingIn rooms e × LinksHeld e links
+module _ {capacity : ℕ} {d e cells : List ℕ} (h : PlanHeld capacity d) (r : RoundRun capacity cells d e) where
+  pub run-asked : {links : List ℕ} → LinksHeld d links → LinesHeld capacity (nth e 0) e × RisingIn capacity e × LinksHeld e links
   run-asked l = (r .standing, r .rising, links-kept (h .standing .job) (r .outside) (omega arith) l)
 
   run-text : (ss : List Stop) → StopsIn ss cells
-      → replayText document01 (jobIn e) (outcomesIn rooms e) ≡ replayText document01 (jobIn d) (replay (jobIn d) ss (planIn rooms d .lines))
+      → replayText document01 (jobIn e) (outcomesIn capacity e) ≡ replayText document01 (jobIn d) (replay (jobIn d) ss (planIn capacity d .lines))
   run-text ss i =
       rw (r .outcomes ss i, job-kept (h .standing .job) (r .outside) (omega arith))
-      (text-alike (alike-reverse (replay (jobIn d) ss (planIn rooms d .lines))) document01 (jobIn d))
+      (text-alike (alike-reverse (replay (jobIn d) ss (planIn capacity d .lines))) document01 (jobIn d))
 
   -- Its lines do not fit, or they were written.
   module _ (stops out : List ℕ) (k n : ℕ) (l : length cells ≡ 16) (g : StopsLoaded document01 (stopsFrom document01 16 (jobIn d) stops) cells (Next k))
-      (q : n ≡ length (replayText document01 (jobIn e) (outcomesIn rooms e))) where
-    told : (ss : List Stop) × (readStops document01 (jobIn d) stops ≡ good ss) × StopsIn ss cells
-    told = stops-read (readStops document01 (jobIn d) stops) cells k l (rw (stops-all 16 (jobIn d) stops (few-processors (h .standing .job))) at g)
+      (q : n ≡ length (replayText document01 (jobIn e) (outcomesIn capacity e))) where
+    stepReading : (ss : List Stop) × (readStops document01 (jobIn d) stops ≡ good ss) × StopsIn ss cells
+    stepReading = stops-read (readStops document01 (jobIn d) stops) cells k l (rw (stops-all 16 (jobIn d) stops (few-processors (h .standing .job))) at g)
 
-    pub run-short : length out < n → Answered (replayIn rooms d stops (length out)) out out (Refusal 8)
+    pub run-short : length out < n → Answered (replayIn capacity d stops (length out)) out out (Refusal 8)
     unfolding replayIn
     run-short b =
-        let (ss, f, i) = told in
-        rw (f, ← run-text ss i, lt-ltb (length out) (length (replayText document01 (jobIn e) (outcomesIn rooms e))) (omega arith)) (refl, refl)
+        let (ss, f, i) = stepReading in
+        rw (f, ← run-text ss i, lt-ltb (length out) (length (replayText document01 (jobIn e) (outcomesIn capacity e))) (omega arith)) (refl, refl)
 
-    pub run-done : n ≤ length out → (m : ℕ) (z : List ℕ) → m ≡ length (replayText document01 (jobIn e) (outcomesIn rooms e))
-        → z ≡ over out 0 (replayText document01 (jobIn e) (outcomesIn rooms e)) → Answered (replayIn rooms d stops (length out)) out z (Done m)
+    pub run-done : n ≤ length out → (m : ℕ) (z : List ℕ) → m ≡ length (replayText document01 (jobIn e) (outcomesIn capacity e))
+        → z ≡ over out 0 (replayText document01 (jobIn e) (outcomesIn capacity e)) → Answered (replayIn capacity d stops (length out)) out z (Done m)
     unfolding replayIn
     run-done b m z a o =
-        let (ss, f, i) = told in
-        rw (f, ← run-text ss i, le-ltb (length out) (length (replayText document01 (jobIn e) (outcomesIn rooms e))) (omega arith)) (ap good a, o)
+        let (ss, f, i) = stepReading in
+        rw (f, ← run-text ss i, le-ltb (length out) (length (replayText document01 (jobIn e) (outcomesIn capacity e))) (omega arith)) (ap good a, o)
 
-pub run-refused : (rooms : ℕ) (d cells stops out : List ℕ) (n : ℕ) → JobHeld rooms d → StopsLoaded document01 (stopsFrom document01 16 (jobIn d) stops) cells (Refused n)
-    → Answered (replayIn rooms d stops (length out)) out out (Refusal n)
+pub run-refused : (capacity : ℕ) (d cells stops out : List ℕ) (n : ℕ) → JobHeld capacity d → StopsLoaded document01 (stopsFrom document01 16 (jobIn d) stops) cells (Refused n)
+    → Answered (replayIn capacity d stops (length out)) out out (Refusal n)
 unfolding replayIn
-run-refused rooms d cells stops out n j h =
+run-refused capacity d cells stops out n j h =
     rw (stops-refused (readStops document01 (jobIn d) stops) cells n (rw (stops-all 16 (jobIn d) stops (few-processors j)) at h)) (refl, refl)
 
 -- The three texts -----------------------------------------------------------------------------------------------------------
 
-module _ (rooms : ℕ) (x : Result (Job × Plan)) (mem links stops out : List ℕ) (n : ℕ) where
-  pub replay-refused : BothLoaded rooms x mem links (Refused n) → Answered (replayBoth x stops (length out)) out out (Refusal n)
-  replay-refused h = rw (both-no rooms mem links n x h) (refl, refl)
+module _ (capacity : ℕ) (x : Result (Job × Plan)) (mem links stops out : List ℕ) (n : ℕ) where
+  pub replay-refused : BothLoaded capacity x mem links (Refused n) → Answered (replayBoth x stops (length out)) out out (Refusal n)
+  replay-refused h = rw (both-no capacity mem links n x h) (refl, refl)
 
-  pub replay-put : BothLoaded rooms x mem links (Next n) → (z : List ℕ) (r : Answer)
-      → Answered (replayIn rooms mem stops (length out)) out z r → Answered (replayBoth x stops (length out)) out z r
+  pub replay-put : BothLoaded capacity x mem links (Next n) → (z : List ℕ) (r : Answer)
+      → Answered (replayIn capacity mem stops (length out)) out z r → Answered (replayBoth x stops (length out)) out z r
   unfolding replayIn
-  replay-put h z r a = rw (both-next rooms mem links n x h .0) a
+  replay-put h z r a = rw (both-next capacity mem links n x h .0) a

@@ -1,8 +1,8 @@
 -- The R lines and the L line, one after another.
-use Rattle.lists.proofs.Prelude.{_≡_, refl, ap, sym, ⊎-elim, List, [], _∷_, _++_, append-assoc, append-nil, ℕ, _+_, _-_, _<_, min, length, nth, countFrom, below, document01, Time, least, end, Outcome, firstFinish, firstProcessor, roundEnd, resultLine, resultLines, endLine, replayText}
+use Rattle.lists.proofs.Prelude.{_≡_, refl, ap, sym, ⊎-elim, List, [], _∷_, _++_, append-assoc, append-nil, ℕ, _+_, _-_, _<_, min, length, nth, countFrom, below, document01, Time, least, makespan, Outcome, firstFinish, firstProcessor, replayMakespan, resultLine, resultLines, endLine, replayText}
 use borrow.Rule.Slice.PartMut.{putMid, midOf}
 use Rattle.lists.proofs.Upward.{below-more}
-use Rattle.text.specs.Told.{written}
+use Rattle.text.specs.Meaning.{written}
 use Rattle.printing.specs.Rendered.{Rendered}
 use Rattle.printing.proofs.Rendering.{rendered-more, lent-written}
 use Rattle.jobs.specs.Held.{jobIn}
@@ -13,7 +13,7 @@ use Rattle.lists.proofs.Counting.{equal-or-not}
 
 -- All lines ------------------------------------------------------------------------------------------------------------
 
-pub task-line : {rooms t x p : ℕ} {mem : List ℕ} → FirstIn rooms t x p mem → taskLine rooms t mem ≡ resultLine document01 t (timeIn x) p
+pub task-line : {capacity t x p : ℕ} {mem : List ℕ} → FirstIn capacity t x p mem → taskLine capacity t mem ≡ resultLine document01 t (timeIn x) p
 unfolding taskLine
 task-line {t} {x} {p} f =
     ⊎-elim
@@ -30,24 +30,24 @@ results-last (u ∷ ts) t ds =
     (sym (append-assoc (resultLine document01 u (firstFinish u ds) (firstProcessor u (firstFinish u ds) ds)) (resultLines document01 ts ds)
     (resultLine document01 t (firstFinish t ds) (firstProcessor t (firstFinish t ds) ds))))
 
-module _ (rooms : ℕ) (mem : List ℕ) where
-  pub tasks-none : taskLines rooms 0 mem ≡ []
+module _ (capacity : ℕ) (mem : List ℕ) where
+  pub tasks-none : taskLines capacity 0 mem ≡ []
   unfolding taskLines resultLines countFrom
   tasks-none = refl
 
-  pub tasks-next : (k : ℕ) → k < nth mem 0 → taskLines rooms (k + 1) mem ≡ taskLines rooms k mem ++ taskLine rooms k mem
+  pub tasks-next : (k : ℕ) → k < nth mem 0 → taskLines capacity (k + 1) mem ≡ taskLines capacity k mem ++ taskLine capacity k mem
   unfolding taskLines taskLine
-  tasks-next k h = rw (below-more k) (results-last (below k) k (outcomesIn rooms mem))
+  tasks-next k h = rw (below-more k) (results-last (below k) k (outcomesIn capacity mem))
 
   -- The L line comes last.
-  replay-text : (x : ℕ) → timeIn x ≡ end (jobIn mem) least (outcomesIn rooms mem)
-      → replayText document01 (jobIn mem) (outcomesIn rooms mem) ≡ taskLines rooms (nth mem 0) mem ++ endLine document01 (timeIn x)
-  unfolding replayText taskLines roundEnd jobIn
-  replay-text x e = ap (λ (y : Time). taskLines rooms (nth mem 0) mem ++ endLine document01 y) (sym e)
+  replay-text : (x : ℕ) → timeIn x ≡ makespan (jobIn mem) least (outcomesIn capacity mem)
+      → replayText document01 (jobIn mem) (outcomesIn capacity mem) ≡ taskLines capacity (nth mem 0) mem ++ endLine document01 (timeIn x)
+  unfolding replayText taskLines replayMakespan jobIn
+  replay-text x e = ap (λ (y : Time). taskLines capacity (nth mem 0) mem ++ endLine document01 y) (sym e)
 
   -- It was rendered behind the R lines.
-  pub replay-rendered : (x : ℕ) → timeIn x ≡ end (jobIn mem) least (outcomesIn rooms mem) → {d y : List ℕ} {at : ℕ} → Rendered (taskLines rooms (nth mem 0) mem) d y at
+  pub replay-rendered : (x : ℕ) → timeIn x ≡ makespan (jobIn mem) least (outcomesIn capacity mem) → {d y : List ℕ} {at : ℕ} → Rendered (taskLines capacity (nth mem 0) mem) d y at
       → (p n : ℕ) (ys : List ℕ) → p ≡ min at (length y) → n ≡ length (endLine document01 (timeIn x)) → ys ≡ written (midOf p (length y - p) y) 0 (endLine document01 (timeIn x))
-      → Rendered (replayText document01 (jobIn mem) (outcomesIn rooms mem)) d (putMid p (length y - p) y ys) (at + n)
+      → Rendered (replayText document01 (jobIn mem) (outcomesIn capacity mem)) d (putMid p (length y - p) y ys) (at + n)
   replay-rendered x e {d} {y} {at} r p n ys f g h =
       rw (replay-text x e) (rendered-more r (endLine document01 (timeIn x)) _ (at + n) (ap (at +_) g) (lent-written y at p (endLine document01 (timeIn x)) ys f h))

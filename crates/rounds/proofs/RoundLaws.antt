@@ -1,5 +1,5 @@
 -- The replay of all lines: what a plan in order gives of its lines in memory, and line after line.
-use Rattle.lists.proofs.Prelude.{_≡_, refl, ap, _∙_, sym, _⊎_, inl, inr, ⊎-elim, List, [], _∷_, _++_, map, map-append, false, ℕ, zero, suc, _+_, _<_, _≤_, arith, add-one, length, length-append, replicate, length-replicate, getD-replicate, List·getD-append, ext-getD, nth, In, Job, Line, descends, Stop, ready, walk, copies, replay, LineFacts, Ordered}
+use Rattle.lists.proofs.Prelude.{_≡_, refl, ap, _∙_, sym, _⊎_, inl, inr, ⊎-elim, List, [], _∷_, _++_, map, map-append, false, ℕ, zero, suc, _+_, _<_, _≤_, arith, add-one, length, length-append, replicate, length-replicate, getD-replicate, List·getD-append, ext-getD, nth, In, Job, Line, descends, Stop, ready, walk, placements, replay, LineFacts, Ordered}
 use lib.Seq.{getD-at}
 use Rattle.definitions.proofs.Lists.{in-append, nth-in}
 use Rattle.definitions.proofs.Ready.{first-ready}
@@ -9,13 +9,13 @@ use Rattle.jobs.specs.Held.{jobIn, JobHeld}
 use Rattle.plans.specs.Lines.{rowOutcomes, placedIn, rowReplicas, linesIn, LinesHeld}
 use Rattle.rounds.specs.Arrivals.{DelayTable}
 use Rattle.plans.specs.Loading.{planIn}
-use Rattle.rounds.specs.Replaying.{StopsIn, ranIn, Running, FedBefore, Retimed, copiesIn, walked, LineRun, RisingIn, RoundRun}
+use Rattle.rounds.specs.Replaying.{StopsIn, ranIn, Running, PredecessorsBefore, Retimed, placementsIn, walked, LineRun, RisingIn, RoundRun}
 use Rattle.lists.proofs.Counting.{last-or-before}
 use Rattle.lists.proofs.Kept.{same-before, kept-wider}
 use Rattle.jobs.proofs.Held.{sizes}
 use Rattle.rounds.proofs.ShortLaws.{delays-kept}
-use Rattle.rounds.proofs.RunLaws.{retimed-none, retimed-then, cell-retimed, job-retimed, fed-retimed, walked-append}
-use Rattle.rounds.proofs.Outcomes.{copies-more}
+use Rattle.rounds.proofs.RunLaws.{retimed-none, retimed-then, cell-retimed, job-retimed, predecessors-retimed, walked-append}
+use Rattle.rounds.proofs.Outcomes.{placements-more}
 
 -- Lines in order ------------------------------------------------------------------------------------------------------
 
@@ -28,27 +28,27 @@ ordered-last j seen (m ∷ ns) n (o, os) =
     ((o, p), before, f, λ t i. ⊎-elim (⊎-elim (λ e. inr (inl e)) inl) (λ k. inr (inr k)) (g t i))
 
 abbrev lineIn : ℕ → ℕ → ℕ → List ℕ → Line
-lineIn rooms w k mem = record { task = nth mem (rowAt rooms k); replicas = rowReplicas (rowAt rooms k) w mem }
+lineIn capacity w k mem = record { task = nth mem (rowAt capacity k); replicas = rowReplicas (rowAt capacity k) w mem }
 
 module _ (w : ℕ) (mem : List ℕ) where
-  task-among : (rooms : ℕ) (t n : ℕ) → In t (map (λ n. n .task) (linesIn rooms w n mem)) → (i : ℕ) × (i < n) × (nth mem (rowAt rooms i) ≡ t)
+  task-among : (capacity : ℕ) (t n : ℕ) → In t (map (λ n. n .task) (linesIn capacity w n mem)) → (i : ℕ) × (i < n) × (nth mem (rowAt capacity i) ≡ t)
   unfolding linesIn
-  task-among rooms t (suc n) h =
+  task-among capacity t (suc n) h =
       ⊎-elim
-      (λ i. let r = task-among rooms t n i in (r .0, omega (arith, r .1), r .2))
+      (λ i. let r = task-among capacity t n i in (r .0, omega (arith, r .1), r .2))
       (⊎-elim (λ e. (n, omega arith, e)) absurd)
-      (in-append t (map (λ n. n .task) (linesIn rooms w n mem)) (nth mem (rowAt rooms n) ∷ []) (rw (map-append (λ n. n .task) (linesIn rooms w n mem) (lineIn rooms w n mem ∷ [])) at h))
+      (in-append t (map (λ n. n .task) (linesIn capacity w n mem)) (nth mem (rowAt capacity n) ∷ []) (rw (map-append (λ n. n .task) (linesIn capacity w n mem) (lineIn capacity w n mem ∷ [])) at h))
 
   -- Line k follows lines with the tasks of those before it.
-  pub line-among : (rooms : ℕ) (j : Job) (n : ℕ) → Ordered j [] (linesIn rooms w n mem) → (k : ℕ) → k < n
-      → (before : List ℕ) × LineFacts j before (lineIn rooms w k mem) × ((t : ℕ) → In t before → (i : ℕ) × (i < k) × (nth mem (rowAt rooms i) ≡ t))
+  pub line-among : (capacity : ℕ) (j : Job) (n : ℕ) → Ordered j [] (linesIn capacity w n mem) → (k : ℕ) → k < n
+      → (before : List ℕ) × LineFacts j before (lineIn capacity w k mem) × ((t : ℕ) → In t before → (i : ℕ) × (i < k) × (nth mem (rowAt capacity i) ≡ t))
   unfolding linesIn
-  line-among rooms j zero o k h = absurd (omega arith)
-  line-among rooms j (suc n) o k h =
-      let (p, before, f, g) = ordered-last j [] (linesIn rooms w n mem) (lineIn rooms w n mem) o in
+  line-among capacity j zero o k h = absurd (omega arith)
+  line-among capacity j (suc n) o k h =
+      let (p, before, f, g) = ordered-last j [] (linesIn capacity w n mem) (lineIn capacity w n mem) o in
       ⊎-elim
-      (λ (e : k ≡ n). rw e (before, f, λ t i. ⊎-elim absurd (task-among rooms t n) (g t i)))
-      (λ l. line-among rooms j n p k l)
+      (λ (e : k ≡ n). rw e (before, f, λ t i. ⊎-elim absurd (task-among capacity t n) (g t i)))
+      (λ l. line-among capacity j n p k l)
       (last-or-before n k h)
 
   -- Processors by their places.
@@ -74,50 +74,50 @@ rising-at [] i d h = absurd (omega arith)
 rising-at (p ∷ ps) zero d h = rising p ps d .0 (nth ps 0) (nth-in ps 0 (omega arith))
 rising-at (p ∷ ps) (suc i) d h = rising-at ps i (rising p ps d .1) (omega arith)
 
-module _ {rooms : ℕ} {mem : List ℕ} (s : LinesHeld rooms (nth mem 0) mem) (o : Ordered (jobIn mem) [] (linesIn rooms (nth mem 3 + 1) (nth mem 0) mem)) where
-  pub fed-lines : (k : ℕ) → k < nth mem 0 → FedBefore rooms k mem
-  fed-lines k h e m =
-      let (before, f, g) = line-among (nth mem 3 + 1) mem rooms (jobIn mem) (nth mem 0) o k h in
-      let (i, l, q) = g (e .from) (f .fed e m) in
+module _ {capacity : ℕ} {mem : List ℕ} (s : LinesHeld capacity (nth mem 0) mem) (o : Ordered (jobIn mem) [] (linesIn capacity (nth mem 3 + 1) (nth mem 0) mem)) where
+  pub predecessors-lines : (k : ℕ) → k < nth mem 0 → PredecessorsBefore capacity k mem
+  predecessors-lines k h e m =
+      let (before, f, g) = line-among (nth mem 3 + 1) mem capacity (jobIn mem) (nth mem 0) o k h in
+      let (i, l, q) = g (e .from) (f .predecessors e m) in
       let own = s .line-of i (omega arith) in
-      let here : nth mem (lineAt rooms + e .from) ≡ suc i = rw q at own in
+      let here : nth mem (lineAt capacity + e .from) ≡ suc i = rw q at own in
       (omega arith, omega arith)
 
-  pub rising-lines : RisingIn rooms mem
+  pub rising-lines : RisingIn capacity mem
   rising-lines i c h g =
       let w = nth mem 3 + 1 in
-      let (before, f, _) = line-among w mem rooms (jobIn mem) (nth mem 0) o i h in
-      let ps = map (λ r. r .processor) (rowReplicas (rowAt rooms i) w mem) in
-      let up = rising-at ps c (f .ascends) (omega (arith, boxes-length w mem (rowAt rooms i) w)) in
-      let here = boxes-at w mem (rowAt rooms i) w c (omega arith) in
-      let next = boxes-at w mem (rowAt rooms i) w (suc c) (omega arith) in
+      let (before, f, _) = line-among w mem capacity (jobIn mem) (nth mem 0) o i h in
+      let ps = map (λ r. r .processor) (rowReplicas (rowAt capacity i) w mem) in
+      let up = rising-at ps c (f .ascends) (omega (arith, boxes-length w mem (rowAt capacity i) w)) in
+      let here = boxes-at w mem (rowAt capacity i) w c (omega arith) in
+      let next = boxes-at w mem (rowAt capacity i) w (suc c) (omega arith) in
       rw (← here, add-one c, ← next) up
 
 -- Line after line -----------------------------------------------------------------------------------------------------
 
-lines-more : (rooms : ℕ) (k w : ℕ) (mem : List ℕ) → copies (jobIn mem) (linesIn rooms w k mem) ++ copiesIn rooms k w mem ≡ copies (jobIn mem) (linesIn rooms w (suc k) mem)
-unfolding linesIn copiesIn
-lines-more rooms k w mem = sym (copies-more (jobIn mem) (linesIn rooms w k mem) (lineIn rooms w k mem))
+lines-more : (capacity : ℕ) (k w : ℕ) (mem : List ℕ) → placements (jobIn mem) (linesIn capacity w k mem) ++ placementsIn capacity k w mem ≡ placements (jobIn mem) (linesIn capacity w (suc k) mem)
+unfolding linesIn placementsIn
+lines-more capacity k w mem = sym (placements-more (jobIn mem) (linesIn capacity w k mem) (lineIn capacity w k mem))
 
 -- The replicas of a line are as they were.
-copies-retimed : {rooms a n : ℕ} {d e : List ℕ} → Retimed rooms a n d e → JobHeld rooms d → (k c : ℕ) → c ≤ 8 → copiesIn rooms k c e ≡ copiesIn rooms k c d
-unfolding copiesIn
-copies-retimed {rooms} {d = d} {e} z h k c g =
-    let ps : List ℕ → List ℕ = λ x. map (λ r. r .processor) (rowReplicas (rowAt rooms k) c x) in
+placements-retimed : {capacity a n : ℕ} {d e : List ℕ} → Retimed capacity a n d e → JobHeld capacity d → (k c : ℕ) → c ≤ 8 → placementsIn capacity k c e ≡ placementsIn capacity k c d
+unfolding placementsIn
+placements-retimed {capacity} {d = d} {e} z h k c g =
+    let ps : List ℕ → List ℕ = λ x. map (λ r. r .processor) (rowReplicas (rowAt capacity k) c x) in
     let same : ps e ≡ ps d =
-    ext-getD 0 (ps e) (ps d) (boxes-length c e (rowAt rooms k) c ∙ sym (boxes-length c d (rowAt rooms k) c)) (λ i l.
-    let b : i < c = rw (boxes-length c e (rowAt rooms k) c) at l in
-    boxes-at c e (rowAt rooms k) c i b ∙ z .processor k i (omega arith) ∙ sym (boxes-at c d (rowAt rooms k) c i b)) in
+    ext-getD 0 (ps e) (ps d) (boxes-length c e (rowAt capacity k) c ∙ sym (boxes-length c d (rowAt capacity k) c)) (λ i l.
+    let b : i < c = rw (boxes-length c e (rowAt capacity k) c) at l in
+    boxes-at c e (rowAt capacity k) c i b ∙ z .processor k i (omega arith) ∙ sym (boxes-at c d (rowAt capacity k) c i b)) in
     rw (job-retimed z h, z .task k, same)
 
 -- k lines have run, from a memory d.
-pub record RoundRuns (rooms k : ℕ) (stops cells d e : List ℕ) : Type 0 where
-  pub running : Running rooms k 0 cells e
-  pub retimed : Retimed rooms 0 (nth d 0) d e
-  pub outcomes : (ss : List Stop) → StopsIn ss stops → placedIn rooms false (nth e 3 + 1) k e ≡ walked (jobIn d) ss [] (copies (jobIn d) (linesIn rooms (nth d 3 + 1) k d))
+pub record RoundRuns (capacity k : ℕ) (stops cells d e : List ℕ) : Type 0 where
+  pub running : Running capacity k 0 cells e
+  pub retimed : Retimed capacity 0 (nth d 0) d e
+  pub outcomes : (ss : List Stop) → StopsIn ss stops → placedIn capacity false (nth e 3 + 1) k e ≡ walked (jobIn d) ss [] (placements (jobIn d) (linesIn capacity (nth d 3 + 1) k d))
 
-pub round-first : {rooms : ℕ} (stops : List ℕ) {mem : List ℕ} → LinesHeld rooms (nth mem 0) mem → RoundRuns rooms 0 stops (replicate 16 0) mem mem
-unfolding ready ranIn rowOutcomes placedIn linesIn copies walked walk
+pub round-first : {capacity : ℕ} (stops : List ℕ) {mem : List ℕ} → LinesHeld capacity (nth mem 0) mem → RoundRuns capacity 0 stops (replicate 16 0) mem mem
+unfolding ready ranIn rowOutcomes placedIn linesIn placements walked walk
 round-first stops {mem} s =
     let w = sizes (s .job) in
     record {
@@ -132,18 +132,18 @@ round-first stops {mem} s =
       outcomes = λ ss h. refl;
     }
 
-module _ {rooms : ℕ} (k : ℕ) {stops cells d e : List ℕ} (l : RoundRuns rooms k stops cells d e) (s : LinesHeld rooms (nth d 0) d) (o : Ordered (jobIn d) [] (planIn rooms d .lines)) where
+module _ {capacity : ℕ} (k : ℕ) {stops cells d e : List ℕ} (l : RoundRuns capacity k stops cells d e) (s : LinesHeld capacity (nth d 0) d) (o : Ordered (jobIn d) [] (planIn capacity d .lines)) where
   -- What the next line asks for.
-  pub round-asks : {delays : List ℕ} → DelayTable delays d → k < nth d 0 → DelayTable delays e × (k < nth e 0) × FedBefore rooms k e
+  pub round-asks : {delays : List ℕ} → DelayTable delays d → k < nth d 0 → DelayTable delays e × (k < nth e 0) × PredecessorsBefore capacity k e
   unfolding planIn
   round-asks t h = (
-    delays-kept (s .job) (same-before 0 (jobSize rooms) (l .retimed .outside) (omega arith)) t,
+    delays-kept (s .job) (same-before 0 (jobSize capacity) (l .retimed .outside) (omega arith)) t,
     rw (cell-retimed (l .retimed) 0 (omega arith)) h,
-    fed-retimed (l .retimed) (s .job) k
-        (fed-lines s o k h),
+    predecessors-retimed (l .retimed) (s .job) k
+        (predecessors-lines s o k h),
   )
 
-  pub round-next : {after f : List ℕ} → k < nth d 0 → Running rooms (suc k) 0 after f → LineRun rooms k stops e f → RoundRuns rooms (k + 1) stops after d f
+  pub round-next : {after f : List ℕ} → k < nth d 0 → Running capacity (suc k) 0 after f → LineRun capacity k stops e f → RoundRuns capacity (k + 1) stops after d f
   round-next {after} {f} h r q =
       let w = sizes (s .job) in
       let j : jobIn e ≡ jobIn d = job-retimed (l .retimed) (s .job) in
@@ -154,19 +154,19 @@ module _ {rooms : ℕ} (k : ℕ) {stops cells d e : List ℕ} (l : RoundRuns roo
         retimed = retimed-then (l .retimed) (q .retimed) (omega arith);
         outcomes = λ ss g.
             q .outcomes ss g
-            ∙ rw (j, l .outcomes ss g, three, copies-retimed (l .retimed) (s .job) k (nth d 3 + 1) (omega arith))
-            (sym (walked-append (jobIn d) ss [] (copies (jobIn d) (linesIn rooms (nth d 3 + 1) k d)) (copiesIn rooms k (nth d 3 + 1) d)) ∙ ap (walked (jobIn d) ss [])
-            (lines-more rooms k (nth d 3 + 1) d));
+            ∙ rw (j, l .outcomes ss g, three, placements-retimed (l .retimed) (s .job) k (nth d 3 + 1) (omega arith))
+            (sym (walked-append (jobIn d) ss [] (placements (jobIn d) (linesIn capacity (nth d 3 + 1) k d)) (placementsIn capacity k (nth d 3 + 1) d)) ∙ ap (walked (jobIn d) ss [])
+            (lines-more capacity k (nth d 3 + 1) d));
       }
 
-  pub round-done : k ≡ nth d 0 → RoundRun rooms stops d e
+  pub round-done : k ≡ nth d 0 → RoundRun capacity stops d e
   unfolding planIn walked replay
   round-done q =
       let w = sizes (s .job) in
       let zero-cell : nth e 0 ≡ nth d 0 = cell-retimed (l .retimed) 0 (omega arith) in
       let three : nth e 3 ≡ nth d 3 = cell-retimed (l .retimed) 3 (omega arith) in
       record {
-        outside = kept-wider (rowAt rooms 0) (largestDelayAt rooms) (l .retimed .outside) (omega arith) (omega arith);
+        outside = kept-wider (rowAt capacity 0) (largestDelayAt capacity) (l .retimed .outside) (omega arith) (omega arith);
         standing = l .running .standing;
         rising = λ i c h g.
             let u : i < nth d 0 = rw zero-cell at h in

@@ -12,7 +12,7 @@ use Rattle.jobs.proofs.Held.{tasks-in, processors-in, run-in, delay-in, Sizes, 
 -- Rows --------------------------------------------------------------------------------------------------------
 
 -- The cells of row r end within the job.
-pub row-room : {rooms : ℕ} {mem : List ℕ} → Sizes rooms mem → (r : ℕ) → r < nth mem 0 + nth mem 1 → numberAt mem r 0 + nth mem 1 ≤ jobSize rooms
+pub row-room : {capacity : ℕ} {mem : List ℕ} → Sizes capacity mem → (r : ℕ) → r < nth mem 0 + nth mem 1 → numberAt mem r 0 + nth mem 1 ≤ jobSize capacity
 row-room {mem} s r h = omega (arith, row-below s r (nth mem 1 - 1) h (omega arith))
 
 module _ (mem : List ℕ) where
@@ -31,7 +31,7 @@ module _ (mem : List ℕ) where
       below-same (delay (jobIn mem) p) (λ q. nth mem (a + 1 + q)) (processors-in mem)
       (λ q g. let e : a + (q + 1) ≡ a + 1 + q = omega arith in delay-in mem p q h g ∙ ap (λ (x : ℕ). nth mem x) e)
 
-  module _ {rooms : ℕ} (held : JobHeld rooms mem) where
+  module _ {capacity : ℕ} (held : JobHeld capacity mem) where
     pub run-most : (t q : ℕ) → t < nth mem 0 → q < nth mem 1 → nth mem (runAt mem t 0 + q) ≤ 1_000_000
     run-most t q h g =
         let e : runAt mem t q ≡ runAt mem t 0 + q = omega arith in
@@ -65,7 +65,7 @@ part-cells mem a m h =
     ext-getD 0 (take m (drop a mem)) (map (λ q. nth mem (a + q)) (below m)) (l ∙ sym (length-map (below m) (λ q. nth mem (a + q)) ∙ length-count 0 m))
     (λ i g. part-nth mem a m i (omega arith) ∙ sym (getD-below (λ q. nth mem (a + q)) m i 0 (omega arith)))
 
-module _ {rooms : ℕ} (mem : List ℕ) (held : JobHeld rooms mem) where
+module _ {capacity : ℕ} (mem : List ℕ) (held : JobHeld capacity mem) where
   pub run-sum-most : (t : ℕ) → t < nth mem 0 → rowSum mem t ≤ 16_000_000
   run-sum-most t h =
       let s = sizes held in

@@ -1,5 +1,5 @@
 -- The replay of a plan in memory, replica by replica and line by line.
-use Rattle.lists.proofs.Prelude.{_≡_, refl, ap, _∙_, sym, inl, inr, ⊎-elim, List, [], _∷_, _++_, map, map-append, Bool, true, false, ℕ, zero, suc, _+_, _*_, _<_, _≤_, arith, add-one, eq-eqb, ne-eqb, lt-leb, le-leb, eqb, length, set, length-set, getD-set-same, getD-set-other, if_then_else_, nth, below, In, document01, Job, runTime, incoming, Stop, tick, never, later, after, least, largest, Copy, Outcome, outcome, ofTask, ready, arrival, dataReady, start, stopTime, finish, walk, copiesOf, copyOf, tickOf, trial, PlacedWithin}
+use Rattle.lists.proofs.Prelude.{_≡_, refl, ap, _∙_, sym, inl, inr, ⊎-elim, List, [], _∷_, _++_, map, map-append, Bool, true, false, ℕ, zero, suc, _+_, _*_, _<_, _≤_, arith, add-one, eq-eqb, ne-eqb, lt-leb, le-leb, eqb, length, set, length-set, getD-set-same, getD-set-other, if_then_else_, nth, below, In, document01, Job, runTime, incoming, Stop, tick, never, later, after, least, largest, Placement, Outcome, outcome, ofTask, ready, arrival, dataReady, start, stopTime, finish, walk, placementsOf, placementOf, tickOf, trial, PlacedWithin}
 use Rattle.definitions.specs.Times.{unlessStopped}
 use Rattle.definitions.specs.Claims.{Within}
 use Rattle.definitions.proofs.Lists.{map-same, map-in, in-keep, below-in}
@@ -11,8 +11,8 @@ use Rattle.ticks.specs.Cells.{neverCell, timeIn, Small}
 use Rattle.plans.specs.Lines.{rowOutcomes, placedIn, rowReplicas, rowOf, LinesHeld}
 use Rattle.rounds.specs.Schedule.{dataIn, lineTicks}
 use Rattle.lists.specs.Kept.{KeptOutside}
-use Rattle.rounds.specs.Arrivals.{lastShort, FirstFed}
-use Rattle.rounds.specs.Replaying.{StopsIn, ranIn, Running, FedBefore, Retimed, copiesIn, walked, LineRun}
+use Rattle.rounds.specs.Arrivals.{lastShort, FirstSupplied}
+use Rattle.rounds.specs.Replaying.{StopsIn, ranIn, Running, PredecessorsBefore, Retimed, placementsIn, walked, LineRun}
 use Rattle.lists.proofs.Counting.{equal-or-not, last-or-before}
 use Rattle.lists.proofs.Kept.{Same, same-before, kept-all, kept-then, kept-wider, kept-set}
 use Rattle.jobs.proofs.Held.{sizes, tasks-in, processors-in, job-kept, held-kept}
@@ -22,57 +22,57 @@ use Rattle.rounds.proofs.Placed.{ofTask-append, row-none, feeding-line,
 
 -- What changes and what does not ------------------------------------------------------------------------------------
 
-pub retimed-none : {rooms k n : ℕ} {d : List ℕ} → Retimed rooms k n d d
+pub retimed-none : {capacity k n : ℕ} {d : List ℕ} → Retimed capacity k n d d
 retimed-none = record { outside = kept-all; task = λ i. refl; processor = λ i c h. refl; late = λ i c h. refl }
 
-pub retimed-set : {rooms k n : ℕ} {d e : List ℕ} (i c y : ℕ) → Retimed rooms k n d e → k ≤ i → i < n → c < 8 → Retimed rooms k n d (set e (earlyAt (rowAt rooms i) c) y)
-retimed-set {rooms} {k} {n} {d} {e} i c y r a b h =
-    let other : (j : ℕ) → (j ≡ earlyAt (rowAt rooms i) c → ⊥) → nth (set e (earlyAt (rowAt rooms i) c) y) j ≡ nth e j = λ j. getD-set-other e (earlyAt (rowAt rooms i) c) j y 0 in
+pub retimed-set : {capacity k n : ℕ} {d e : List ℕ} (i c y : ℕ) → Retimed capacity k n d e → k ≤ i → i < n → c < 8 → Retimed capacity k n d (set e (earlyAt (rowAt capacity i) c) y)
+retimed-set {capacity} {k} {n} {d} {e} i c y r a b h =
+    let other : (j : ℕ) → (j ≡ earlyAt (rowAt capacity i) c → ⊥) → nth (set e (earlyAt (rowAt capacity i) c) y) j ≡ nth e j = λ j. getD-set-other e (earlyAt (rowAt capacity i) c) j y 0 in
     record {
-      outside = kept-set (earlyAt (rowAt rooms i) c) y (r .outside) (omega arith) (omega arith);
-      task = λ m. other (rowAt rooms m) (λ q. let z : i ≡ m = omega arith in omega arith) ∙ r .task m;
-      processor = λ m n g. other (processorAt (rowAt rooms m) n) (λ q. let z : i ≡ m = omega arith in early-apart (rowAt rooms i) c n .0 (omega arith)) ∙ r .processor m n g;
-      late = λ m n g. other (lateAt (rowAt rooms m) n) (λ q. let z : i ≡ m = omega arith in early-apart (rowAt rooms i) c n .1 (omega arith)) ∙ r .late m n g;
+      outside = kept-set (earlyAt (rowAt capacity i) c) y (r .outside) (omega arith) (omega arith);
+      task = λ m. other (rowAt capacity m) (λ q. let z : i ≡ m = omega arith in omega arith) ∙ r .task m;
+      processor = λ m n g. other (processorAt (rowAt capacity m) n) (λ q. let z : i ≡ m = omega arith in early-apart (rowAt capacity i) c n .0 (omega arith)) ∙ r .processor m n g;
+      late = λ m n g. other (lateAt (rowAt capacity m) n) (λ q. let z : i ≡ m = omega arith in early-apart (rowAt capacity i) c n .1 (omega arith)) ∙ r .late m n g;
     }
 
-pub retimed-then : {rooms k n m : ℕ} {d e f : List ℕ} → Retimed rooms 0 n d e → Retimed rooms k m e f → m ≤ n → Retimed rooms 0 n d f
-retimed-then {rooms} {k} {n} {m} p q h =
+pub retimed-then : {capacity k n m : ℕ} {d e f : List ℕ} → Retimed capacity 0 n d e → Retimed capacity k m e f → m ≤ n → Retimed capacity 0 n d f
+retimed-then {capacity} {k} {n} {m} p q h =
     record {
-      outside = kept-then (p .outside) (kept-wider (rowAt rooms 0) (rowAt rooms n) (q .outside) (omega arith) (omega arith));
+      outside = kept-then (p .outside) (kept-wider (rowAt capacity 0) (rowAt capacity n) (q .outside) (omega arith) (omega arith));
       task = λ i. q .task i ∙ p .task i;
       processor = λ i c g. q .processor i c g ∙ p .processor i c g;
       late = λ i c g. q .late i c g ∙ p .late i c g;
     }
 
-module _ {rooms k n : ℕ} {d e : List ℕ} (z : Retimed rooms k n d e) where
-  pub cell-retimed : (i : ℕ) → i < rowAt rooms 0 → nth e i ≡ nth d i
+module _ {capacity k n : ℕ} {d e : List ℕ} (z : Retimed capacity k n d e) where
+  pub cell-retimed : (i : ℕ) → i < rowAt capacity 0 → nth e i ≡ nth d i
   cell-retimed i h = z .outside .before i (omega arith)
 
-  module _ (s : JobHeld rooms d) where
+  module _ (s : JobHeld capacity d) where
     pub job-retimed : jobIn e ≡ jobIn d
     job-retimed = job-kept s (z .outside) (omega arith)
 
-    pub fed-retimed : (i : ℕ) → FedBefore rooms i d → FedBefore rooms i e
-    fed-retimed i f x h =
+    pub predecessors-retimed : (i : ℕ) → PredecessorsBefore capacity i d → PredecessorsBefore capacity i e
+    predecessors-retimed i f x h =
         let w = sizes s in
-        let g : In x (incoming (jobIn d) (nth d (rowAt rooms i))) = rw (job-retimed, z .task i) at h in
-        let t : x .from < nth d 0 = rw (tasks-in d) at (s .facts .from-task x (in-incoming (jobIn d) (nth d (rowAt rooms i)) x g .0)) in
-        rw (cell-retimed (lineAt rooms + x .from) (omega arith)) (f x g)
+        let g : In x (incoming (jobIn d) (nth d (rowAt capacity i))) = rw (job-retimed, z .task i) at h in
+        let t : x .from < nth d 0 = rw (tasks-in d) at (s .facts .from-task x (in-incoming (jobIn d) (nth d (rowAt capacity i)) x g .0)) in
+        rw (cell-retimed (lineAt capacity + x .from) (omega arith)) (f x g)
 
   -- Lines whose early times are those of ticks still stand.
-  pub standing-retimed : LinesHeld rooms (nth d 0) d → ((i c : ℕ) → i < nth d 0 → c < nth d 3 + 1 → Small (document01 .tick) (nth e (earlyAt (rowAt rooms i) c))) → LinesHeld rooms (nth e 0) e
+  pub standing-retimed : LinesHeld capacity (nth d 0) d → ((i c : ℕ) → i < nth d 0 → c < nth d 3 + 1 → Small (document01 .tick) (nth e (earlyAt (rowAt capacity i) c))) → LinesHeld capacity (nth e 0) e
   standing-retimed s early =
       let w = sizes (s .job) in
-      let j : Same 0 (rowAt rooms 0) d e = same-before 0 (rowAt rooms 0) (z .outside) (omega arith) in
+      let j : Same 0 (rowAt capacity 0) d e = same-before 0 (rowAt capacity 0) (z .outside) (omega arith) in
       let v : nth e 0 ≡ nth d 0 = cell-retimed 0 (omega arith) in
       let m : nth e 1 ≡ nth d 1 = cell-retimed 1 (omega arith) in
       let l : nth e 3 ≡ nth d 3 = cell-retimed 3 (omega arith) in
-      let line : (t : ℕ) → t < nth d 0 → nth e (lineAt rooms + t) ≡ nth d (lineAt rooms + t) = λ t h. cell-retimed (lineAt rooms + t) (omega arith) in
+      let line : (t : ℕ) → t < nth d 0 → nth e (lineAt capacity + t) ≡ nth d (lineAt capacity + t) = λ t h. cell-retimed (lineAt capacity + t) (omega arith) in
       record {
         job = held-kept (s .job) (z .outside) (omega arith);
         count = omega arith;
         task-of = λ i h. rw (z .task i, v) (s .task-of i (rw v at h));
-        line-of = λ i h. let g : i < nth d 0 = rw v at h in rw (z .task i, line (nth d (rowAt rooms i)) (s .task-of i g)) (s .line-of i g);
+        line-of = λ i h. let g : i < nth d 0 = rw v at h in rw (z .task i, line (nth d (rowAt capacity i)) (s .task-of i g)) (s .line-of i g);
         placed = λ t h.
             let g : t < nth d 0 = rw v at h in
             rw (line t g, v) (⊎-elim (λ p. inl p) (λ p. inr (p .0, p .1, p .2, z .task (p .0) ∙ p .3)) (s .placed t g));
@@ -118,34 +118,34 @@ row-small j b a (suc c) i mem h g =
     (λ l. row-small j b a c i mem l (λ d m. g d (inr m)))
     (last-or-before c i h)
 
-module _ {rooms : ℕ} (k c : ℕ) {cells mem : List ℕ} (r : Running rooms k c cells mem) (a : k < nth mem 0) (b : c < nth mem 3 + 1) (f : FedBefore rooms k mem) where
+module _ {capacity : ℕ} (k c : ℕ) {cells mem : List ℕ} (r : Running capacity k c cells mem) (a : k < nth mem 0) (b : c < nth mem 3 + 1) (f : PredecessorsBefore capacity k mem) where
   abbrev runner : ℕ
-  runner = nth mem (rowAt rooms k)
+  runner = nth mem (rowAt capacity k)
 
   abbrev box : ℕ
-  box = nth mem (processorAt (rowAt rooms k) c)
+  box = nth mem (processorAt (rowAt capacity k) c)
 
   pub box-below : box < nth mem 1
   box-below = r .standing .row k a .processor-of c b
 
   -- The data comes from the lines before.
-  data-ran : dataReady (jobIn mem) least (ranIn rooms k c mem) runner box ≡ dataIn rooms false runner box mem
+  data-ran : dataReady (jobIn mem) least (ranIn capacity k c mem) runner box ≡ dataIn capacity false runner box mem
   unfolding dataReady arrival ranIn
   data-ran =
       ap largest
-      (map-same (arrival (jobIn mem) least (ranIn rooms k c mem) box) (arrival (jobIn mem) least (placedIn rooms false (nth mem 3 + 1) k mem) box) (incoming (jobIn mem) runner) λ e i.
+      (map-same (arrival (jobIn mem) least (ranIn capacity k c mem) box) (arrival (jobIn mem) least (placedIn capacity false (nth mem 3 + 1) k mem) box) (incoming (jobIn mem) runner) λ e i.
       let l = f e i .1 in
       let own = r .standing .line-of k a in
       rw (
-        ofTask-append (e .from) (rowOutcomes false (rowAt rooms k) c mem) (placedIn rooms false (nth mem 3 + 1) k mem),
-        row-none false mem (e .from) (rowAt rooms k) c
-            (λ q. let g : nth mem (lineAt rooms + e .from) ≡ suc k = rw q at own in omega arith),
+        ofTask-append (e .from) (rowOutcomes false (rowAt capacity k) c mem) (placedIn capacity false (nth mem 3 + 1) k mem),
+        row-none false mem (e .from) (rowAt capacity k) c
+            (λ q. let g : nth mem (lineAt capacity + e .from) ≡ suc k = rw q at own in omega arith),
       ))
       ∙ sym (data-placed (r .standing) k runner (omega arith) f false box)
 
-  module _ (x : ℕ) (e : timeIn x ≡ after (runTime (jobIn mem) runner box) (later (timeIn (nth cells box)) (dataIn rooms false runner box mem))) where
+  module _ (x : ℕ) (e : timeIn x ≡ after (runTime (jobIn mem) runner box) (later (timeIn (nth cells box)) (dataIn capacity false runner box mem))) where
     -- The finish under stops, from the finish without.
-    pub finish-ran : (ss : List Stop) → finish (jobIn mem) least ss (ranIn rooms k c mem) (copyOf (jobIn mem) runner box) ≡ unlessStopped (stopTime ss box) (timeIn x)
+    pub finish-ran : (ss : List Stop) → finish (jobIn mem) least ss (ranIn capacity k c mem) (placementOf (jobIn mem) runner box) ≡ unlessStopped (stopTime ss box) (timeIn x)
     unfolding finish start
     finish-ran ss = rw (e, data-ran, r .ready-of box box-below)
 
@@ -154,18 +154,18 @@ module _ {rooms : ℕ} (k c : ℕ) {cells mem : List ℕ} (r : Running rooms k c
     finish-small =
         let j = jobIn mem in
         let s = r .standing .job .facts in
-        let here : ℕ = tickOf (finish j least [] (ranIn rooms k c mem) (copyOf j runner box)) in
-        let among : In here (trial j (ranIn rooms k c mem) runner) =
-        map-in (λ y. tickOf (finish j least [] (ranIn rooms k c mem) y)) (copyOf j runner box) (copiesOf j runner (below (j .processors)))
-        (map-in (copyOf j runner) box (below (j .processors)) (below-in (j .processors) box (rw (processors-in mem) box-below))) in
-        let most : here ≤ (k * 8 + c) * lineTicks + lineTicks = trial-most document01 j s ((k * 8 + c) * lineTicks) (ranIn rooms k c mem) runner (rw (tasks-in mem) (r .standing .task-of k a))
+        let here : ℕ = tickOf (finish j least [] (ranIn capacity k c mem) (placementOf j runner box)) in
+        let among : In here (trial j (ranIn capacity k c mem) runner) =
+        map-in (λ y. tickOf (finish j least [] (ranIn capacity k c mem) y)) (placementOf j runner box) (placementsOf j runner (below (j .processors)))
+        (map-in (placementOf j runner) box (below (j .processors)) (below-in (j .processors) box (rw (processors-in mem) box-below))) in
+        let most : here ≤ (k * 8 + c) * lineTicks + lineTicks = trial-most document01 j s ((k * 8 + c) * lineTicks) (ranIn capacity k c mem) runner (rw (tasks-in mem) (r .standing .task-of k a))
         (r .within) here among in
         ⊎-elim inl (λ n. let q : here ≡ x = ap tickOf (finish-ran [] ∙ time-tick x n) in inr (omega arith)) (equal-or-not x neverCell)
 
     -- Its outcome y takes the place of its early tick and becomes its processor's ready time.
     module _ (y : ℕ) (n : (b : ℕ) → Small b x → Small b y) where
       abbrev mem′ : List ℕ
-      mem′ = set mem (earlyAt (rowAt rooms k) c) y
+      mem′ = set mem (earlyAt (rowAt capacity k) c) y
 
       abbrev cells′ : List ℕ
       cells′ = set cells box y
@@ -173,29 +173,29 @@ module _ {rooms : ℕ} (k c : ℕ) {cells mem : List ℕ} (r : Running rooms k c
       abbrev here : Outcome
       here = record { task = runner; processor = box; time = timeIn y }
 
-      retimed : Retimed rooms k (suc k) mem mem′
+      retimed : Retimed capacity k (suc k) mem mem′
       retimed = let w = sizes (r .standing .job) in retimed-set k c y retimed-none (omega arith) (omega arith) (omega arith)
 
       small-here : Small ((k * 8 + (c + 1)) * lineTicks) y
       small-here = small-wider ((k * 8 + c) * lineTicks + lineTicks) ((k * 8 + (c + 1)) * lineTicks) y (omega arith) (n ((k * 8 + c) * lineTicks + lineTicks) finish-small)
 
-      pub ran-next : ranIn rooms k (c + 1) mem′ ≡ here ∷ ranIn rooms k c mem
+      pub ran-next : ranIn capacity k (c + 1) mem′ ≡ here ∷ ranIn capacity k c mem
       unfolding ranIn rowOutcomes
       ran-next =
           let w = sizes (r .standing .job) in
-          let i : ℕ = earlyAt (rowAt rooms k) c in
+          let i : ℕ = earlyAt (rowAt capacity k) c in
           let one : KeptOutside i (i + 1) mem mem′ = kept-set i y kept-all (omega arith) (omega arith) in
           rw (
             add-one c,
             retimed .task k,
             retimed .processor k c (omega arith),
-            getD-set-same mem (earlyAt (rowAt rooms k) c) y 0 (omega arith),
+            getD-set-same mem (earlyAt (rowAt capacity k) c) y 0 (omega arith),
             cell-retimed retimed 3 (omega arith),
-            outcomes-same mem mem′ false (rowAt rooms k) c (same-before (rowAt rooms k) (processorAt (rowAt rooms k) c) one (omega arith)),
-            placed-same mem mem′ rooms false (nth mem 3 + 1) k (omega arith) (same-before (rowAt rooms 0) (rowAt rooms k) one (omega arith)),
+            outcomes-same mem mem′ false (rowAt capacity k) c (same-before (rowAt capacity k) (processorAt (rowAt capacity k) c) one (omega arith)),
+            placed-same mem mem′ capacity false (nth mem 3 + 1) k (omega arith) (same-before (rowAt capacity 0) (rowAt capacity k) one (omega arith)),
           )
 
-      running-next : Running rooms k (c + 1) cells′ mem′
+      running-next : Running capacity k (c + 1) cells′ mem′
       unfolding ready
       running-next =
           let w = sizes (r .standing .job) in
@@ -204,13 +204,13 @@ module _ {rooms : ℕ} (k c : ℕ) {cells mem : List ℕ} (r : Running rooms k c
           let most : (k * 8 + c) * lineTicks ≤ (k * 8 + (c + 1)) * lineTicks = omega arith in
           record {
             standing = standing-retimed retimed (r .standing) λ i q h g.
-                set-cell (Small (document01 .tick)) mem (earlyAt (rowAt rooms k) c) (earlyAt (rowAt rooms i) q) y (omega arith)
+                set-cell (Small (document01 .tick)) mem (earlyAt (rowAt capacity k) c) (earlyAt (rowAt capacity i) q) y (omega arith)
                 (λ e. small-wider ((k * 8 + (c + 1)) * lineTicks) (document01 .tick) y (omega arith) small-here)
                 (λ e. r .standing .row i h .early-of q g);
             size = length-set cells box y ∙ r .size;
             ready-of = λ p h.
                 rw (j, ran-next)
-                (set-cell (λ z. timeIn z ≡ ready (jobIn mem) p (here ∷ ranIn rooms k c mem)) cells box p y (omega (arith, box-below, r .size))
+                (set-cell (λ z. timeIn z ≡ ready (jobIn mem) p (here ∷ ranIn capacity k c mem)) cells box p y (omega (arith, box-below, r .size))
                 (λ e. rw (eq-eqb box p e))
                 (λ e. rw (ne-eqb box p e) (r .ready-of p (rw m at h))));
             ready-small = λ p h.
@@ -227,46 +227,47 @@ module _ {rooms : ℕ} (k c : ℕ) {cells mem : List ℕ} (r : Running rooms k c
 -- A line --------------------------------------------------------------------------------------------------------------
 
 -- One more replica runs after the others; so do more replicas.
-walked-more : (j : Job) (ss : List Stop) (placed : List Outcome) (cs : List Copy) (y : Copy)
+walked-more : (j : Job) (ss : List Stop) (placed : List Outcome) (cs : List Placement) (y : Placement)
     → walked j ss placed (cs ++ y ∷ []) ≡ outcome y (finish j least ss (walked j ss placed cs) y) ∷ walked j ss placed cs
 unfolding walked walk
 walked-more j ss placed [] y = refl
 walked-more j ss placed (c ∷ cs) y = walked-more j ss (outcome c (finish j least ss placed c) ∷ placed) cs y
 
-pub walked-append : (j : Job) (ss : List Stop) (placed : List Outcome) (bs cs : List Copy) → walked j ss placed (bs ++ cs) ≡ walked j ss (walked j ss placed bs) cs
+pub walked-append : (j : Job) (ss : List Stop) (placed : List Outcome) (bs cs : List Placement) → walked j ss placed (bs ++ cs) ≡ walked j ss (walked j ss placed bs) cs
 unfolding walked walk
 walked-append j ss placed [] cs = refl
 walked-append j ss placed (b ∷ bs) cs = walked-append j ss (outcome b (finish j least ss placed b) ∷ placed) bs cs
 
-copies-next : (rooms : ℕ) (k c : ℕ) (mem : List ℕ) → copiesIn rooms k (c + 1) mem ≡ copiesIn rooms k c mem ++ copyOf (jobIn mem) (nth mem (rowAt rooms k))
-    (nth mem (processorAt (rowAt rooms k) c)) ∷ []
-unfolding copiesIn rowReplicas
-copies-next rooms k c mem =
-    let t = nth mem (rowAt rooms k) in
-    rw (add-one c, map-append (λ r. r .processor) (rowReplicas (rowAt rooms k) c mem) (_ ∷ []))
-    (map-append (copyOf (jobIn mem) t) (map (λ r. r .processor) (rowReplicas (rowAt rooms k) c mem)) (_ ∷ []))
+placements-next : (capacity : ℕ) (k c : ℕ) (mem : List ℕ) → placementsIn capacity k (c + 1) mem ≡ placementsIn capacity k c mem ++ placementOf (jobIn mem) (nth mem (rowAt capacity k))
+    (nth mem (processorAt (rowAt capacity k) c)) ∷ []
+unfolding placementsIn rowReplicas
+placements-next capacity k c mem =
+    let t = nth mem (rowAt capacity k) in
+    rw (add-one c, map-append (λ r. r .processor) (rowReplicas (rowAt capacity k) c mem) (_ ∷ []))
+    (map-append (placementOf (jobIn mem) t) (map (λ r. r .processor) (rowReplicas (rowAt capacity k) c mem)) (_ ∷ []))
 
 -- The first data of line k comes from lines that have run.
-pub line-fed-short : {rooms : ℕ} (k : ℕ) {cells d : List ℕ} → Running rooms k 0 cells d → k < nth d 0 → FedBefore rooms k d → FirstFed rooms (nth d (rowAt rooms k)) d
+pub line-predecessors-short : {capacity : ℕ} (k : ℕ) {cells d : List ℕ} → Running capacity k 0 cells d → k < nth d 0
+    → PredecessorsBefore capacity k d → FirstSupplied capacity (nth d (rowAt capacity k)) d
 unfolding ranIn rowOutcomes ofTask
-line-fed-short {rooms} k {cells} {d} r a f e i =
+line-predecessors-short {capacity} k {cells} {d} r a f e i =
     let w = sizes (r .standing .job) in
     let most : ℕ = (k * 8 + 0) * lineTicks in
-    let row = rowOf rooms (e .from) d in
-    let own : ofTask (e .from) (placedIn rooms false (nth d 3 + 1) k d) ≡ rowOutcomes false row (nth d 3 + 1) d =
-    feeding-line (r .standing) k (nth d (rowAt rooms k)) (omega arith) f false e i in
+    let row = rowOf capacity (e .from) d in
+    let own : ofTask (e .from) (placedIn capacity false (nth d 3 + 1) k d) ≡ rowOutcomes false row (nth d 3 + 1) d =
+    feeding-line (r .standing) k (nth d (rowAt capacity k)) (omega arith) f false e i in
     let among : PlacedWithin (jobIn d) most (rowOutcomes false row (nth d 3 + 1) d) =
-    rw (← own) (λ x m. r .within x (in-keep (λ x. eqb (x .task) (e .from)) x (placedIn rooms false (nth d 3 + 1) k d) m .0)) in
+    rw (← own) (λ x m. r .within x (in-keep (λ x. eqb (x .task) (e .from)) x (placedIn capacity false (nth d 3 + 1) k d) m .0)) in
     (f e i .0, λ c h. small-wider most lastShort (nth d (earlyAt row c)) (omega arith) (row-small (jobIn d) most row (nth d 3 + 1) c d h among))
 
 -- c replicas of line k have run, from a memory d.
-pub record LineRuns (rooms k c : ℕ) (stops cells d e : List ℕ) : Type 0 where
-  pub running : Running rooms k c cells e
-  pub retimed : Retimed rooms k (suc k) d e
-  pub outcomes : (ss : List Stop) → StopsIn ss stops → ranIn rooms k c e ≡ walked (jobIn d) ss (placedIn rooms false (nth d 3 + 1) k d) (copiesIn rooms k c d)
+pub record LineRuns (capacity k c : ℕ) (stops cells d e : List ℕ) : Type 0 where
+  pub running : Running capacity k c cells e
+  pub retimed : Retimed capacity k (suc k) d e
+  pub outcomes : (ss : List Stop) → StopsIn ss stops → ranIn capacity k c e ≡ walked (jobIn d) ss (placedIn capacity false (nth d 3 + 1) k d) (placementsIn capacity k c d)
 
-pub line-first : {rooms : ℕ} (k : ℕ) (stops : List ℕ) {cells d : List ℕ} → Running rooms k 0 cells d → LineRuns rooms k 0 stops cells d d
-unfolding ranIn rowOutcomes copiesIn rowReplicas walked walk
+pub line-first : {capacity : ℕ} (k : ℕ) (stops : List ℕ) {cells d : List ℕ} → Running capacity k 0 cells d → LineRuns capacity k 0 stops cells d d
+unfolding ranIn rowOutcomes placementsIn rowReplicas walked walk
 line-first k stops r = record { running = r; retimed = retimed-none; outcomes = λ ss h. refl }
 
 -- The next replica, on p: its processor, and when that is ready.
@@ -275,38 +276,39 @@ pub record LineStep (p : ℕ) (cells d : List ℕ) : Type 0 where
   pub below : p < 16
   pub ready-small : Small 4294967295 (nth cells p)
 
-module _ {rooms : ℕ} (k c : ℕ) {stops cells d e : List ℕ} (l : LineRuns rooms k c stops cells d e) (s : LinesHeld rooms (nth d 0) d) (a : k < nth d 0) (f : FedBefore rooms k d) where
-  abbrev ran : Running rooms k c cells e
+module _ {capacity : ℕ} (k c : ℕ) {stops cells d e : List ℕ} (l : LineRuns capacity k c stops cells d e)
+    (s : LinesHeld capacity (nth d 0) d) (a : k < nth d 0) (f : PredecessorsBefore capacity k d) where
+  abbrev ran : Running capacity k c cells e
   ran = l .running
 
   line-below : k < nth e 0
   line-below = rw (cell-retimed (l .retimed) 0 (omega arith)) a
 
-  line-fed : FedBefore rooms k e
-  line-fed = fed-retimed (l .retimed) (s .job) k f
+  line-predecessors : PredecessorsBefore capacity k e
+  line-predecessors = predecessors-retimed (l .retimed) (s .job) k f
 
   -- The data of the line is what it was before.
-  line-data : (p : ℕ) → dataIn rooms false (nth e (rowAt rooms k)) p e ≡ dataIn rooms false (nth d (rowAt rooms k)) p d
+  line-data : (p : ℕ) → dataIn capacity false (nth e (rowAt capacity k)) p e ≡ dataIn capacity false (nth d (rowAt capacity k)) p d
   line-data p =
       let w = sizes (s .job) in
-      data-placed (ran .standing) k (nth e (rowAt rooms k)) (omega (arith, line-below)) line-fed false p
+      data-placed (ran .standing) k (nth e (rowAt capacity k)) (omega (arith, line-below)) line-predecessors false p
       ∙ rw (
         job-retimed (l .retimed) (s .job),
         l .retimed .task k,
         cell-retimed (l .retimed) 3 (omega arith),
-        placed-same d e rooms false (nth d 3 + 1) k (omega arith) (same-before (rowAt rooms 0) (rowAt rooms k) (l .retimed .outside) (omega arith)),
+        placed-same d e capacity false (nth d 3 + 1) k (omega arith) (same-before (rowAt capacity 0) (rowAt capacity k) (l .retimed .outside) (omega arith)),
       )
-      (sym (data-placed s k (nth d (rowAt rooms k)) (omega arith) f false p))
+      (sym (data-placed s k (nth d (rowAt capacity k)) (omega arith) f false p))
 
   module _ (b : c < nth d 3 + 1) where
     abbrev its : ℕ
-    its = nth e (processorAt (rowAt rooms k) c)
+    its = nth e (processorAt (rowAt capacity k) c)
 
     replica-below : c < nth e 3 + 1
     replica-below = rw (cell-retimed (l .retimed) 3 (omega arith)) b
 
     its-below : its < nth e 1
-    its-below = box-below k c ran line-below replica-below line-fed
+    its-below = box-below k c ran line-below replica-below line-predecessors
 
     pub line-step : LineStep its cells d
     line-step =
@@ -319,31 +321,32 @@ module _ {rooms : ℕ} (k c : ℕ) {stops cells d e : List ℕ} (l : LineRuns ro
         }
 
     pub line-next : (supplied run x y : ℕ)
-        → timeIn supplied ≡ dataIn rooms false (nth d (rowAt rooms k)) its d
-        → run ≡ runTime (jobIn d) (nth d (rowAt rooms k)) its
+        → timeIn supplied ≡ dataIn capacity false (nth d (rowAt capacity k)) its d
+        → run ≡ runTime (jobIn d) (nth d (rowAt capacity k)) its
         → timeIn x ≡ after run (later (timeIn (nth cells its)) (timeIn supplied))
         → timeIn y ≡ unlessStopped (timeIn (nth stops its)) (timeIn x)
         → ((b : ℕ) → Small b x → Small b y)
-        → LineRuns rooms k (c + 1) stops (set cells its y) d (set e (earlyAt (rowAt rooms k) c) y)
+        → LineRuns capacity k (c + 1) stops (set cells its y) d (set e (earlyAt (rowAt capacity k) c) y)
     line-next supplied run x y o z p₀ q n =
         let w = sizes (s .job) in
         let g = line-below in
         let u = replica-below in
-        let v = line-fed in
-        let own : runTime (jobIn e) (nth e (rowAt rooms k)) its ≡ run = rw (job-retimed (l .retimed) (s .job), l .retimed .task k) (sym z) in
-        let p : timeIn x ≡ after (runTime (jobIn e) (nth e (rowAt rooms k)) its) (later (timeIn (nth cells its)) (dataIn rooms false (nth e (rowAt rooms k)) its e)) = rw
+        let v = line-predecessors in
+        let own : runTime (jobIn e) (nth e (rowAt capacity k)) its ≡ run = rw (job-retimed (l .retimed) (s .job), l .retimed .task k) (sym z) in
+        let p : timeIn x ≡ after (runTime (jobIn e) (nth e (rowAt capacity k)) its) (later (timeIn (nth cells its)) (dataIn capacity false (nth e (rowAt capacity k)) its e)) = rw
         (line-data its, ← o, own) p₀ in
         record {
           running = running-next k c ran g u v x p y n;
           retimed = retimed-set k c y (l .retimed) (omega arith) (omega arith) (omega arith);
           outcomes = λ ss h.
               let j : jobIn e ≡ jobIn d = job-retimed (l .retimed) (s .job) in
-              let o : finish (jobIn e) least ss (ranIn rooms k c e) (copyOf (jobIn e) (nth e (rowAt rooms k)) its) ≡ timeIn y =
+              let o : finish (jobIn e) least ss (ranIn capacity k c e) (placementOf (jobIn e) (nth e (rowAt capacity k)) its) ≡ timeIn y =
               finish-ran k c ran g u v x p ss ∙ rw (← h its (line-step .below)) (sym q) in
               ran-next k c ran g u v x p y n
               ∙ rw (
-                copies-next rooms k c d,
-                walked-more (jobIn d) ss (placedIn rooms false (nth d 3 + 1) k d) (copiesIn rooms k c d) (copyOf (jobIn d) (nth d (rowAt rooms k)) (nth d (processorAt (rowAt rooms k) c))),
+                placements-next capacity k c d,
+                walked-more (jobIn d) ss (placedIn capacity false (nth d 3 + 1) k d) (placementsIn capacity k c d)
+                    (placementOf (jobIn d) (nth d (rowAt capacity k)) (nth d (processorAt (rowAt capacity k) c))),
                 ← l .outcomes ss h,
                 ← j,
                 ← l .retimed .task k,
@@ -352,12 +355,12 @@ module _ {rooms : ℕ} (k c : ℕ) {stops cells d e : List ℕ} (l : LineRuns ro
               );
         }
 
-  pub line-done : c ≡ nth d 3 + 1 → Running rooms (suc k) 0 cells e × LineRun rooms k stops d e
+  pub line-done : c ≡ nth d 3 + 1 → Running capacity (suc k) 0 cells e × LineRun capacity k stops d e
   unfolding ranIn placedIn rowOutcomes
   line-done q =
       let w = sizes (s .job) in
       let three : nth e 3 ≡ nth d 3 = cell-retimed (l .retimed) 3 (omega arith) in
-      let same : ranIn rooms k c e ≡ ranIn rooms (suc k) 0 e = rw (q, three) in
+      let same : ranIn capacity k c e ≡ ranIn capacity (suc k) 0 e = rw (q, three) in
       let most : (k * 8 + c) * lineTicks ≤ (suc k * 8 + 0) * lineTicks = omega arith in (
         record {
           standing = ran .standing;

@@ -75,14 +75,14 @@ abbrev pub DelayCell : List ℕ → ℕ → ℕ → Type 0
 DelayCell mem i z = (z ≤ 255) × ((q p : ℕ) → q < nth mem 1 → p < nth mem 1 → i ≡ q * 16 + p → z ≡ delay (jobIn mem) q p)
 
 module _ {mem : List ℕ} where
-  pub delay-stored : {rooms : ℕ} → Sizes rooms mem → (i z : ℕ) → z ≡ delay (jobIn mem) (i / 16) (i % 16) → z ≤ 255 → DelayCell mem i z
+  pub delay-stored : {capacity : ℕ} → Sizes capacity mem → (i z : ℕ) → z ≡ delay (jobIn mem) (i / 16) (i % 16) → z ≤ 255 → DelayCell mem i z
   delay-stored s i z h g = (g, λ q p a b e. let u : q ≡ i / 16 = omega arith in let v : p ≡ i % 16 = omega arith in rw (u, v) h)
 
-  pub delay-outside : {rooms : ℕ} → Sizes rooms mem → (i z : ℕ) → z ≤ 255 → nth mem 1 ≤ i % 16 → DelayCell mem i z
+  pub delay-outside : {capacity : ℕ} → Sizes capacity mem → (i z : ℕ) → z ≤ 255 → nth mem 1 ≤ i % 16 → DelayCell mem i z
   delay-outside s i z h o = (h, λ q p a b e. let v : p ≡ i % 16 = omega arith in absurd (omega arith))
 
   -- The rest of a row is for no processor.
-  pub delays-end : {rooms : ℕ} → Sizes rooms mem → {d e : List ℕ} {i : ℕ} → ((j : ℕ) → nth d j ≡ 0) → Filled (DelayCell mem) d e i → nth mem 1 ≤ i % 16
+  pub delays-end : {capacity : ℕ} → Sizes capacity mem → {d e : List ℕ} {i : ℕ} → ((j : ℕ) → nth d j ≡ 0) → Filled (DelayCell mem) d e i → nth mem 1 ≤ i % 16
       → Filled (DelayCell mem) d e (i + (16 - i % 16))
   delays-end s {d} {e} {i} z f o =
       record {
@@ -97,7 +97,7 @@ module _ {mem : List ℕ} where
           let l = ltb-false j i w in
           delay-outside s j (nth e j) (omega (arith, f .rest j l, z j)) (omega (arith, g, l, o))
 
-  pub table-made : {rooms : ℕ} → Sizes rooms mem → {d e : List ℕ} {n : ℕ} → 16 * nth mem 1 ≤ n → ((i : ℕ) → nth d i ≡ 0) → Filled (DelayCell mem) d e n
+  pub table-made : {capacity : ℕ} → Sizes capacity mem → {d e : List ℕ} {n : ℕ} → 16 * nth mem 1 ≤ n → ((i : ℕ) → nth d i ≡ 0) → Filled (DelayCell mem) d e n
       → DelayTable e mem
   table-made s {d} {e} {n} h z f =
       record {
@@ -118,7 +118,7 @@ none-set i = by (ltb i 256) refl
     by false w = List·getD-eq-default (replicate {A = ℕ} 256 0) 0 {n = i} (omega (arith, length-replicate {A = ℕ} 256 0, ltb-false i 256 w))
 
 -- The table is that of a memory with the same job.
-pub delays-kept : {rooms : ℕ} {delays d e : List ℕ} → JobHeld rooms d → Same 0 (jobSize rooms) d e → DelayTable delays d → DelayTable delays e
+pub delays-kept : {capacity : ℕ} {delays d e : List ℕ} → JobHeld capacity d → Same 0 (jobSize capacity) d e → DelayTable delays d → DelayTable delays e
 delays-kept {delays} {d} {e} h j t =
     let m : nth e 1 ≡ nth d 1 = j .cell 1 (omega arith) (omega arith) in
     record { cell = λ q p a b. rw (job-same (sizes h) j) (t .cell q p (rw m at a) (rw m at b)); most = t .most }

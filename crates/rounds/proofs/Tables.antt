@@ -7,15 +7,15 @@ use Rattle.lists.proofs.Kept.{Same}
 use Rattle.jobs.proofs.Held.{sizes, job-same}
 
 -- The tables beside the lines, when the job and they are as they were.
-module _ {rooms : ℕ} {d e : List ℕ} (h : JobHeld rooms d) where
-  pub levels-same : Same 0 (jobSize rooms) d e → Same (levelAt rooms) (lineAt rooms) d e → LevelsFilled rooms d → LevelsFilled rooms e
+module _ {capacity : ℕ} {d e : List ℕ} (h : JobHeld capacity d) where
+  pub levels-same : Same 0 (jobSize capacity) d e → Same (levelAt capacity) (lineAt capacity) d e → LevelsFilled capacity d → LevelsFilled capacity e
   levels-same j l f t g =
       let w = sizes h in
       let b : t < nth d 0 = rw (j .cell 0 (omega arith) (omega arith)) at g in
-      rw (job-same w j, l .cell (levelAt rooms + t) (omega arith) (omega arith)) (f t b)
+      rw (job-same w j, l .cell (levelAt capacity + t) (omega arith) (omega arith)) (f t b)
 
-  pub far-same : Same 0 (jobSize rooms) d e → Same (largestDelayAt rooms) (memorySize rooms) d e → LargestDelaysFilled rooms d → LargestDelaysFilled rooms e
+  pub far-same : Same 0 (jobSize capacity) d e → Same (largestDelayAt capacity) (memorySize capacity) d e → LargestDelaysFilled capacity d → LargestDelaysFilled capacity e
   far-same j l f p g =
       let w = sizes h in
       let b : p < nth d 1 = rw (j .cell 1 (omega arith) (omega arith)) at g in
-      rw (job-same w j, l .cell (largestDelayAt rooms + p) (omega arith) (omega arith)) (f p b)
+      rw (job-same w j, l .cell (largestDelayAt capacity + p) (omega arith) (omega arith)) (f p b)

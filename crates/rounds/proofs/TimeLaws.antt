@@ -7,7 +7,7 @@ use Rattle.heads.specs.Layout.{lineAt, rowAt}
 use Rattle.jobs.specs.Held.{runAt, delayAt, jobIn, JobHeld}
 use Rattle.ticks.specs.Cells.{neverCell, timeIn, Small}
 use Rattle.plans.specs.Lines.{rowOutcomes, rowOf, LinesHeld}
-use Rattle.rounds.specs.Schedule.{choiceOf, arrivalIn, FedIn}
+use Rattle.rounds.specs.Schedule.{choiceOf, arrivalIn, PredecessorsPlaced}
 use Rattle.rounds.specs.Walks.{Feeds}
 use Rattle.lists.proofs.Counting.{equal-or-not}
 use Rattle.rounds.proofs.Placed.{feeding-row}
@@ -110,7 +110,7 @@ arrival-chosen late volume p a c mem e = rw (e, feeding-row late mem (nth mem a)
 pub message-most : (volume n : ℕ) → volume ≤ 4095 → n ≤ 255 → volume * n ≤ 1044225
 message-most volume n h g = mul-le-mul {n₁ = volume} {m₁ = n} {n₂ = 4095} {m₂ = 255} h g
 
-module _ {rooms : ℕ} {mem : List ℕ} (h : JobHeld rooms mem) where
+module _ {capacity : ℕ} {mem : List ℕ} (h : JobHeld capacity mem) where
   pub delay-cell : (p q : ℕ) → p < nth mem 1 → q < nth mem 1 → nth mem (delayAt mem p q) ≤ 255
   delay-cell p q a b =
       rw (delay-in mem p q a b) at (h .facts .delay-most p q (rw (← processors-in mem) at a) (rw (← processors-in mem) at b))
@@ -144,8 +144,8 @@ largest-reverse f (x ∷ xs) ys =
     largest-reverse f xs (x ∷ ys) ∙ sym (later-assoc (largest (map f xs)) (f x) (largest (map f ys)))
     ∙ ap (λ (z : Time). later z (largest (map f ys))) (later-comm (largest (map f xs)) (f x))
 
-pub feeds : {rooms : ℕ} (k t : ℕ) (e : Edge) (mem : List ℕ) → LinesHeld rooms k mem → FedIn rooms t mem → In e (incoming (jobIn mem) t) → Feeds rooms e mem
-feeds {rooms} k t e mem s f i =
+pub feeds : {capacity : ℕ} (k t : ℕ) (e : Edge) (mem : List ℕ) → LinesHeld capacity k mem → PredecessorsPlaced capacity t mem → In e (incoming (jobIn mem) t) → Feeds capacity e mem
+feeds {capacity} k t e mem s f i =
     let (m, _) = in-incoming (jobIn mem) t e i in
     let b : e .from < nth mem 0 = rw (tasks-in mem) at (s .job .facts .from-task e m) in
     let l = f e i in
@@ -153,8 +153,8 @@ feeds {rooms} k t e mem s f i =
     let h = s .count in
     ⊎-elim
     (λ z. absurd (omega arith))
-    (λ (r : (i : ℕ) × (i < k) × (nth mem (lineAt rooms + e .from) ≡ suc i) × (nth mem (rowAt rooms i) ≡ e .from)).
-    let q : nth mem (lineAt rooms + e .from) - 1 ≡ r .0 = omega (arith, r .2) in
+    (λ (r : (i : ℕ) × (i < k) × (nth mem (lineAt capacity + e .from) ≡ suc i) × (nth mem (rowAt capacity i) ≡ e .from)).
+    let q : nth mem (lineAt capacity + e .from) - 1 ≡ r .0 = omega (arith, r .2) in
     record {
       from-below = b;
       volume-most = s .job .facts .volume-most e m;
@@ -166,7 +166,7 @@ feeds {rooms} k t e mem s f i =
 
 -- When the data of an edge is on p, from the line of its first task.
 abbrev pub arrives : ℕ → Bool → ℕ → List ℕ → Edge → Time
-arrives rooms late p mem e = arrivalIn late (e .volume) p (rowOf rooms (e .from) mem) mem
+arrives capacity late p mem e = arrivalIn late (e .volume) p (rowOf capacity (e .from) mem) mem
 
 -- acc is the largest time of the edges that are passed at cell k of a run from a on.
 pub record Gathered (f : Edge → Time) (a : ℕ) (cells : List ℕ) (acc : Time) (k : ℕ) : Type 0 where

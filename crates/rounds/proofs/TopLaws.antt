@@ -15,32 +15,32 @@ use Rattle.rounds.proofs.Placed.{line-in}
 
 -- A line's data -----------------------------------------------------------------------------------------------------
 
-module _ {rooms a volume : ℕ} {mem : List ℕ} (h : JobHeld rooms mem) (s : Sends rooms a volume mem) (c : ℕ) (l : c < nth mem 3 + 1) where
+module _ {capacity a volume : ℕ} {mem : List ℕ} (h : JobHeld capacity mem) (s : Sends capacity a volume mem) (c : ℕ) (l : c < nth mem 3 + 1) where
   pub sent-on : nth mem (processorAt a c) < 16
   sent-on = omega (arith, s .row .processor-of c l, sizes h .processors-most)
 
   -- What the message to the farthest processor takes.
-  pub sent-little : volume * nth mem (largestDelayAt rooms + nth mem (processorAt a c)) ≤ 1044225
+  pub sent-little : volume * nth mem (largestDelayAt capacity + nth mem (processorAt a c)) ≤ 1044225
   sent-little =
       let p = nth mem (processorAt a c) in
       let g = s .row .processor-of c l in
-      let m : nth mem (largestDelayAt rooms + p) ≤ 255 = rw (s .far p g) (largestDelay-most document01 (jobIn mem) (h .facts) p (rw (processors-in mem) g)) in
-      mul-le-mul {n₁ = volume} {m₁ = nth mem (largestDelayAt rooms + p)} {n₂ = 4095} {m₂ = 255} (s .little) m
+      let m : nth mem (largestDelayAt capacity + p) ≤ 255 = rw (s .far p g) (largestDelay-most document01 (jobIn mem) (h .facts) p (rw (processors-in mem) g)) in
+      mul-le-mul {n₁ = volume} {m₁ = nth mem (largestDelayAt capacity + p)} {n₂ = 4095} {m₂ = 255} (s .little) m
 
   abbrev sentAt : ℕ
-  sentAt = nth mem (earlyAt a c) + volume * nth mem (largestDelayAt rooms + nth mem (processorAt a c))
+  sentAt = nth mem (earlyAt a c) + volume * nth mem (largestDelayAt capacity + nth mem (processorAt a c))
 
-  spread-cons : spreadIn rooms volume a (suc c) mem ≡ sooner (tick sentAt) (spreadIn rooms volume a c mem)
+  spread-cons : spreadIn capacity volume a (suc c) mem ≡ sooner (tick sentAt) (spreadIn capacity volume a c mem)
   unfolding spreadIn rowOutcomes least
   spread-cons = rw (time-tick (nth mem (earlyAt a c)) (λ q. omega (arith, s .ticks c l)))
 
   -- One replica more.
-  pub spread-more : (x y r : ℕ) → y ≡ sentAt → tick x ≡ spreadIn rooms volume a c mem → r ≡ min y x → tick r ≡ spreadIn rooms volume a (c + 1) mem
+  pub spread-more : (x y r : ℕ) → y ≡ sentAt → tick x ≡ spreadIn capacity volume a c mem → r ≡ min y x → tick r ≡ spreadIn capacity volume a (c + 1) mem
   spread-more x y r e f g = rw (g, e, add-one c, spread-cons, ← f)
 
 -- The first replica.
-pub spread-first : {rooms a volume : ℕ} {mem : List ℕ} → JobHeld rooms mem → Sends rooms a volume mem → (x : ℕ)
-    → x ≡ nth mem (earlyAt a 0) + volume * nth mem (largestDelayAt rooms + nth mem (processorAt a 0)) → tick x ≡ spreadIn rooms volume a 1 mem
+pub spread-first : {capacity a volume : ℕ} {mem : List ℕ} → JobHeld capacity mem → Sends capacity a volume mem → (x : ℕ)
+    → x ≡ nth mem (earlyAt a 0) + volume * nth mem (largestDelayAt capacity + nth mem (processorAt a 0)) → tick x ≡ spreadIn capacity volume a 1 mem
 unfolding spreadIn rowOutcomes least
 spread-first {a} {volume} {mem} h s x e = rw e (sym (spread-cons h s 0 (omega arith)))
 
@@ -48,13 +48,13 @@ spread-first {a} {volume} {mem} h s x e = rw e (sym (spread-cons h s 0 (omega ar
 
 -- When the data of an edge is everywhere.
 abbrev pub spreads : ℕ → List ℕ → Edge → Time
-spreads rooms mem e = spreadIn rooms (e .volume) (rowOf rooms (e .from) mem) (nth mem 3 + 1) mem
+spreads capacity mem e = spreadIn capacity (e .volume) (rowOf capacity (e .from) mem) (nth mem 3 + 1) mem
 
 -- The line of a predecessor is one that the code may ask.
-pub feeds-sends : {rooms k : ℕ} {mem : List ℕ} {e : Edge} → LinesHeld rooms k mem → ((i c : ℕ) → i < k → c < nth mem 3 + 1 → nth mem (earlyAt (rowAt rooms i) c) ≤ document01 .tick)
-    → LargestDelaysFilled rooms mem → Feeds rooms e mem → Sends rooms (rowOf rooms (e .from) mem) (e .volume) mem
-feeds-sends {rooms} {k} {mem} {e} s t f d =
-    let i = nth mem (lineAt rooms + e .from) - 1 in
+pub feeds-sends : {capacity k : ℕ} {mem : List ℕ} {e : Edge} → LinesHeld capacity k mem → ((i c : ℕ) → i < k → c < nth mem 3 + 1 → nth mem (earlyAt (rowAt capacity i) c) ≤ document01 .tick)
+    → LargestDelaysFilled capacity mem → Feeds capacity e mem → Sends capacity (rowOf capacity (e .from) mem) (e .volume) mem
+feeds-sends {capacity} {k} {mem} {e} s t f d =
+    let i = nth mem (lineAt capacity + e .from) - 1 in
     let (l, _) = line-in s (e .from) i (d .from-below) (omega (arith, d .line-some)) in
     record {
       row = d .row;
@@ -69,7 +69,7 @@ feeds-sends {rooms} {k} {mem} {e} s t f d =
 pub top-later : (x y z : ℕ) → x ≤ 4296011520 → y ≤ 4296011520 → z ≡ max y x → (timeIn z ≡ later (tick y) (timeIn x)) × (z ≤ 4296011520)
 top-later x y z h g e = (rw (time-tick x (λ q. omega arith), time-tick z (λ q. omega arith), e), omega arith)
 
-module _ {rooms : ℕ} {mem : List ℕ} (h : JobHeld rooms mem) where
+module _ {capacity : ℕ} {mem : List ℕ} (h : JobHeld capacity mem) where
   pub scale-most : nth mem 1 * (nth mem 1 - 1) ≤ 240
   scale-most = let w = sizes h in mul-le-mul {n₁ = nth mem 1} {m₁ = nth mem 1 - 1} {n₂ = 16} {m₂ = 15} (omega arith) (omega arith)
 
@@ -77,16 +77,16 @@ module _ {rooms : ℕ} {mem : List ℕ} (h : JobHeld rooms mem) where
   top-most x l = omega (arith, mul-le-mul {n₁ = x} {m₁ = nth mem 1 * (nth mem 1 - 1)} {n₂ = 4296011520} {m₂ = 240} l scale-most)
 
 -- All edges that enter t are passed.
-module _ {rooms x k a b : ℕ} {mem links : List ℕ} (t : ℕ) (h : JobHeld rooms mem) (w : Passed a b links (incoming (jobIn mem) t) k) (e : b ≤ k)
-    (g : Gathered (spreads rooms mem) a links (timeIn x) k) (l : x ≤ 4296011520) where
-  top-done : x ≡ tickOf (topIn rooms t mem)
+module _ {capacity x k a b : ℕ} {mem links : List ℕ} (t : ℕ) (h : JobHeld capacity mem) (w : Passed a b links (incoming (jobIn mem) t) k) (e : b ≤ k)
+    (g : Gathered (spreads capacity mem) a links (timeIn x) k) (l : x ≤ 4296011520) where
+  top-done : x ≡ tickOf (topIn capacity t mem)
   unfolding topIn spreadIn
   top-done = ap tickOf (sym (time-tick x (λ q. omega arith)) ∙ gather-done w e g)
 
-  pub top-one : nth mem 1 ≡ 1 → x ≡ tickOf (topIn rooms t mem) * scale (jobIn mem)
+  pub top-one : nth mem 1 ≡ 1 → x ≡ tickOf (topIn capacity t mem) * scale (jobIn mem)
   unfolding jobIn
   top-one q = rw (← top-done, eq-eqb (nth mem 1) 1 q) (omega arith)
 
-  pub top-scaled : (nth mem 1 ≡ 1 → ⊥) → x * (nth mem 1 * (nth mem 1 - 1)) ≡ tickOf (topIn rooms t mem) * scale (jobIn mem)
+  pub top-scaled : (nth mem 1 ≡ 1 → ⊥) → x * (nth mem 1 * (nth mem 1 - 1)) ≡ tickOf (topIn capacity t mem) * scale (jobIn mem)
   unfolding jobIn
   top-scaled q = rw (← top-done, ne-eqb (nth mem 1) 1 q)

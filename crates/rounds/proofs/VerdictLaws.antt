@@ -9,9 +9,9 @@ use Rattle.rounds.specs.declared.Checked.{Checked}
 use Rattle.rounds.specs.declared.Checked.the-variants.{Refused}
 use Rattle.plans.proofs.JobAndPlan.{both-no, both-next}
 
-module _ (rooms : ℕ) (x : Result (Job × Plan)) (mem links : List ℕ) (n : ℕ) where
-  pub texts-refused : BothLoaded rooms x mem links (Step.Refused n) → Judged (verdictBoth x) (Refused n)
-  texts-refused h = rw (both-no rooms mem links n x h) refl
+module _ (capacity : ℕ) (x : Result (Job × Plan)) (mem links : List ℕ) (n : ℕ) where
+  pub texts-refused : BothLoaded capacity x mem links (Step.Refused n) → Judged (verdictBoth x) (Refused n)
+  texts-refused h = rw (both-no capacity mem links n x h) refl
 
-  pub plan-judged : BothLoaded rooms x mem links (Step.Next n) → (r : Checked) → Judged (verdictFor document01 (jobIn mem) (good (planIn rooms mem))) r → Judged (verdictBoth x) r
-  plan-judged h r a = rw (both-next rooms mem links n x h .0) a
+  pub plan-judged : BothLoaded capacity x mem links (Step.Next n) → (r : Checked) → Judged (verdictFor document01 (jobIn mem) (good (planIn capacity mem))) r → Judged (verdictBoth x) r
+  plan-judged h r a = rw (both-next capacity mem links n x h .0) a

@@ -34,9 +34,9 @@ module _ {mem links : List ℕ} (l : LinksHeld mem links) {t : ℕ} (h : t < nth
       cell-of _ ∙ rw (p, getD-drop)
 
 -- The line and the volume of an edge that enters a task.
-module _ {rooms : ℕ} {e : Edge} {mem : List ℕ} (h : JobHeld rooms mem) (f : Feeds rooms e mem) where
-  pub inward-row : (lineAt rooms + e .from < length mem) × (0 < nth mem (lineAt rooms + e .from)) × (rowOf rooms (e .from) mem ≤ length mem)
+module _ {capacity : ℕ} {e : Edge} {mem : List ℕ} (h : JobHeld capacity mem) (f : Feeds capacity e mem) where
+  pub inward-row : (lineAt capacity + e .from < length mem) × (0 < nth mem (lineAt capacity + e .from)) × (rowOf capacity (e .from) mem ≤ length mem)
   inward-row = let s = sizes h in (omega (arith, f .from-below), f .line-some, omega (arith, f .line-some, f .line-most))
 
-  pub inward-made : Entered rooms e mem (rowOf rooms (e .from) mem) (e .volume)
+  pub inward-made : Entered capacity e mem (rowOf capacity (e .from) mem) (e .volume)
   inward-made = record { row-of = refl; within = omega (arith, f .line-some, f .line-most); held = f .row; volume-of = refl; little = f .volume-most }

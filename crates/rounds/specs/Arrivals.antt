@@ -43,12 +43,12 @@ abbrev pub BothShort : ℕ → List ℕ → Type 0
 BothShort a mem = (c : ℕ) → c < nth mem 3 + 1 → (nth mem (earlyAt a c) ≤ lastShort) × (nth mem (lateAt a c) ≤ lastShort)
 
 -- Every predecessor of t has a line, with early times that are short or never.
-abbrev pub FirstFed : ℕ → ℕ → List ℕ → Type 0
-FirstFed rooms t mem = (e : Edge) → In e (incoming (jobIn mem) t) → (0 < nth mem (lineAt rooms + e .from)) × FirstShort (rowOf rooms (e .from) mem) mem
+abbrev pub FirstSupplied : ℕ → ℕ → List ℕ → Type 0
+FirstSupplied capacity t mem = (e : Edge) → In e (incoming (jobIn mem) t) → (0 < nth mem (lineAt capacity + e .from)) × FirstShort (rowOf capacity (e .from) mem) mem
 
 -- The same for early and late ticks.
-abbrev pub BothFed : ℕ → ℕ → List ℕ → Type 0
-BothFed rooms t mem = (e : Edge) → In e (incoming (jobIn mem) t) → (0 < nth mem (lineAt rooms + e .from)) × BothShort (rowOf rooms (e .from) mem) mem
+abbrev pub BothSupplied : ℕ → ℕ → List ℕ → Type 0
+BothSupplied capacity t mem = (e : Edge) → In e (incoming (jobIn mem) t) → (0 < nth mem (lineAt capacity + e .from)) × BothShort (rowOf capacity (e .from) mem) mem
 
 -- Each processor's early and late tick, e and l, became f and g, which are not before the data of the line at a is there.
 pub record BothRaised (volume a : ℕ) (mem e f l g : List ℕ) : Type 0 where
@@ -60,11 +60,11 @@ pub record BothRaised (volume a : ℕ) (mem e f l g : List ℕ) : Type 0 where
   pub late-most : (p : ℕ) → p < nth mem 1 → nth l p ≤ lastArrival → nth g p ≤ lastArrival
 
 -- The data of t is on each processor at e, by the first replicas, and at l, by the last.
-pub record BothReady (rooms t : ℕ) (mem e l : List ℕ) : Type 0 where
+pub record BothReady (capacity t : ℕ) (mem e l : List ℕ) : Type 0 where
   pub early-size : length e ≡ 16
   pub late-size : length l ≡ 16
-  pub early-ready : (p : ℕ) → p < nth mem 1 → tick (nth e p) ≡ dataIn rooms false t p mem
-  pub late-ready : (p : ℕ) → p < nth mem 1 → tick (nth l p) ≡ dataIn rooms true t p mem
+  pub early-ready : (p : ℕ) → p < nth mem 1 → tick (nth e p) ≡ dataIn capacity false t p mem
+  pub late-ready : (p : ℕ) → p < nth mem 1 → tick (nth l p) ≡ dataIn capacity true t p mem
   pub early-most : (p : ℕ) → p < nth mem 1 → nth e p ≤ lastArrival
   pub late-most : (p : ℕ) → p < nth mem 1 → nth l p ≤ lastArrival
 
@@ -81,10 +81,10 @@ pub record RunsOf (t : ℕ) (mem runs : List ℕ) : Type 0 where
   pub most : (p : ℕ) → p < nth mem 1 → nth runs p ≤ document01 .runTime
 
 -- The finishes of t on each processor, early and late, if they are ready at the clocks' ticks.
-pub record BothFinish (rooms t : ℕ) (clocks : Clocks) (mem e l : List ℕ) : Type 0 where
+pub record BothFinish (capacity t : ℕ) (clocks : Clocks) (mem e l : List ℕ) : Type 0 where
   pub early-size : length e ≡ 16
   pub late-size : length l ≡ 16
   pub early-finish : (p : ℕ) → p < nth mem 1
-      → tick (nth e p) ≡ after (runTime (jobIn mem) t p) (later (tick (nth (clocks .early) p)) (dataIn rooms false t p mem))
+      → tick (nth e p) ≡ after (runTime (jobIn mem) t p) (later (tick (nth (clocks .early) p)) (dataIn capacity false t p mem))
   pub late-finish : (p : ℕ) → p < nth mem 1
-      → tick (nth l p) ≡ after (runTime (jobIn mem) t p) (later (tick (nth (clocks .late) p)) (dataIn rooms true t p mem))
+      → tick (nth l p) ≡ after (runTime (jobIn mem) t p) (later (tick (nth (clocks .late) p)) (dataIn capacity true t p mem))

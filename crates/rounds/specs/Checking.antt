@@ -14,19 +14,19 @@ use Rattle.ticks.specs.declared.clocks.Clocks.{Clocks}
 
 -- The ready ticks of all processors after the first k lines.
 abbrev pub ClocksAfter : ℕ → ℕ → List ℕ → Clocks → Type 0
-ClocksAfter rooms k mem clocks = ClocksHeld clocks (jobIn mem) (placedIn rooms false (nth mem 3 + 1) k mem) (placedIn rooms true (nth mem 3 + 1) k mem)
+ClocksAfter capacity k mem clocks = ClocksHeld clocks (jobIn mem) (placedIn capacity false (nth mem 3 + 1) k mem) (placedIn capacity true (nth mem 3 + 1) k mem)
 
 -- The early or late finish of replica c of line k by the equations, after the first k lines as they are written.
 abbrev pub finishIn : ℕ → Bool → ℕ → ℕ → List ℕ → Time
-finishIn rooms late k c mem = finishOn rooms late k mem (nth mem (rowAt rooms k)) (nth mem (processorAt (rowAt rooms k) c))
+finishIn capacity late k c mem = finishOn capacity late k mem (nth mem (rowAt capacity k)) (nth mem (processorAt (rowAt capacity k) c))
 
 -- The ticks of the first c replicas of line k are the equations'.
 abbrev pub AgreesTo : ℕ → ℕ → ℕ → List ℕ → Type 0
-AgreesTo rooms k c mem = (late : Bool) (i : ℕ) → i < c → finishIn rooms late k i mem ≡ timeIn (nth mem (timeAt late (rowAt rooms k) i))
+AgreesTo capacity k c mem = (late : Bool) (i : ℕ) → i < c → finishIn capacity late k i mem ≡ timeIn (nth mem (timeAt late (rowAt capacity k) i))
 
 -- All of line k are.
 abbrev pub LineAgrees : ℕ → ℕ → List ℕ → Type 0
-LineAgrees rooms k mem = AgreesTo rooms k (nth mem 3 + 1) mem
+LineAgrees capacity k mem = AgreesTo capacity k (nth mem 3 + 1) mem
 
 -- What is said of the tasks that have two replicas on one processor: there is none, or one of them.
 abbrev pub DoubledBy : List ℕ → List ℕ → Type 0

@@ -6,7 +6,7 @@ use Prim.Native.Nat.{ℕ, _+_, _-_, _<_, _≤_}
 use lib.ListN.{length}
 use Rattle.definitions.specs.Lists.{nth}
 use Rattle.definitions.specs.Job.{Job}
-use Rattle.definitions.specs.Times.{Time, tick, Outcome, ready, finish, copyOf}
+use Rattle.definitions.specs.Times.{Time, tick, Outcome, ready, finish, placementOf}
 use Rattle.heads.specs.Layout.{earlyAt, lateAt}
 use Rattle.jobs.specs.Held.{jobIn, SomeJobHeld}
 use Rattle.rounds.specs.Schedule.{choiceOf}
@@ -15,14 +15,14 @@ use Rattle.ticks.specs.declared.clocks.Clocks.{Clocks}
 
 -- The replicas of the first k lines with their early times, and with their late ones.
 abbrev pub earliesIn : ℕ → ℕ → List ℕ → List Outcome
-earliesIn rooms k mem = placedIn rooms false (nth mem 3 + 1) k mem
+earliesIn capacity k mem = placedIn capacity false (nth mem 3 + 1) k mem
 
 abbrev pub latesIn : ℕ → ℕ → List ℕ → List Outcome
-latesIn rooms k mem = placedIn rooms true (nth mem 3 + 1) k mem
+latesIn capacity k mem = placedIn capacity true (nth mem 3 + 1) k mem
 
 -- The early or the late finish of task t on p, after the first k lines.
 unfoldable pub finishOn : ℕ → Bool → ℕ → List ℕ → ℕ → ℕ → Time
-finishOn rooms late k mem t p = finish (jobIn mem) (choiceOf late) [] (placedIn rooms late (nth mem 3 + 1) k mem) (copyOf (jobIn mem) t p)
+finishOn capacity late k mem t p = finish (jobIn mem) (choiceOf late) [] (placedIn capacity late (nth mem 3 + 1) k mem) (placementOf (jobIn mem) t p)
 
 -- The clocks have the ready ticks of all processors after what is placed, with its early and its late times.
 pub record ClocksHeld (clocks : Clocks) (j : Job) (es ls : List Outcome) : Type 0 where

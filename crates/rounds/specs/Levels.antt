@@ -17,4 +17,4 @@ rowSum mem r = sum (map (λ q. nth mem (numberAt mem r 0 + q)) (below (nth mem 1
 
 -- An edge's scaled message and its successor's level.
 abbrev pub sent : ℕ → List ℕ → Edge → ℕ
-sent rooms mem e = e .volume * totalDelay (jobIn mem) + nth mem (levelAt rooms + e .to)
+sent capacity mem e = e .volume * totalDelay (jobIn mem) + nth mem (levelAt capacity + e .to)

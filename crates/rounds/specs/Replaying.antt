@@ -9,7 +9,7 @@ use Rattle.definitions.specs.Limits.{document01}
 use Rattle.definitions.specs.Text.{Result, andThen}
 use Rattle.definitions.specs.Job.{Edge, Job, incoming}
 use Rattle.definitions.specs.Stops.{Stop, readStops}
-use Rattle.definitions.specs.Times.{least, Copy, Outcome, ready, stopTime, walk, copiesOf}
+use Rattle.definitions.specs.Times.{least, Placement, Outcome, ready, stopTime, walk, placementsOf}
 use Rattle.definitions.specs.Replay.{replay, firstFinish, firstProcessor, replayText}
 use Rattle.definitions.specs.Tools.{fitting}
 use Rattle.definitions.specs.Claims.{PlacedWithin}
@@ -27,63 +27,63 @@ StopsIn ss cells = (p : ℕ) → p < 16 → timeIn (nth cells p) ≡ stopTime ss
 
 -- The outcomes of the first k lines, and of the first c replicas of the next, newest first.
 unfoldable pub ranIn : ℕ → ℕ → ℕ → List ℕ → List Outcome
-ranIn rooms k c mem = rowOutcomes false (rowAt rooms k) c mem ++ placedIn rooms false (nth mem 3 + 1) k mem
+ranIn capacity k c mem = rowOutcomes false (rowAt capacity k) c mem ++ placedIn capacity false (nth mem 3 + 1) k mem
 
 -- k lines of 8 replicas at most and c of the next have run, and the cells hold the processors' ready times after them.
-pub record Running (rooms k c : ℕ) (cells mem : List ℕ) : Type 0 where
-  pub standing : LinesHeld rooms (nth mem 0) mem
+pub record Running (capacity k c : ℕ) (cells mem : List ℕ) : Type 0 where
+  pub standing : LinesHeld capacity (nth mem 0) mem
   pub size : length cells ≡ 16
-  pub ready-of : (p : ℕ) → p < nth mem 1 → timeIn (nth cells p) ≡ ready (jobIn mem) p (ranIn rooms k c mem)
+  pub ready-of : (p : ℕ) → p < nth mem 1 → timeIn (nth cells p) ≡ ready (jobIn mem) p (ranIn capacity k c mem)
   pub ready-small : (p : ℕ) → p < nth mem 1 → Small ((k * 8 + c) * lineTicks) (nth cells p)
-  pub within : PlacedWithin (jobIn mem) ((k * 8 + c) * lineTicks) (ranIn rooms k c mem)
+  pub within : PlacedWithin (jobIn mem) ((k * 8 + c) * lineTicks) (ranIn capacity k c mem)
 
 -- Every predecessor of the task of line k has its line before it.
-abbrev pub FedBefore : ℕ → ℕ → List ℕ → Type 0
-FedBefore rooms k mem =
-    (e : Edge) → In e (incoming (jobIn mem) (nth mem (rowAt rooms k))) → (0 < nth mem (lineAt rooms + e .from)) × (nth mem (lineAt rooms + e .from) ≤ k)
+abbrev pub PredecessorsBefore : ℕ → ℕ → List ℕ → Type 0
+PredecessorsBefore capacity k mem =
+    (e : Edge) → In e (incoming (jobIn mem) (nth mem (rowAt capacity k))) → (0 < nth mem (lineAt capacity + e .from)) × (nth mem (lineAt capacity + e .from) ≤ k)
 
 -- In the lines from k to below n early times changed, and nothing else.
-pub record Retimed (rooms k n : ℕ) (d e : List ℕ) : Type 0 where
-  pub outside : KeptOutside (rowAt rooms k) (rowAt rooms n) d e
-  pub task : (i : ℕ) → nth e (rowAt rooms i) ≡ nth d (rowAt rooms i)
-  pub processor : (i c : ℕ) → c < 8 → nth e (processorAt (rowAt rooms i) c) ≡ nth d (processorAt (rowAt rooms i) c)
-  pub late : (i c : ℕ) → c < 8 → nth e (lateAt (rowAt rooms i) c) ≡ nth d (lateAt (rowAt rooms i) c)
+pub record Retimed (capacity k n : ℕ) (d e : List ℕ) : Type 0 where
+  pub outside : KeptOutside (rowAt capacity k) (rowAt capacity n) d e
+  pub task : (i : ℕ) → nth e (rowAt capacity i) ≡ nth d (rowAt capacity i)
+  pub processor : (i c : ℕ) → c < 8 → nth e (processorAt (rowAt capacity i) c) ≡ nth d (processorAt (rowAt capacity i) c)
+  pub late : (i c : ℕ) → c < 8 → nth e (lateAt (rowAt capacity i) c) ≡ nth d (lateAt (rowAt capacity i) c)
 
 -- The replicas of the first c of line k.
-unfoldable pub copiesIn : ℕ → ℕ → ℕ → List ℕ → List Copy
-copiesIn rooms k c mem = copiesOf (jobIn mem) (nth mem (rowAt rooms k)) (map (λ r. r .processor) (rowReplicas (rowAt rooms k) c mem))
+unfoldable pub placementsIn : ℕ → ℕ → ℕ → List ℕ → List Placement
+placementsIn capacity k c mem = placementsOf (jobIn mem) (nth mem (rowAt capacity k)) (map (λ r. r .processor) (rowReplicas (rowAt capacity k) c mem))
 
 -- The outcomes after more replicas have run, newest first.
-unfoldable pub walked : Job → List Stop → List Outcome → List Copy → List Outcome
+unfoldable pub walked : Job → List Stop → List Outcome → List Placement → List Outcome
 walked j ss placed cs = reverseAux (walk j least ss placed cs) placed
 
 -- Line k has run under the stops in the cells.
-pub record LineRun (rooms k : ℕ) (stops d e : List ℕ) : Type 0 where
-  pub retimed : Retimed rooms k (suc k) d e
+pub record LineRun (capacity k : ℕ) (stops d e : List ℕ) : Type 0 where
+  pub retimed : Retimed capacity k (suc k) d e
   pub outcomes : (ss : List Stop) → StopsIn ss stops
-      → placedIn rooms false (nth e 3 + 1) (suc k) e ≡ walked (jobIn d) ss (placedIn rooms false (nth d 3 + 1) k d) (copiesIn rooms k (nth d 3 + 1) d)
+      → placedIn capacity false (nth e 3 + 1) (suc k) e ≡ walked (jobIn d) ss (placedIn capacity false (nth d 3 + 1) k d) (placementsIn capacity k (nth d 3 + 1) d)
 
 -- The outcomes of all lines, newest first.
 abbrev pub outcomesIn : ℕ → List ℕ → List Outcome
-outcomesIn rooms mem = placedIn rooms false (nth mem 3 + 1) (nth mem 0) mem
+outcomesIn capacity mem = placedIn capacity false (nth mem 3 + 1) (nth mem 0) mem
 
 -- The processors of a line do not descend.
 abbrev pub RisingIn : ℕ → List ℕ → Type 0
-RisingIn rooms mem = (i c : ℕ) → i < nth mem 0 → c < nth mem 3 → nth mem (processorAt (rowAt rooms i) c) ≤ nth mem (processorAt (rowAt rooms i) (c + 1))
+RisingIn capacity mem = (i c : ℕ) → i < nth mem 0 → c < nth mem 3 → nth mem (processorAt (rowAt capacity i) c) ≤ nth mem (processorAt (rowAt capacity i) (c + 1))
 
 -- All lines have run under the stops in the cells.
-pub record RoundRun (rooms : ℕ) (stops d e : List ℕ) : Type 0 where
-  pub outside : KeptOutside (rowAt rooms 0) (largestDelayAt rooms) d e
-  pub standing : LinesHeld rooms (nth e 0) e
-  pub rising : RisingIn rooms e
-  pub outcomes : (ss : List Stop) → StopsIn ss stops → outcomesIn rooms e ≡ reverse (replay (jobIn d) ss (planIn rooms d .lines))
+pub record RoundRun (capacity : ℕ) (stops d e : List ℕ) : Type 0 where
+  pub outside : KeptOutside (rowAt capacity 0) (largestDelayAt capacity) d e
+  pub standing : LinesHeld capacity (nth e 0) e
+  pub rising : RisingIn capacity e
+  pub outcomes : (ss : List Stop) → StopsIn ss stops → outcomesIn capacity e ≡ reverse (replay (jobIn d) ss (planIn capacity d .lines))
 
 -- The first finish of t, and the lowest processor that has it.
-pub record FirstIn (rooms t time processor : ℕ) (mem : List ℕ) : Type 0 where
-  pub finish : timeIn time ≡ firstFinish t (outcomesIn rooms mem)
-  pub box : (time ≡ neverCell → ⊥) → processor ≡ firstProcessor t (timeIn time) (outcomesIn rooms mem)
+pub record FirstIn (capacity t time processor : ℕ) (mem : List ℕ) : Type 0 where
+  pub finish : timeIn time ≡ firstFinish t (outcomesIn capacity mem)
+  pub box : (time ≡ neverCell → ⊥) → processor ≡ firstProcessor t (timeIn time) (outcomesIn capacity mem)
 
 -- The replay of the plan in a memory under the stops of a text, into an output of this size: the stops, then 8.
 unfoldable pub replayIn : ℕ → List ℕ → List ℕ → ℕ → Result (List ℕ)
-replayIn rooms mem stops size =
-    andThen (readStops document01 (jobIn mem) stops) λ ss. fitting size (replayText document01 (jobIn mem) (replay (jobIn mem) ss (planIn rooms mem .lines)))
+replayIn capacity mem stops size =
+    andThen (readStops document01 (jobIn mem) stops) λ ss. fitting size (replayText document01 (jobIn mem) (replay (jobIn mem) ss (planIn capacity mem .lines)))

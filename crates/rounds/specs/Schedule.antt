@@ -12,7 +12,7 @@ use Rattle.jobs.specs.Held.{jobIn}
 use Rattle.plans.specs.Lines.{rowOutcomes, rowOf}
 use Rattle.heads.specs.Layout.{levelAt, lineAt, largestDelayAt, rowAt, earlyAt, lateAt}
 
--- The choice among a predecessor's copies: the least early, the largest late.
+-- The choice among a predecessor's replicas: the least early, the largest late.
 abbrev pub choiceOf : Bool → List Time → Time
 choiceOf true = largest
 choiceOf false = least
@@ -31,29 +31,29 @@ arrivalIn late volume p a mem = arrival (jobIn mem) (choiceOf late) (rowOutcomes
 
 -- When all data of t is on p.
 unfoldable pub dataIn : ℕ → Bool → ℕ → ℕ → List ℕ → Time
-dataIn rooms late t p mem = largest (map (λ e. arrivalIn late (e .volume) p (rowOf rooms (e .from) mem) mem) (incoming (jobIn mem) t))
+dataIn capacity late t p mem = largest (map (λ e. arrivalIn late (e .volume) p (rowOf capacity (e .from) mem) mem) (incoming (jobIn mem) t))
 
 -- The ticks of the first k lines do not pass what k lines add up to.
 abbrev pub ShortTo : ℕ → ℕ → List ℕ → Type 0
-ShortTo rooms k mem =
+ShortTo capacity k mem =
     (i c : ℕ) → i < k → c < nth mem 3 + 1
-    → (nth mem (earlyAt (rowAt rooms i) c) ≤ k * lineTicks) × (nth mem (lateAt (rowAt rooms i) c) ≤ k * lineTicks)
+    → (nth mem (earlyAt (rowAt capacity i) c) ≤ k * lineTicks) × (nth mem (lateAt (rowAt capacity i) c) ≤ k * lineTicks)
 
 -- Every predecessor of t has a line.
-abbrev pub FedIn : ℕ → ℕ → List ℕ → Type 0
-FedIn rooms t mem = (e : Edge) → In e (incoming (jobIn mem) t) → 0 < nth mem (lineAt rooms + e .from)
+abbrev pub PredecessorsPlaced : ℕ → ℕ → List ℕ → Type 0
+PredecessorsPlaced capacity t mem = (e : Edge) → In e (incoming (jobIn mem) t) → 0 < nth mem (lineAt capacity + e .from)
 
 -- The top level of t, unscaled: from the lines of its predecessors and the table of largest delays.
 unfoldable pub topIn : ℕ → ℕ → List ℕ → Time
-topIn rooms t mem =
+topIn capacity t mem =
     largest
-    (map (λ e. least (map (λ d. after (e .volume * nth mem (largestDelayAt rooms + d .processor)) (d .time)) (rowOutcomes false (rowOf rooms (e .from) mem) (nth mem 3 + 1) mem)))
+    (map (λ e. least (map (λ d. after (e .volume * nth mem (largestDelayAt capacity + d .processor)) (d .time)) (rowOutcomes false (rowOf capacity (e .from) mem) (nth mem 3 + 1) mem)))
     (incoming (jobIn mem) t))
 
 -- The table of largest delays is filled.
 abbrev pub LargestDelaysFilled : ℕ → List ℕ → Type 0
-LargestDelaysFilled rooms mem = (p : ℕ) → p < nth mem 1 → nth mem (largestDelayAt rooms + p) ≡ largestDelay (jobIn mem) p
+LargestDelaysFilled capacity mem = (p : ℕ) → p < nth mem 1 → nth mem (largestDelayAt capacity + p) ≡ largestDelay (jobIn mem) p
 
 -- Bottom levels are filled.
 abbrev pub LevelsFilled : ℕ → List ℕ → Type 0
-LevelsFilled rooms mem = (t : ℕ) → t < nth mem 0 → nth mem (levelAt rooms + t) ≡ nth (bottomLevels (jobIn mem)) t
+LevelsFilled capacity mem = (t : ℕ) → t < nth mem 0 → nth mem (levelAt capacity + t) ≡ nth (bottomLevels (jobIn mem)) t

@@ -8,17 +8,17 @@ use Rattle.heads.specs.Layout.{lineAt, largestDelayAt}
 use Rattle.plans.specs.Lines.{rowEnd, rowOf, RowHeld}
 
 -- What a line gives that the code asks for: the edge leaves a task that has a line.
-pub record Feeds (rooms : ℕ) (e : Edge) (mem : List ℕ) : Type 0 where
+pub record Feeds (capacity : ℕ) (e : Edge) (mem : List ℕ) : Type 0 where
   pub from-below : e .from < nth mem 0
   pub volume-most : e .volume ≤ 4095
-  pub line-some : 0 < nth mem (lineAt rooms + e .from)
-  pub line-most : nth mem (lineAt rooms + e .from) ≤ 8 * rooms
-  pub row : RowHeld (rowOf rooms (e .from) mem) mem
+  pub line-some : 0 < nth mem (lineAt capacity + e .from)
+  pub line-most : nth mem (lineAt capacity + e .from) ≤ 8 * capacity
+  pub row : RowHeld (rowOf capacity (e .from) mem) mem
 
 -- Its task's line and its volume, as the code may ask them.
-pub record Entered (rooms : ℕ) (e : Edge) (mem : List ℕ) (row volume : ℕ) : Type 0 where
-  pub row-of : row ≡ rowOf rooms (e .from) mem
-  pub within : rowEnd row ≤ largestDelayAt rooms
+pub record Entered (capacity : ℕ) (e : Edge) (mem : List ℕ) (row volume : ℕ) : Type 0 where
+  pub row-of : row ≡ rowOf capacity (e .from) mem
+  pub within : rowEnd row ≤ largestDelayAt capacity
   pub held : RowHeld row mem
   pub volume-of : volume ≡ e .volume
   pub little : volume ≤ 4095

@@ -6,7 +6,7 @@ ghost use Prim.Native.Nat.{_+_, _<_};
 ghost use Rattle.definitions.specs.Lists.{nth};
 ghost use Rattle.definitions.specs.Limits.{document01};
 ghost use Rattle.definitions.specs.Text.{good};
-ghost use Rattle.definitions.specs.Refusals.{doubledTasks, ticksAgree, endsAgree};
+ghost use Rattle.definitions.specs.Refusals.{doubledTasks, ticksAgree, boundsAgree};
 ghost use Rattle.definitions.specs.Tools.{verdictFor};
 ghost use Rattle.jobs.specs.Held.{jobIn, LinksHeld};
 ghost use Rattle.rounds.specs.Schedule.{ShortTo};
@@ -17,21 +17,21 @@ ghost use Rattle.replicas.specs.Cells.{doubledIn};
 ghost use Rattle.rounds.specs.Checking.{ClocksAfter, LineAgrees, DoubledBy};
 use crate::Checked;
 use crate::clocks;
-use crate::ends;
+use crate::makespans;
 use crate::row;
 use crate::times;
-use heads::layout::BEST;
-use heads::layout::WORST;
+use heads::layout::LOWER;
+use heads::layout::UPPER;
 use replicas::Doubling;
 use ticks::clocks::Clocks;
 
 // Whether some task has two replicas on one processor, and one that has.
-fn doubled(mem: &[u64], rooms: usize) -> Doubling
-    requires { ⌜ PlanHeld rooms (now mem) ⌝ }
-    ensures { λ r. ⌜ DoubledBy (doubledTasks (planIn rooms (now (mem .entry)) .lines)) (doubledIn r) ⌝ }
+fn doubled(mem: &[u64], capacity: usize) -> Doubling
+    requires { ⌜ PlanHeld capacity (now mem) ⌝ }
+    ensures { λ r. ⌜ DoubledBy (doubledTasks (planIn capacity (now (mem .entry)) .lines)) (doubledIn r) ⌝ }
 {
-    let first = row::row_at(rooms, 0);
-    let end = row::row_at(rooms, mem[0] as usize);
+    let first = row::row_at(capacity, 0);
+    let end = row::row_at(capacity, mem[0] as usize);
     let w = mem[3] as usize + 1;
     replicas::doubled_task(&mem[first..end], w)
 }
@@ -40,19 +40,19 @@ fn doubled(mem: &[u64], rooms: usize) -> Doubling
 fn line_agrees(
     mem: &[u64],
     links: &[u64],
-    rooms: usize,
+    capacity: usize,
     delays: &[u16; 256],
     k: usize,
     clocks: Clocks,
 ) -> bool
-    requires { ⌜ PlanHeld rooms (now mem) × DelayTable (now delays) (now mem) × (k < nth (now mem) 0) × ShortTo rooms k (now mem) × ClocksAfter rooms k (now mem) clocks
+    requires { ⌜ PlanHeld capacity (now mem) × DelayTable (now delays) (now mem) × (k < nth (now mem) 0) × ShortTo capacity k (now mem) × ClocksAfter capacity k (now mem) clocks
         × LinksHeld (now mem) (now links) ⌝ }
-    ensures { λ r. ⌜ (r ≡ true → LineAgrees rooms k (now (mem .entry)) × ShortTo rooms (k + 1) (now (mem .entry))) × (LineAgrees rooms k (now (mem .entry)) → r ≡ true) ⌝ }
+    ensures { λ r. ⌜ (r ≡ true → LineAgrees capacity k (now (mem .entry)) × ShortTo capacity (k + 1) (now (mem .entry))) × (LineAgrees capacity k (now (mem .entry)) → r ≡ true) ⌝ }
 {
     let w = mem[3] as usize + 1;
-    let a = row::row_at(rooms, k);
+    let a = row::row_at(capacity, k);
     let t = mem[a] as usize;
-    let f = times::finishes(mem, links, rooms, delays, t, clocks);
+    let f = times::finishes(mem, links, capacity, delays, t, clocks);
     let mut c = 0;
     while c < w {
         let x = row::replica_at(mem, a, c);
@@ -69,17 +69,17 @@ fn line_agrees(
 }
 
 // All ticks are the equations'.
-fn ticks_agree(mem: &[u64], links: &[u64], rooms: usize) -> bool
-    requires { ⌜ PlanHeld rooms (now mem) × (doubledTasks (planIn rooms (now mem) .lines) ≡ []) × LinksHeld (now mem) (now links) ⌝ }
-    ensures { λ r. ⌜ r ≡ ticksAgree (jobIn (now (mem .entry))) (planIn rooms (now (mem .entry)) .lines) ⌝ }
+fn ticks_agree(mem: &[u64], links: &[u64], capacity: usize) -> bool
+    requires { ⌜ PlanHeld capacity (now mem) × (doubledTasks (planIn capacity (now mem) .lines) ≡ []) × LinksHeld (now mem) (now links) ⌝ }
+    ensures { λ r. ⌜ r ≡ ticksAgree (jobIn (now (mem .entry))) (planIn capacity (now (mem .entry)) .lines) ⌝ }
 {
     let v = mem[0] as usize;
     let delays = times::delay_table(mem);
     let mut clocks = Clocks::new();
     let mut k = 0;
     while k < v {
-        if line_agrees(mem, links, rooms, &delays, k, clocks) {
-            let next = clocks::advance_line(mem, row::row_at(rooms, k), clocks);
+        if line_agrees(mem, links, capacity, &delays, k, clocks) {
+            let next = clocks::advance_line(mem, row::row_at(capacity, k), clocks);
             clocks = next;
         } else {
             return false;
@@ -90,28 +90,28 @@ fn ticks_agree(mem: &[u64], links: &[u64], rooms: usize) -> bool
 }
 
 // M* and M are the equations', if all ticks are.
-fn ends_agree(mem: &[u64], links: &[u64], rooms: usize) -> bool
-    requires { ⌜ PlanHeld rooms (now mem) × LinksHeld (now mem) (now links) × (doubledTasks (planIn rooms (now mem) .lines) ≡ [])
-        × (ticksAgree (jobIn (now mem)) (planIn rooms (now mem) .lines) ≡ true) ⌝ }
-    ensures { λ r. ⌜ r ≡ endsAgree (jobIn (now (mem .entry))) (planIn rooms (now (mem .entry))) ⌝ }
+fn bounds_agree(mem: &[u64], links: &[u64], capacity: usize) -> bool
+    requires { ⌜ PlanHeld capacity (now mem) × LinksHeld (now mem) (now links) × (doubledTasks (planIn capacity (now mem) .lines) ≡ [])
+        × (ticksAgree (jobIn (now mem)) (planIn capacity (now mem) .lines) ≡ true) ⌝ }
+    ensures { λ r. ⌜ r ≡ boundsAgree (jobIn (now (mem .entry))) (planIn capacity (now (mem .entry))) ⌝ }
 {
-    let best_at = BEST * rooms;
-    let worst_at = WORST * rooms;
-    let best = ends::end_of(mem, links, rooms, false);
-    if best != mem[best_at] {
+    let lower_at = LOWER * capacity;
+    let upper_at = UPPER * capacity;
+    let lower = makespans::makespan_of(mem, links, capacity, false);
+    if lower != mem[lower_at] {
         return false;
     }
-    let worst = ends::end_of(mem, links, rooms, true);
-    worst == mem[worst_at]
+    let upper = makespans::makespan_of(mem, links, capacity, true);
+    upper == mem[upper_at]
 }
 
 // The checker's answer to the plan in memory, none of whose tasks has two replicas on one processor.
-fn compare(mem: &[u64], links: &[u64], rooms: usize) -> Checked
-    requires { ⌜ PlanHeld rooms (now mem) × LinksHeld (now mem) (now links) × (doubledTasks (planIn rooms (now mem) .lines) ≡ []) ⌝ }
-    ensures { λ r. ⌜ Judged (verdictFor document01 (jobIn (now (mem .entry))) (good (planIn rooms (now (mem .entry))))) r ⌝ }
+fn compare(mem: &[u64], links: &[u64], capacity: usize) -> Checked
+    requires { ⌜ PlanHeld capacity (now mem) × LinksHeld (now mem) (now links) × (doubledTasks (planIn capacity (now mem) .lines) ≡ []) ⌝ }
+    ensures { λ r. ⌜ Judged (verdictFor document01 (jobIn (now (mem .entry))) (good (planIn capacity (now (mem .entry))))) r ⌝ }
 {
-    if ticks_agree(mem, links, rooms) {
-        if ends_agree(mem, links, rooms) {
+    if ticks_agree(mem, links, capacity) {
+        if bounds_agree(mem, links, capacity) {
             return Checked::Accepted;
         }
         return Checked::Refused(14);
@@ -120,12 +120,12 @@ fn compare(mem: &[u64], links: &[u64], rooms: usize) -> Checked
 }
 
 // The checker's answer to the plan in memory.
-pub fn judge(mem: &[u64], links: &[u64], rooms: usize) -> Checked
-    requires { ⌜ PlanHeld rooms (now mem) × LinksHeld (now mem) (now links) ⌝ }
-    ensures { λ r. ⌜ Judged (verdictFor document01 (jobIn (now (mem .entry))) (good (planIn rooms (now (mem .entry))))) r ⌝ }
+pub fn judge(mem: &[u64], links: &[u64], capacity: usize) -> Checked
+    requires { ⌜ PlanHeld capacity (now mem) × LinksHeld (now mem) (now links) ⌝ }
+    ensures { λ r. ⌜ Judged (verdictFor document01 (jobIn (now (mem .entry))) (good (planIn capacity (now (mem .entry))))) r ⌝ }
 {
-    match doubled(mem, rooms) {
-        Doubling::Single => compare(mem, links, rooms),
+    match doubled(mem, capacity) {
+        Doubling::Single => compare(mem, links, capacity),
         Doubling::Twice(t) => Checked::Doubled(t as u8),
     }
 }

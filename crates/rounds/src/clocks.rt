@@ -5,7 +5,7 @@ ghost use Rattle.rounds.specs.Clocks.{LineTimed, Advanced};
 use crate::row;
 use ticks::clocks::Clocks;
 
-// The clocks after the replicas of the line at `a`, copy by copy.
+// The clocks after the replicas of the line at `a`, replica by replica.
 pub fn advance_line(mem: &[u64], a: usize, clocks: Clocks) -> Clocks
     requires { ⌜ LineTimed a (now mem) ⌝ }
     ensures { λ r. ⌜ Advanced a (nth (now (mem .entry)) 3 + 1) (now (mem .entry)) clocks r ⌝ }

@@ -44,12 +44,12 @@ fn total_delay(mem: &[u64]) -> u64
 }
 
 // The largest of message and level over the edges that leave t; 0 if none does.
-fn longest_after(mem: &[u64], links: &[u64], rooms: usize, t: usize, total: u64) -> u64
-    requires { ⌜ JobHeld rooms (now mem) × LinksHeld (now mem) (now links) × (t < nth (now mem) 0) × (total ≡ totalDelay (jobIn (now mem)))
-        × ((e : Edge) → In e (outgoing (jobIn (now mem)) t) → nth (now mem) (levelAt rooms + e .to) ≤ levelMost) ⌝ }
-    ensures { λ r. ⌜ (r ≡ greatest (map (sent rooms (now (mem .entry))) (outgoing (jobIn (now (mem .entry))) t))) × (r ≤ 1000000000000) ⌝ }
+fn longest_after(mem: &[u64], links: &[u64], capacity: usize, t: usize, total: u64) -> u64
+    requires { ⌜ JobHeld capacity (now mem) × LinksHeld (now mem) (now links) × (t < nth (now mem) 0) × (total ≡ totalDelay (jobIn (now mem)))
+        × ((e : Edge) → In e (outgoing (jobIn (now mem)) t) → nth (now mem) (levelAt capacity + e .to) ≤ levelMost) ⌝ }
+    ensures { λ r. ⌜ (r ≡ greatest (map (sent capacity (now (mem .entry))) (outgoing (jobIn (now (mem .entry))) t))) × (r ≤ 1000000000000) ⌝ }
 {
-    let level = LEVEL * rooms;
+    let level = LEVEL * capacity;
     let g = walk::edges_at(mem);
     let span = orders::leaving(links, mem[0] as usize, t);
     let mut x = 0;
@@ -65,11 +65,11 @@ fn longest_after(mem: &[u64], links: &[u64], rooms: usize, t: usize, total: u64)
 }
 
 // Fills the table of bottom levels, from the last task of the order to the first, so that those of a task's successors are there.
-pub fn fill_levels(mem: &mut [u64], links: &[u64], rooms: usize)
-    requires { ⌜ JobHeld rooms (now mem) × LinksHeld (now mem) (now links) ⌝ }
-    ensures { λ _. ⌜ KeptOutside (levelAt rooms) (lineAt rooms) (now (mem .entry)) (now (mem .exit)) × LevelsFilled rooms (now (mem .exit)) ⌝ }
+pub fn fill_levels(mem: &mut [u64], links: &[u64], capacity: usize)
+    requires { ⌜ JobHeld capacity (now mem) × LinksHeld (now mem) (now links) ⌝ }
+    ensures { λ _. ⌜ KeptOutside (levelAt capacity) (lineAt capacity) (now (mem .entry)) (now (mem .exit)) × LevelsFilled capacity (now (mem .exit)) ⌝ }
 {
-    let level = LEVEL * rooms;
+    let level = LEVEL * capacity;
     let v = mem[0] as usize;
     let total = total_delay(&mem[..]);
     let mut i = v;
@@ -77,7 +77,7 @@ pub fn fill_levels(mem: &mut [u64], links: &[u64], rooms: usize)
         i -= 1;
         let t = orders::task_at(links, v, i);
         let x = scaled_run(&mem[..], t);
-        let y = longest_after(&mem[..], links, rooms, t, total);
+        let y = longest_after(&mem[..], links, capacity, t, total);
         mem[level + t] = x + y;
     }
 }

@@ -12,9 +12,9 @@ use text::Step;
 
 mod checker;
 mod clocks;
-mod ends;
 mod free;
 mod levels;
+mod makespans;
 mod numbers;
 mod plan_text;
 mod planner;
@@ -41,15 +41,15 @@ pub fn plan_in(
     head: Head,
     mem: &mut [u64],
     links: &mut [u64],
-    rooms: usize,
+    capacity: usize,
     out: &mut [u8],
 ) -> Answer
     ensures { λ r. do
-      ⌜ Answered (planOf (jobFrom rooms (length (now (mem .entry))) (length (now (links .entry))) (headOf head) (drop at (now (job .entry)))) (← ⟦out.len()⟧ .entry))
+      ⌜ Answered (planOf (jobFrom capacity (length (now (mem .entry))) (length (now (links .entry))) (headOf head) (drop at (now (job .entry)))) (← ⟦out.len()⟧ .entry))
           (now (out .entry)) (now (out .exit)) r ⌝ }
 {
-    match jobs::load_job(job, at, head, mem, links, rooms) {
-        Step::Next(_) => tools::put_plan(mem, &links[..], rooms, out),
+    match jobs::load_job(job, at, head, mem, links, capacity) {
+        Step::Next(_) => tools::put_plan(mem, &links[..], capacity, out),
         Step::Refused(x) => Answer::Refusal(x),
     }
 }
@@ -62,12 +62,12 @@ pub fn check_in(
     plan: &[u8],
     mem: &mut [u64],
     links: &mut [u64],
-    rooms: usize,
+    capacity: usize,
 ) -> Checked
-    ensures { λ r. ⌜ Judged (verdictBoth (bothFrom rooms (length (now (mem .entry))) (length (now (links .entry))) (headOf head) (drop at (now (job .entry))) (now (plan .entry)))) r ⌝ }
+    ensures { λ r. ⌜ Judged (verdictBoth (bothFrom capacity (length (now (mem .entry))) (length (now (links .entry))) (headOf head) (drop at (now (job .entry))) (now (plan .entry)))) r ⌝ }
 {
-    match plans::load_both(job, at, head, plan, mem, links, rooms) {
-        Step::Next(_) => checker::judge(&mem[..], &links[..], rooms),
+    match plans::load_both(job, at, head, plan, mem, links, capacity) {
+        Step::Next(_) => checker::judge(&mem[..], &links[..], capacity),
         Step::Refused(x) => Checked::Refused(x),
     }
 }
@@ -81,15 +81,15 @@ pub fn replay_in(
     stops: &[u8],
     mem: &mut [u64],
     links: &mut [u64],
-    rooms: usize,
+    capacity: usize,
     out: &mut [u8],
 ) -> Answer
     ensures { λ r. do
-      ⌜ Answered (replayBoth (bothFrom rooms (length (now (mem .entry))) (length (now (links .entry))) (headOf head) (drop at (now (job .entry))) (now (plan .entry)))
+      ⌜ Answered (replayBoth (bothFrom capacity (length (now (mem .entry))) (length (now (links .entry))) (headOf head) (drop at (now (job .entry))) (now (plan .entry)))
           (now (stops .entry)) (← ⟦out.len()⟧ .entry)) (now (out .entry)) (now (out .exit)) r ⌝ }
 {
-    match plans::load_both(job, at, head, plan, mem, links, rooms) {
-        Step::Next(_) => tools::put_replay(stops, mem, &links[..], rooms, out),
+    match plans::load_both(job, at, head, plan, mem, links, capacity) {
+        Step::Next(_) => tools::put_replay(stops, mem, &links[..], capacity, out),
         Step::Refused(x) => Answer::Refusal(x),
     }
 }

@@ -5,47 +5,47 @@ ghost use lib.ListN.{length};
 ghost use Rattle.definitions.specs.Lists.{nth};
 ghost use Rattle.definitions.specs.Limits.{document01};
 ghost use Rattle.definitions.specs.Plan.{planText};
-ghost use Rattle.text.specs.Told.{written};
+ghost use Rattle.text.specs.Meaning.{written};
 ghost use Rattle.printing.specs.Rendered.{Rendered};
 ghost use Rattle.jobs.specs.Held.{jobIn, JobHeld};
 ghost use Rattle.plans.specs.Loading.{planIn};
 ghost use Rattle.rounds.specs.Texts.{headIn, rowLine};
-use heads::layout::BEST;
+use heads::layout::LOWER;
 use heads::layout::ROWS;
-use heads::layout::WORST;
+use heads::layout::UPPER;
 
 // The numbers of the head of the plan in memory.
-fn plan_head(mem: &[u64], rooms: usize) -> [u64; 5]
-    requires { ⌜ JobHeld rooms (now mem) ⌝ }
-    ensures { λ r. ⌜ r ≡ headIn rooms (now (mem .entry)) ⌝ }
+fn plan_head(mem: &[u64], capacity: usize) -> [u64; 5]
+    requires { ⌜ JobHeld capacity (now mem) ⌝ }
+    ensures { λ r. ⌜ r ≡ headIn capacity (now (mem .entry)) ⌝ }
 {
-    let best_at = BEST * rooms;
-    let worst_at = WORST * rooms;
-    [mem[0], mem[1], mem[3], mem[best_at], mem[worst_at]]
+    let lower_at = LOWER * capacity;
+    let upper_at = UPPER * capacity;
+    [mem[0], mem[1], mem[3], mem[lower_at], mem[upper_at]]
 }
 
 // The T line of row k, written from `at` on, if it fits. The answer is the place after it in either case.
-fn row_line(out: &mut [u8], at: usize, mem: &[u64], rooms: usize, k: usize) -> usize
-    requires { ⌜ JobHeld rooms (now mem) × (k < nth (now mem) 0) × (at ≤ 60 + 277 * k) ⌝ }
-    ensures { λ r. ⌜ (r ≡ at + length (rowLine rooms k (now (mem .entry)))) × (r ≤ at + 277) ⌝ }
-    ensures holds { λ r. ⌜ now (out .exit) ≡ written (now (out .entry)) at (rowLine rooms k (now (mem .entry))) ⌝ }
+fn row_line(out: &mut [u8], at: usize, mem: &[u64], capacity: usize, k: usize) -> usize
+    requires { ⌜ JobHeld capacity (now mem) × (k < nth (now mem) 0) × (at ≤ 60 + 277 * k) ⌝ }
+    ensures { λ r. ⌜ (r ≡ at + length (rowLine capacity k (now (mem .entry)))) × (r ≤ at + 277) ⌝ }
+    ensures holds { λ r. ⌜ now (out .exit) ≡ written (now (out .entry)) at (rowLine capacity k (now (mem .entry))) ⌝ }
 {
-    let a = ROWS * rooms + k * 25;
+    let a = ROWS * capacity + k * 25;
     let b = a + (4 + 3 * mem[3] as usize);
     let p = printing::place_in(out.len(), at);
     at + printing::line(&mut out[p..], b"T,", &mem[a..b])
 }
 
 // The plan in memory, written at the front of `out`, if it fits. The answer is the text's length in either case.
-pub fn render(out: &mut [u8], mem: &[u64], rooms: usize) -> usize
-    requires { ⌜ JobHeld rooms (now mem) ⌝ }
-    ensures { λ r. ⌜ Rendered (planText document01 (jobIn (now (mem .entry))) (planIn rooms (now (mem .entry)))) (now (out .entry)) (now (out .exit)) r ⌝ }
+pub fn render(out: &mut [u8], mem: &[u64], capacity: usize) -> usize
+    requires { ⌜ JobHeld capacity (now mem) ⌝ }
+    ensures { λ r. ⌜ Rendered (planText document01 (jobIn (now (mem .entry))) (planIn capacity (now (mem .entry)))) (now (out .entry)) (now (out .exit)) r ⌝ }
 {
     let v = mem[0] as usize;
-    let mut at = printing::line(out, b"PLAN,", &plan_head(mem, rooms));
+    let mut at = printing::line(out, b"PLAN,", &plan_head(mem, capacity));
     let mut k = 0;
     while k < v {
-        at = row_line(out, at, mem, rooms, k);
+        at = row_line(out, at, mem, capacity, k);
         k += 1;
     }
     at

@@ -8,7 +8,7 @@ ghost use Rattle.heads.specs.Layout.{memorySize, lineAt, blockedAt, rowAt, larg
 ghost use Rattle.jobs.specs.Held.{jobIn, JobHeld, LinksHeld};
 ghost use Rattle.lists.specs.Kept.{KeptOutside};
 ghost use Rattle.rounds.specs.Arrivals.{DelayTable};
-ghost use Rattle.rounds.specs.Planning.{freeIn, bestOf, FreeList, Taken, processorsFor, Drawn, Ranked, Tried, Begun, Cleared, Releasing, Unblocks};
+ghost use Rattle.rounds.specs.Planning.{freeIn, criticalOf, FreeList, Taken, processorsFor, Drawn, Ranked, Tried, Begun, Cleared, Releasing, Unblocks};
 ghost use Rattle.rounds.specs.Clocks.{earliesIn, latesIn, ClocksHeld};
 use crate::clocks;
 use crate::free;
@@ -24,14 +24,14 @@ use heads::layout::PRIORITY;
 use ticks::clocks::Clocks;
 
 // No task is placed; each has its bottom level for a priority, and each edge blocks the task that it enters.
-fn clear_tasks(mem: &mut [u64], links: &[u64], rooms: usize)
-    requires { ⌜ JobHeld rooms (now mem) × LinksHeld (now mem) (now links) ⌝ }
-    ensures { λ _. ⌜ KeptOutside (lineAt rooms) (rowAt rooms 0) (now (mem .entry)) (now (mem .exit)) × Cleared rooms (nth (now (mem .exit)) 0) (jobIn (now (mem .entry))) (now (mem .exit)) ⌝ }
+fn clear_tasks(mem: &mut [u64], links: &[u64], capacity: usize)
+    requires { ⌜ JobHeld capacity (now mem) × LinksHeld (now mem) (now links) ⌝ }
+    ensures { λ _. ⌜ KeptOutside (lineAt capacity) (rowAt capacity 0) (now (mem .entry)) (now (mem .exit)) × Cleared capacity (nth (now (mem .exit)) 0) (jobIn (now (mem .entry))) (now (mem .exit)) ⌝ }
 {
-    let level = LEVEL * rooms;
-    let line = LINE * rooms;
-    let blocked = BLOCKED * rooms;
-    let priorities = PRIORITY * rooms;
+    let level = LEVEL * capacity;
+    let line = LINE * capacity;
+    let blocked = BLOCKED * capacity;
+    let priorities = PRIORITY * capacity;
     let v = mem[0] as usize;
     let mut t = 0;
     while t < v {
@@ -45,13 +45,20 @@ fn clear_tasks(mem: &mut [u64], links: &[u64], rooms: usize)
 }
 
 // The replicas of line k: t on the processors of least early finish.
-fn fill_line(mem: &mut [u64], rooms: usize, k: usize, t: usize, early: [u32; 16], late: [u32; 16])
-    requires { ⌜ Tried rooms k t early late (now mem) ⌝ }
-    ensures { λ _. ⌜ Begun rooms k t (processorsFor rooms k t (now (mem .entry))) (now (mem .entry)) (now (mem .exit)) ⌝ }
+fn fill_line(
+    mem: &mut [u64],
+    capacity: usize,
+    k: usize,
+    t: usize,
+    early: [u32; 16],
+    late: [u32; 16],
+)
+    requires { ⌜ Tried capacity k t early late (now mem) ⌝ }
+    ensures { λ _. ⌜ Begun capacity k t (processorsFor capacity k t (now (mem .entry))) (now (mem .entry)) (now (mem .exit)) ⌝ }
 {
     let m = mem[1] as usize;
     let w = mem[3] as usize + 1;
-    let a = row::row_at(rooms, k);
+    let a = row::row_at(capacity, k);
     let mut c = 0;
     let mut p = 0;
     while p < m {
@@ -67,26 +74,26 @@ fn fill_line(mem: &mut [u64], rooms: usize, k: usize, t: usize, early: [u32; 16]
 fn place_task(
     mem: &mut [u64],
     links: &[u64],
-    rooms: usize,
+    capacity: usize,
     delays: &[u16; 256],
     k: usize,
     t: usize,
     clocks: Clocks,
 ) -> Clocks
-    requires { ⌜ DelayTable (now delays) (now mem) × Drawn rooms k (now mem) × Ranked rooms [] (now mem) × (k < nth (now mem) 0) × (t ≡ bestOf (nth (now mem) 0) (freeIn rooms (now mem)))
-        × ClocksHeld clocks (jobIn (now mem)) (earliesIn rooms k (now mem)) (latesIn rooms k (now mem)) × LinksHeld (now mem) (now links) ⌝ }
-    ensures { λ r. ⌜ KeptOutside (lineAt rooms) (largestDelayAt rooms) (now (mem .entry)) (now (mem .exit)) × Drawn rooms (k + 1) (now (mem .exit))
-        × Ranked rooms (reverse (outgoing (jobIn (now (mem .exit))) t)) (now (mem .exit))
-        × ClocksHeld r (jobIn (now (mem .exit))) (earliesIn rooms (k + 1) (now (mem .exit))) (latesIn rooms (k + 1) (now (mem .exit)))
-        × Taken rooms t (now (mem .entry)) (now (mem .exit)) ⌝ }
+    requires { ⌜ DelayTable (now delays) (now mem) × Drawn capacity k (now mem) × Ranked capacity [] (now mem) × (k < nth (now mem) 0) × (t ≡ criticalOf (nth (now mem) 0) (freeIn capacity (now mem)))
+        × ClocksHeld clocks (jobIn (now mem)) (earliesIn capacity k (now mem)) (latesIn capacity k (now mem)) × LinksHeld (now mem) (now links) ⌝ }
+    ensures { λ r. ⌜ KeptOutside (lineAt capacity) (largestDelayAt capacity) (now (mem .entry)) (now (mem .exit)) × Drawn capacity (k + 1) (now (mem .exit))
+        × Ranked capacity (reverse (outgoing (jobIn (now (mem .exit))) t)) (now (mem .exit))
+        × ClocksHeld r (jobIn (now (mem .exit))) (earliesIn capacity (k + 1) (now (mem .exit))) (latesIn capacity (k + 1) (now (mem .exit)))
+        × Taken capacity t (now (mem .entry)) (now (mem .exit)) ⌝ }
 {
-    let f = times::finishes(&mem[..], links, rooms, delays, t, clocks);
+    let f = times::finishes(&mem[..], links, capacity, delays, t, clocks);
     let early = f.early;
     let late = f.late;
-    fill_line(mem, rooms, k, t, early, late);
-    let a = row::row_at(rooms, k);
+    fill_line(mem, capacity, k, t, early, late);
+    let a = row::row_at(capacity, k);
     mem[a] = t as u64;
-    row::put_line(mem, rooms, t, k);
+    row::put_line(mem, capacity, t, k);
     clocks::advance_line(&mem[..], a, clocks)
 }
 
@@ -95,24 +102,24 @@ fn place_task(
 fn unblock(
     mem: &mut [u64],
     links: &[u64],
-    rooms: usize,
+    capacity: usize,
     u: usize,
     free: &mut [u8],
     n: usize,
 ) -> usize
-    requires { ⌜ ((d : List ℕ) × (i : ℕ) × (e : Edge) × (es : List Edge) × Unblocks rooms i e es u d (now mem)) × FreeList rooms (now free) n (now mem) × LinksHeld (now mem) (now links) ⌝ }
-    ensures { λ r. ⌜ ((d : List ℕ) (i : ℕ) (e : Edge) (es : List Edge) → Unblocks rooms i e es u d (now (mem .entry)) → Releasing rooms i es d (now (mem .exit)))
-        × FreeList rooms (now (free .exit)) r (now (mem .exit)) ⌝ }
+    requires { ⌜ ((d : List ℕ) × (i : ℕ) × (e : Edge) × (es : List Edge) × Unblocks capacity i e es u d (now mem)) × FreeList capacity (now free) n (now mem) × LinksHeld (now mem) (now links) ⌝ }
+    ensures { λ r. ⌜ ((d : List ℕ) (i : ℕ) (e : Edge) (es : List Edge) → Unblocks capacity i e es u d (now (mem .entry)) → Releasing capacity i es d (now (mem .exit)))
+        × FreeList capacity (now (free .exit)) r (now (mem .exit)) ⌝ }
 {
-    let blocked = BLOCKED * rooms;
+    let blocked = BLOCKED * capacity;
     let b = mem[blocked + u] - 1;
     mem[blocked + u] = b;
     if b > 0 {
         return n;
     }
-    let x = priority::top_level(&mem[..], links, rooms, u);
-    mem[PRIORITY * rooms + u] = x + mem[LEVEL * rooms + u];
-    free::put_in(&mem[..], rooms, free, n, u as u8);
+    let x = priority::top_level(&mem[..], links, capacity, u);
+    mem[PRIORITY * capacity + u] = x + mem[LEVEL * capacity + u];
+    free::put_in(&mem[..], capacity, free, n, u as u8);
     n + 1
 }
 
@@ -121,14 +128,15 @@ fn unblock(
 fn release(
     mem: &mut [u64],
     links: &[u64],
-    rooms: usize,
+    capacity: usize,
     t: usize,
     free: &mut [u8],
     count: usize,
 ) -> usize
-    requires { ⌜ ((k : ℕ) × Drawn rooms k (now mem)) × Ranked rooms (reverse (outgoing (jobIn (now mem)) t)) (now mem) × FreeList rooms (now free) count (now mem) × (t < nth (now mem) 0)
+    requires { ⌜ ((k : ℕ) × Drawn capacity k (now mem)) × Ranked capacity (reverse (outgoing (jobIn (now mem)) t)) (now mem) × FreeList capacity (now free) count (now mem) × (t < nth (now mem) 0)
         × LinksHeld (now mem) (now links) ⌝ }
-    ensures { λ r. ⌜ KeptOutside (blockedAt rooms) (rowAt rooms 0) (now (mem .entry)) (now (mem .exit)) × Ranked rooms [] (now (mem .exit)) × FreeList rooms (now (free .exit)) r (now (mem .exit)) ⌝ }
+    ensures { λ r. ⌜ KeptOutside (blockedAt capacity) (rowAt capacity 0) (now (mem .entry)) (now (mem .exit))
+        × Ranked capacity [] (now (mem .exit)) × FreeList capacity (now (free .exit)) r (now (mem .exit)) ⌝ }
 {
     let g = walk::edges_at(&mem[..]);
     let span = orders::leaving(links, mem[0] as usize, t);
@@ -138,39 +146,39 @@ fn release(
     while k > start {
         k -= 1;
         let u = orders::edge_to(mem[g + k]);
-        let more = unblock(mem, links, rooms, u, free, n);
+        let more = unblock(mem, links, capacity, u, free, n);
         n = more;
     }
     n
 }
 
 // Levels and the tables of tasks, before the first line.
-fn prepare(mem: &mut [u64], links: &[u64], rooms: usize)
-    requires { ⌜ JobHeld rooms (now mem) × LinksHeld (now mem) (now links) ⌝ }
-    ensures { λ _. ⌜ KeptOutside (levelAt rooms) (memorySize rooms) (now (mem .entry)) (now (mem .exit)) × Drawn rooms 0 (now (mem .exit)) × Ranked rooms [] (now (mem .exit)) ⌝ }
+fn prepare(mem: &mut [u64], links: &[u64], capacity: usize)
+    requires { ⌜ JobHeld capacity (now mem) × LinksHeld (now mem) (now links) ⌝ }
+    ensures { λ _. ⌜ KeptOutside (levelAt capacity) (memorySize capacity) (now (mem .entry)) (now (mem .exit)) × Drawn capacity 0 (now (mem .exit)) × Ranked capacity [] (now (mem .exit)) ⌝ }
 {
-    levels::fill_levels(mem, links, rooms);
-    priority::fill_largest_delays(mem, rooms);
-    clear_tasks(mem, links, rooms);
+    levels::fill_levels(mem, links, capacity);
+    priority::fill_largest_delays(mem, capacity);
+    clear_tasks(mem, links, capacity);
 }
 
 // Draws up the plan of the job in memory.
-pub fn draw_plan(mem: &mut [u64], links: &[u64], rooms: usize)
-    requires { ⌜ JobHeld rooms (now mem) × LinksHeld (now mem) (now links) ⌝ }
-    ensures { λ _. ⌜ KeptOutside (levelAt rooms) (memorySize rooms) (now (mem .entry)) (now (mem .exit)) × Drawn rooms (nth (now (mem .entry)) 0) (now (mem .exit)) ⌝ }
+pub fn draw_plan(mem: &mut [u64], links: &[u64], capacity: usize)
+    requires { ⌜ JobHeld capacity (now mem) × LinksHeld (now mem) (now links) ⌝ }
+    ensures { λ _. ⌜ KeptOutside (levelAt capacity) (memorySize capacity) (now (mem .entry)) (now (mem .exit)) × Drawn capacity (nth (now (mem .entry)) 0) (now (mem .exit)) ⌝ }
 {
-    prepare(mem, links, rooms);
+    prepare(mem, links, capacity);
     let v = mem[0] as usize;
     let delays = times::delay_table(&mem[..]);
     let mut clocks = Clocks::new();
     let mut free = [0u8; 256];
-    let mut n = free::list_free(&mem[..], rooms, &mut free);
+    let mut n = free::list_free(&mem[..], capacity, &mut free);
     let mut k = 0;
     while k < v {
         let t = free[n - 1] as usize;
-        let after = place_task(mem, links, rooms, &delays, k, t, clocks);
+        let after = place_task(mem, links, capacity, &delays, k, t, clocks);
         clocks = after;
-        let count = release(mem, links, rooms, t, &mut free, n - 1);
+        let count = release(mem, links, capacity, t, &mut free, n - 1);
         n = count;
         k += 1;
     }

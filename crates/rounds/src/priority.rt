@@ -7,7 +7,7 @@ ghost use Rattle.definitions.specs.Times.{tick};
 ghost use Rattle.definitions.specs.Planner.{tickOf, scale, largestDelay};
 ghost use Rattle.heads.specs.Layout.{memorySize, largestDelayAt, rowAt, processorAt, earlyAt};
 ghost use Rattle.jobs.specs.Held.{jobIn, JobHeld, SomeJobHeld, LinksHeld};
-ghost use Rattle.rounds.specs.Schedule.{topIn, LargestDelaysFilled, FedIn};
+ghost use Rattle.rounds.specs.Schedule.{topIn, LargestDelaysFilled, PredecessorsPlaced};
 ghost use Rattle.lists.specs.Kept.{KeptOutside};
 ghost use Rattle.plans.specs.Lines.{LinesHeld};
 ghost use Rattle.rounds.specs.Planning.{Sends, spreadIn};
@@ -35,11 +35,11 @@ fn largest_delay(mem: &[u64], p: usize) -> u64
 }
 
 // Fills the table of largest delays.
-pub fn fill_largest_delays(mem: &mut [u64], rooms: usize)
-    requires { ⌜ JobHeld rooms (now mem) ⌝ }
-    ensures { λ _. ⌜ KeptOutside (largestDelayAt rooms) (memorySize rooms) (now (mem .entry)) (now (mem .exit)) × LargestDelaysFilled rooms (now (mem .exit)) ⌝ }
+pub fn fill_largest_delays(mem: &mut [u64], capacity: usize)
+    requires { ⌜ JobHeld capacity (now mem) ⌝ }
+    ensures { λ _. ⌜ KeptOutside (largestDelayAt capacity) (memorySize capacity) (now (mem .entry)) (now (mem .exit)) × LargestDelaysFilled capacity (now (mem .exit)) ⌝ }
 {
-    let far = LARGEST_DELAY * rooms;
+    let far = LARGEST_DELAY * capacity;
     let m = mem[1] as usize;
     let mut p = 0;
     while p < m {
@@ -50,26 +50,26 @@ pub fn fill_largest_delays(mem: &mut [u64], rooms: usize)
 }
 
 // The first tick at which the data of replica c of the line at `a` is everywhere.
-fn sent(mem: &[u64], rooms: usize, a: usize, c: usize, volume: u64) -> u64
-    requires { ⌜ JobHeld rooms (now mem) × Sends rooms a volume (now mem) × (c < nth (now mem) 3 + 1) ⌝ }
-    ensures { λ r. ⌜ (r ≡ nth (now (mem .entry)) (earlyAt a c) + volume * nth (now (mem .entry)) (largestDelayAt rooms + nth (now (mem .entry)) (processorAt a c))) × (r ≤ 4296011520) ⌝ }
+fn sent(mem: &[u64], capacity: usize, a: usize, c: usize, volume: u64) -> u64
+    requires { ⌜ JobHeld capacity (now mem) × Sends capacity a volume (now mem) × (c < nth (now mem) 3 + 1) ⌝ }
+    ensures { λ r. ⌜ (r ≡ nth (now (mem .entry)) (earlyAt a c) + volume * nth (now (mem .entry)) (largestDelayAt capacity + nth (now (mem .entry)) (processorAt a c))) × (r ≤ 4296011520) ⌝ }
 {
-    let far = LARGEST_DELAY * rooms;
+    let far = LARGEST_DELAY * capacity;
     let x = row::replica_at(mem, a, c);
     let p = x.processor;
     x.early + volume * mem[far + p]
 }
 
 // The first tick at which the data of a predecessor whose line is at `a` is everywhere.
-fn spread(mem: &[u64], rooms: usize, a: usize, volume: u64) -> u64
-    requires { ⌜ JobHeld rooms (now mem) × Sends rooms a volume (now mem) ⌝ }
-    ensures { λ r. ⌜ (tick r ≡ spreadIn rooms volume a (nth (now (mem .entry)) 3 + 1) (now (mem .entry))) × (r ≤ 4296011520) ⌝ }
+fn spread(mem: &[u64], capacity: usize, a: usize, volume: u64) -> u64
+    requires { ⌜ JobHeld capacity (now mem) × Sends capacity a volume (now mem) ⌝ }
+    ensures { λ r. ⌜ (tick r ≡ spreadIn capacity volume a (nth (now (mem .entry)) 3 + 1) (now (mem .entry))) × (r ≤ 4296011520) ⌝ }
 {
     let w = mem[3] as usize + 1;
-    let mut x = sent(mem, rooms, a, 0, volume);
+    let mut x = sent(mem, capacity, a, 0, volume);
     let mut c = 1;
     while c < w {
-        let y = sent(mem, rooms, a, c, volume);
+        let y = sent(mem, capacity, a, c, volume);
         if y < x {
             x = y;
         }
@@ -79,16 +79,16 @@ fn spread(mem: &[u64], rooms: usize, a: usize, volume: u64) -> u64
 }
 
 // The scaled top level of t, whose predecessors all have a line.
-pub fn top_level(mem: &[u64], links: &[u64], rooms: usize, t: usize) -> u64
-    requires { ⌜ ((k : ℕ) × LinesHeld rooms k (now mem) × ((i c : ℕ) → i < k → c < nth (now mem) 3 + 1 → nth (now mem) (earlyAt (rowAt rooms i) c) ≤ document01 .tick))
-        × LinksHeld (now mem) (now links) × (t < nth (now mem) 0) × FedIn rooms t (now mem) × LargestDelaysFilled rooms (now mem) ⌝ }
-    ensures { λ r. ⌜ (r ≡ tickOf (topIn rooms t (now (mem .entry))) * scale (jobIn (now (mem .entry)))) × (r ≤ 1100000000000) ⌝ }
+pub fn top_level(mem: &[u64], links: &[u64], capacity: usize, t: usize) -> u64
+    requires { ⌜ ((k : ℕ) × LinesHeld capacity k (now mem) × ((i c : ℕ) → i < k → c < nth (now mem) 3 + 1 → nth (now mem) (earlyAt (rowAt capacity i) c) ≤ document01 .tick))
+        × LinksHeld (now mem) (now links) × (t < nth (now mem) 0) × PredecessorsPlaced capacity t (now mem) × LargestDelaysFilled capacity (now mem) ⌝ }
+    ensures { λ r. ⌜ (r ≡ tickOf (topIn capacity t (now (mem .entry))) * scale (jobIn (now (mem .entry)))) × (r ≤ 1100000000000) ⌝ }
 {
     let span = orders::entering(links, mem[0] as usize, t);
     let mut x = 0;
     for k in span.start..span.end {
-        let e = walk::entering(mem, rooms, links[k]);
-        let y = spread(mem, rooms, e.row, e.volume as u64);
+        let e = walk::entering(mem, capacity, links[k]);
+        let y = spread(mem, capacity, e.row, e.volume as u64);
         if y > x {
             x = y;
         }

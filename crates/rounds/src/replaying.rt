@@ -11,7 +11,7 @@ ghost use Rattle.ticks.specs.Cells.{timeIn, Small};
 ghost use Rattle.plans.specs.Lines.{LinesHeld};
 ghost use Rattle.rounds.specs.Arrivals.{DelayTable};
 ghost use Rattle.plans.specs.Loading.{planIn};
-ghost use Rattle.rounds.specs.Replaying.{Running, FedBefore, LineRun, RisingIn, RoundRun, FirstIn};
+ghost use Rattle.rounds.specs.Replaying.{Running, PredecessorsBefore, LineRun, RisingIn, RoundRun, FirstIn};
 use crate::row;
 use crate::times;
 use replicas::First;
@@ -32,20 +32,20 @@ fn unless_stopped(stop: u64, x: u64) -> u64
 fn run_line(
     mem: &mut [u64],
     links: &[u64],
-    rooms: usize,
+    capacity: usize,
     delays: &[u16; 256],
     k: usize,
     stops: &[u64],
     ready: Ready,
 ) -> Ready
-    requires { ⌜ DelayTable (now delays) (now mem) × Running rooms k 0 (ready .at) (now mem) × (k < nth (now mem) 0) × FedBefore rooms k (now mem) × (length (now stops) ≡ 16)
+    requires { ⌜ DelayTable (now delays) (now mem) × Running capacity k 0 (ready .at) (now mem) × (k < nth (now mem) 0) × PredecessorsBefore capacity k (now mem) × (length (now stops) ≡ 16)
         × LinksHeld (now mem) (now links) ⌝ }
-    ensures { λ r. ⌜ Running rooms (suc k) 0 (r .at) (now (mem .exit)) × LineRun rooms k (now (stops .entry)) (now (mem .entry)) (now (mem .exit)) ⌝ }
+    ensures { λ r. ⌜ Running capacity (suc k) 0 (r .at) (now (mem .exit)) × LineRun capacity k (now (stops .entry)) (now (mem .entry)) (now (mem .exit)) ⌝ }
 {
     let w = mem[3] as usize + 1;
-    let a = row::row_at(rooms, k);
+    let a = row::row_at(capacity, k);
     let t = mem[a] as usize;
-    let data = times::first_data(&mem[..], links, rooms, delays, t);
+    let data = times::first_data(&mem[..], links, capacity, delays, t);
     let runs = times::run_times(&mem[..], t);
     let mut after = ready;
     let mut c = 0;
@@ -63,27 +63,27 @@ fn run_line(
 }
 
 // All lines of the plan in memory.
-pub fn run_round(mem: &mut [u64], links: &[u64], rooms: usize, stops: &[u64])
-    requires { ⌜ LinesHeld rooms (nth (now mem) 0) (now mem) × Ordered (jobIn (now mem)) [] (planIn rooms (now mem) .lines) × (length (now stops) ≡ 16) × LinksHeld (now mem) (now links) ⌝ }
-    ensures { λ _. ⌜ RoundRun rooms (now (stops .entry)) (now (mem .entry)) (now (mem .exit)) ⌝ }
+pub fn run_round(mem: &mut [u64], links: &[u64], capacity: usize, stops: &[u64])
+    requires { ⌜ LinesHeld capacity (nth (now mem) 0) (now mem) × Ordered (jobIn (now mem)) [] (planIn capacity (now mem) .lines) × (length (now stops) ≡ 16) × LinksHeld (now mem) (now links) ⌝ }
+    ensures { λ _. ⌜ RoundRun capacity (now (stops .entry)) (now (mem .entry)) (now (mem .exit)) ⌝ }
 {
     let v = mem[0] as usize;
     let delays = times::delay_table(&mem[..]);
     let mut ready = Ready::new();
     let mut k = 0;
     while k < v {
-        let after = run_line(mem, links, rooms, &delays, k, stops, ready);
+        let after = run_line(mem, links, capacity, &delays, k, stops, ready);
         ready = after;
         k += 1;
     }
 }
 
 // The first finish of t, on the lowest processor that has it.
-pub fn first_finish(mem: &[u64], rooms: usize, t: usize) -> First
-    requires { ⌜ LinesHeld rooms (nth (now mem) 0) (now mem) × RisingIn rooms (now mem) × (t < nth (now mem) 0) ⌝ }
-    ensures { λ r. ⌜ FirstIn rooms t (r .time) (r .processor) (now (mem .entry)) ⌝ }
+pub fn first_finish(mem: &[u64], capacity: usize, t: usize) -> First
+    requires { ⌜ LinesHeld capacity (nth (now mem) 0) (now mem) × RisingIn capacity (now mem) × (t < nth (now mem) 0) ⌝ }
+    ensures { λ r. ⌜ FirstIn capacity t (r .time) (r .processor) (now (mem .entry)) ⌝ }
 {
-    let a = row::row_of(mem, rooms, t);
+    let a = row::row_of(mem, capacity, t);
     let first = row::place(a, 0);
     let end = row::place(a, mem[3] as usize + 1);
     replicas::first_finish(&mem[first..end])

@@ -17,27 +17,27 @@ pub struct Replica {
 }
 
 // Task t has line k.
-pub fn put_line(mem: &mut [u64], rooms: usize, t: usize, k: usize)
-    requires { ⌜ (lineAt rooms + t < length (now mem)) × (k < length (now mem)) ⌝ }
-    ensures { λ _. ⌜ now (mem .exit) ≡ set (now (mem .entry)) (lineAt rooms + t) (k + 1) ⌝ }
+pub fn put_line(mem: &mut [u64], capacity: usize, t: usize, k: usize)
+    requires { ⌜ (lineAt capacity + t < length (now mem)) × (k < length (now mem)) ⌝ }
+    ensures { λ _. ⌜ now (mem .exit) ≡ set (now (mem .entry)) (lineAt capacity + t) (k + 1) ⌝ }
 {
-    mem[LINE * rooms + t] = (k + 1) as u64;
+    mem[LINE * capacity + t] = (k + 1) as u64;
 }
 
 // Where line k stands.
-pub fn row_at(rooms: usize, k: usize) -> usize
-    requires { ⌜ rowAt rooms k < 18446744073709551616 ⌝ }
-    ensures { λ r. ⌜ r ≡ rowAt rooms k ⌝ }
+pub fn row_at(capacity: usize, k: usize) -> usize
+    requires { ⌜ rowAt capacity k < 18446744073709551616 ⌝ }
+    ensures { λ r. ⌜ r ≡ rowAt capacity k ⌝ }
 {
-    ROWS * rooms + k * 25
+    ROWS * capacity + k * 25
 }
 
 // Where the line of task t stands, which has one.
-pub fn row_of(mem: &[u64], rooms: usize, t: usize) -> usize
-    requires { ⌜ (lineAt rooms + t < length (now mem)) × (0 < nth (now mem) (lineAt rooms + t)) × (rowOf rooms t (now mem) ≤ length (now mem)) ⌝ }
-    ensures { λ r. ⌜ r ≡ rowOf rooms t (now (mem .entry)) ⌝ }
+pub fn row_of(mem: &[u64], capacity: usize, t: usize) -> usize
+    requires { ⌜ (lineAt capacity + t < length (now mem)) × (0 < nth (now mem) (lineAt capacity + t)) × (rowOf capacity t (now mem) ≤ length (now mem)) ⌝ }
+    ensures { λ r. ⌜ r ≡ rowOf capacity t (now (mem .entry)) ⌝ }
 {
-    row_at(rooms, mem[LINE * rooms + t] as usize - 1)
+    row_at(capacity, mem[LINE * capacity + t] as usize - 1)
 }
 
 // Where replica c of the line at `a` begins.

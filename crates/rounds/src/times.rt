@@ -11,7 +11,7 @@ ghost use Rattle.ticks.specs.Cells.{timeIn, Small};
 ghost use Rattle.plans.specs.Lines.{rowEnd, RowHeld, LinesHeld};
 ghost use Rattle.rounds.specs.Schedule.{arrivalIn, dataIn};
 ghost use Rattle.jobs.specs.Held.{SomeJobHeld, LinksHeld};
-ghost use Rattle.rounds.specs.Arrivals.{shortIn, DelayTable, FirstShort, BothShort, FirstFed, BothFed, BothRaised, BothReady, ShortClocks, RunsOf, BothFinish};
+ghost use Rattle.rounds.specs.Arrivals.{shortIn, DelayTable, FirstShort, BothShort, FirstSupplied, BothSupplied, BothRaised, BothReady, ShortClocks, RunsOf, BothFinish};
 use crate::numbers;
 use crate::row;
 use crate::walk;
@@ -92,17 +92,17 @@ fn first_arrivals(mem: &[u64], delays: &[u16; 256], a: usize, volume: u16) -> [u
 pub fn first_data(
     mem: &[u64],
     links: &[u64],
-    rooms: usize,
+    capacity: usize,
     delays: &[u16; 256],
     t: usize,
 ) -> [u64; 16]
-    requires { ⌜ ((k : ℕ) × LinesHeld rooms k (now mem)) × LinksHeld (now mem) (now links) × DelayTable (now delays) (now mem) × (t < nth (now mem) 0) × FirstFed rooms t (now mem) ⌝ }
-    ensures { λ r. ⌜ (length r ≡ 16) × ((p : ℕ) → p < nth (now (mem .entry)) 1 → (timeIn (nth r p) ≡ dataIn rooms false t p (now (mem .entry))) × Small 5000000000 (nth r p)) ⌝ }
+    requires { ⌜ ((k : ℕ) × LinesHeld capacity k (now mem)) × LinksHeld (now mem) (now links) × DelayTable (now delays) (now mem) × (t < nth (now mem) 0) × FirstSupplied capacity t (now mem) ⌝ }
+    ensures { λ r. ⌜ (length r ≡ 16) × ((p : ℕ) → p < nth (now (mem .entry)) 1 → (timeIn (nth r p) ≡ dataIn capacity false t p (now (mem .entry))) × Small 5000000000 (nth r p)) ⌝ }
 {
     let span = orders::entering(links, mem[0] as usize, t);
     let mut high = [0u32; 16];
     for k in span.start..span.end {
-        let e = walk::entering(mem, rooms, links[k]);
+        let e = walk::entering(mem, capacity, links[k]);
         let low = first_arrivals(mem, delays, e.row, e.volume);
         lanes::raise(&mut high, &low);
     }
@@ -152,15 +152,15 @@ fn both_arrivals(
 }
 
 // When all data of t is on each processor, by the first replicas and by the last.
-fn both_data(mem: &[u64], links: &[u64], rooms: usize, delays: &[u16; 256], t: usize) -> Both
-    requires { ⌜ ((k : ℕ) × LinesHeld rooms k (now mem)) × LinksHeld (now mem) (now links) × DelayTable (now delays) (now mem) × (t < nth (now mem) 0) × BothFed rooms t (now mem) ⌝ }
-    ensures { λ r. ⌜ BothReady rooms t (now (mem .entry)) (r .early) (r .late) ⌝ }
+fn both_data(mem: &[u64], links: &[u64], capacity: usize, delays: &[u16; 256], t: usize) -> Both
+    requires { ⌜ ((k : ℕ) × LinesHeld capacity k (now mem)) × LinksHeld (now mem) (now links) × DelayTable (now delays) (now mem) × (t < nth (now mem) 0) × BothSupplied capacity t (now mem) ⌝ }
+    ensures { λ r. ⌜ BothReady capacity t (now (mem .entry)) (r .early) (r .late) ⌝ }
 {
     let span = orders::entering(links, mem[0] as usize, t);
     let mut early = [0u32; 16];
     let mut late = [0u32; 16];
     for k in span.start..span.end {
-        let e = walk::entering(mem, rooms, links[k]);
+        let e = walk::entering(mem, capacity, links[k]);
         both_arrivals(mem, delays, e.row, e.volume, &mut early, &mut late);
     }
     Both { early, late }
@@ -185,16 +185,16 @@ pub fn run_times(mem: &[u64], t: usize) -> [u32; 16]
 pub fn finishes(
     mem: &[u64],
     links: &[u64],
-    rooms: usize,
+    capacity: usize,
     delays: &[u16; 256],
     t: usize,
     clocks: Clocks,
 ) -> Both
-    requires { ⌜ ((k : ℕ) × LinesHeld rooms k (now mem)) × DelayTable (now delays) (now mem) × (t < nth (now mem) 0) × BothFed rooms t (now mem) × ShortClocks clocks (now mem)
+    requires { ⌜ ((k : ℕ) × LinesHeld capacity k (now mem)) × DelayTable (now delays) (now mem) × (t < nth (now mem) 0) × BothSupplied capacity t (now mem) × ShortClocks clocks (now mem)
         × LinksHeld (now mem) (now links) ⌝ }
-    ensures { λ r. ⌜ BothFinish rooms t clocks (now (mem .entry)) (r .early) (r .late) ⌝ }
+    ensures { λ r. ⌜ BothFinish capacity t clocks (now (mem .entry)) (r .early) (r .late) ⌝ }
 {
-    let data = both_data(mem, links, rooms, delays, t);
+    let data = both_data(mem, links, capacity, delays, t);
     let runs = run_times(mem, t);
     lanes::finish(clocks, data, runs)
 }

@@ -22,12 +22,12 @@ pub struct Inward {
 }
 
 // The edge in a cell, which leaves a task that has a line.
-pub fn entering(mem: &[u64], rooms: usize, cell: u64) -> Inward
-    requires { ⌜ JobHeld rooms (now mem) × Feeds rooms (edgeIn cell) (now mem) ⌝ }
-    ensures { λ r. ⌜ Entered rooms (edgeIn cell) (now (mem .entry)) (r .row) (r .volume) ⌝ }
+pub fn entering(mem: &[u64], capacity: usize, cell: u64) -> Inward
+    requires { ⌜ JobHeld capacity (now mem) × Feeds capacity (edgeIn cell) (now mem) ⌝ }
+    ensures { λ r. ⌜ Entered capacity (edgeIn cell) (now (mem .entry)) (r .row) (r .volume) ⌝ }
 {
     Inward {
-        row: row::row_of(mem, rooms, orders::edge_from(cell)),
+        row: row::row_of(mem, capacity, orders::edge_from(cell)),
         volume: orders::edge_volume(cell) as u16,
     }
 }

@@ -2,7 +2,7 @@
 ghost use mathlib.Core.Path.{_≡_};
 ghost use lib.ListN.{length, drop};
 ghost use Rattle.definitions.specs.Limits.{document01};
-ghost use Rattle.text.specs.Told.{told};
+ghost use Rattle.text.specs.Meaning.{stepReading};
 ghost use Rattle.rows.specs.Rows.{rows, rowsInto};
 use text::Step;
 
@@ -24,7 +24,7 @@ pub fn read_rows(
     k: usize,
     mem: &mut [u64],
 ) -> Step
-    ensures { λ r. ⌜ told (now (s .entry)) (rows k n (now (mem .exit))) r ≡ rowsInto document01 (length (now (mem .entry))) kind (now (opening .entry)) k n (drop at (now (s .entry))) ⌝ }
+    ensures { λ r. ⌜ stepReading (now (s .entry)) (rows k n (now (mem .exit))) r ≡ rowsInto document01 (length (now (mem .entry))) kind (now (opening .entry)) k n (drop at (now (s .entry))) ⌝ }
 {
     if row::is_wide(kind, n, k) {
         if n <= mem.len() / k {

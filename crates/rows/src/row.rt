@@ -7,7 +7,7 @@ ghost use Rattle.definitions.specs.Lists.{any};
 ghost use Rattle.definitions.specs.Limits.{document01};
 ghost use Rattle.definitions.specs.Text.{line};
 ghost use Rattle.definitions.specs.Job.{outside};
-ghost use Rattle.text.specs.Told.{told, ruled};
+ghost use Rattle.text.specs.Meaning.{stepReading, ruled};
 ghost use Rattle.rows.specs.Rows.{rows, ruleOf, rowLines, strayOf, wide};
 ghost use Rattle.rows.specs.declared.Kind.the-variants.{Delays};
 use crate::Kind;
@@ -85,7 +85,7 @@ fn read_row(
 ) -> Step
     requires { ⌜ (0 < k) × (k ≤ length (now cells)) × (kind ≡ Delays → i + 1 < k) ⌝ }
     ensures { λ r. ⌜ ((seen : List (List ℕ)) → length seen ≡ i
-        → told (now (s .entry)) (take k (now (cells .exit))) r ≡ ruled (line document01 (now (opening .entry)) k) (ruleOf document01 kind) seen (drop at (now (s .entry)))) ⌝ }
+        → stepReading (now (s .entry)) (take k (now (cells .exit))) r ≡ ruled (line document01 (now (opening .entry)) k) (ruleOf document01 kind) seen (drop at (now (s .entry)))) ⌝ }
 {
     match lines::read_line(s, at, opening, k, cells) {
         Step::Next(p) => {
@@ -110,7 +110,7 @@ pub fn fill_rows(
     mem: &mut [u64],
 ) -> Step
     requires { ⌜ (0 < k) × (n * k ≤ length (now mem)) × (kind ≡ Delays → n < k) ⌝ }
-    ensures { λ r. ⌜ told (now (s .entry)) (rows k n (now (mem .exit))) r ≡ rowLines document01 kind (now (opening .entry)) k n [] (drop at (now (s .entry))) ⌝ }
+    ensures { λ r. ⌜ stepReading (now (s .entry)) (rows k n (now (mem .exit))) r ≡ rowLines document01 kind (now (opening .entry)) k n [] (drop at (now (s .entry))) ⌝ }
 {
     let mut i = 0;
     let mut p = at;

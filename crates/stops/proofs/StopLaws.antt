@@ -11,7 +11,7 @@ use Rattle.text.specs.declared.Step.the-variants.{Next, Refused}
 use Rattle.ticks.specs.Cells.{neverCell, timeIn, Small}
 use Rattle.text.specs.Suited.{Suited}
 use Rattle.stops.specs.Loading.{stopsFrom, stopLines, StopRuled, StopsLoaded}
-use Rattle.text.specs.Told.{ruled}
+use Rattle.text.specs.Meaning.{ruled}
 use Rattle.lines.proofs.LineLaws.{ruled-bad, ruled-no, ruled-yes, ruled-then}
 use Rattle.lists.proofs.Counting.{equal-or-not, last-or-before}
 

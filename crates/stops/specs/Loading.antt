@@ -12,7 +12,7 @@ use Rattle.definitions.specs.Stops.{Stop, stopLine, stopRule, readStops}
 use Rattle.definitions.specs.Times.{stopTime}
 use Rattle.definitions.specs.Facts.{afterLast}
 use Rattle.text.specs.declared.Step.{Step}
-use Rattle.text.specs.Told.{stepTold}
+use Rattle.text.specs.Meaning.{stepResult}
 use Rattle.ticks.specs.Cells.{timeIn, Small}
 
 -- A stop list's text for a job, if there are so many cells: 8 if they are fewer than the processors.
@@ -29,5 +29,5 @@ StopRuled l m least s x = (j : Job) (seen : List Stop) → j .processors ≡ m �
 
 -- The stop tick of each processor is in its cell, never in all others; or the refusal.
 abbrev pub StopsLoaded : Limits → Result (List Stop) → List ℕ → Step → Type 0
-StopsLoaded l (good ss) cells r = ((n : ℕ) × (stepTold r ≡ good n)) × ((p : ℕ) → p < length cells → (timeIn (nth cells p) ≡ stopTime ss p) × Small (l .tick) (nth cells p))
-StopsLoaded l (bad n) cells r = stepTold r ≡ bad n
+StopsLoaded l (good ss) cells r = ((n : ℕ) × (stepResult r ≡ good n)) × ((p : ℕ) → p < length cells → (timeIn (nth cells p) ≡ stopTime ss p) × Small (l .tick) (nth cells p))
+StopsLoaded l (bad n) cells r = stepResult r ≡ bad n

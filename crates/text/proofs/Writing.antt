@@ -3,7 +3,7 @@ use Rattle.lists.proofs.Prelude.{_≡_, refl, ap, _∙_, sym, List, [], _∷_, 
 use Rattle.definitions.specs.Text.{lowDigits}
 use Rattle.lists.specs.Over.{over}
 use Rattle.lists.proofs.Over.{over-nil, over-put, over-set-after, over-over, length-over}
-use Rattle.text.specs.Told.{written, placeAfter}
+use Rattle.text.specs.Meaning.{written, placeAfter}
 
 -- Digits from the lowest on --------------------------------------------------------------------------------------
 

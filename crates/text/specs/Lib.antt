@@ -1,2 +1,2 @@
 pub mod Suited
-pub mod Told
+pub mod Meaning

@@ -6,7 +6,7 @@ ghost use Rattle.definitions.specs.Limits.{document01};
 ghost use Rattle.definitions.specs.Job.{outside};
 ghost use Rattle.definitions.specs.Text.{digits, number, exactly, mark, width, lowDigits, decimal};
 ghost use Rattle.lists.specs.Over.{over};
-ghost use Rattle.text.specs.Told.{numberTold, Placed, told, PlacedAt, written, placeAfter};
+ghost use Rattle.text.specs.Meaning.{numberReading, Placed, stepReading, PlacedAt, written, placeAfter};
 use crate::limits::DIGITS;
 use crate::limits::POWERS;
 
@@ -54,7 +54,7 @@ pub fn outside(low: u64, high: u64, n: u64) -> bool
 // The digits that follow, at most `room` of them, after those that make `value`.
 fn more_digits(s: &[u8], at: usize, room: usize, value: u64) -> Num
     requires { ⌜ (at ≤ length (now s)) × (room < document01 .digits) × (value < 10 ^ (document01 .digits - room)) ⌝ }
-    ensures { λ r. ⌜ numberTold (now (s .entry)) r ≡ digits room value (drop at (now (s .entry))) ⌝ }
+    ensures { λ r. ⌜ numberReading (now (s .entry)) r ≡ digits room value (drop at (now (s .entry))) ⌝ }
     ensures placed { λ r. ⌜ Placed (now (s .entry)) r ⌝ }
 {
     let mut k = room;
@@ -80,7 +80,7 @@ fn more_digits(s: &[u8], at: usize, room: usize, value: u64) -> Num
 
 // The number that stands at `at`.
 pub fn read_number(s: &[u8], at: usize) -> Num
-    ensures { λ r. ⌜ numberTold (now (s .entry)) r ≡ number document01 (drop at (now (s .entry))) ⌝ }
+    ensures { λ r. ⌜ numberReading (now (s .entry)) r ≡ number document01 (drop at (now (s .entry))) ⌝ }
     ensures placed { λ r. ⌜ Placed (now (s .entry)) r ⌝ }
 {
     if s.len() <= at {
@@ -101,7 +101,7 @@ pub fn read_number(s: &[u8], at: usize) -> Num
 
 // The place after the fixed bytes `opening`, if they stand at `at`.
 pub fn read_fixed(s: &[u8], at: usize, opening: &[u8]) -> Step
-    ensures { λ r. ⌜ told (now (s .entry)) tt r ≡ exactly (now (opening .entry)) (drop at (now (s .entry))) ⌝ }
+    ensures { λ r. ⌜ stepReading (now (s .entry)) tt r ≡ exactly (now (opening .entry)) (drop at (now (s .entry))) ⌝ }
     ensures placed { λ r. ⌜ PlacedAt (at + length (now (opening .entry))) r ⌝ }
 {
     let mut i = 0;

@@ -1,4 +1,4 @@
-// The ready ticks of the processors, which advance copy by copy.
+// The ready ticks of the processors, which advance replica by replica.
 ghost use mathlib.Core.Path.{_≡_};
 ghost use lib.Dec.{ltb};
 ghost use lib.ListN.{set, replicate};

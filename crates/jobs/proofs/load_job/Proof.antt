@@ -2,7 +2,7 @@
 use Rattle.lists.proofs.Prelude.{needs, _≡_, refl, sym, _∙_, arith, length, drop, document01, jobHeadRule}
 use Rattle.definitions.proofs.Reading.{job-head-parts}
 use Rattle.heads.specs.Heads.{headOf}
-use Rattle.heads.proofs.Rooms.{roomy-parts}
+use Rattle.heads.proofs.Capacity.{roomy-parts}
 use Rattle.jobs.proofs.Loads.{from-refused, from-short, from-room, rest-loaded}
 use Rattle.jobs.proofs.load_job.Statement.{statement}
 use Rattle.jobs.proofs.load_job.Tie as tie
@@ -10,7 +10,7 @@ use Rattle.jobs.proofs.load_job.Tie as tie
 returns : tie.Need-returns
 returns c =
     let a = c .before .before .before .before .before .args in
-    rw (from-refused (a .rooms) (length (a .mem .now)) (length (a .links .now)) (headOf (a .head)) (drop (a .at) (a .s .now)) _ (c .before .head-rule .ensures) (c .if1 .taken)) refl
+    rw (from-refused (a .capacity) (length (a .mem .now)) (length (a .links .now)) (headOf (a .head)) (drop (a .at) (a .s .now)) _ (c .before .head-rule .ensures) (c .if1 .taken)) refl
 
 load-rest-requires : tie.Need-load-rest-requires
 load-rest-requires c κs =
@@ -19,7 +19,7 @@ load-rest-requires c κs =
     let roomy = c .before .before .before .roomy in
     let a = c .before .before .before .before .before .before .before .before .before .args in
     let z : jobHeadRule document01 (headOf (a .head)) ≡ 0 = omega (arith, head-rule .ensures, if1 .left) in
-    let (_, l, k, f) = roomy-parts (a .rooms) (length (a .mem .now)) (length (a .links .now)) (headOf (a .head)) (sym (roomy .ensures) ∙ c .before .before .if2 .taken) in
+    let (_, l, k, f) = roomy-parts (a .capacity) (length (a .mem .now)) (length (a .links .now)) (headOf (a .head)) (sym (roomy .ensures) ∙ c .before .before .if2 .taken) in
     (z, omega (arith, l, f .2), omega (arith, k, f .0, f .1, job-head-parts document01 (headOf (a .head)) z .0))
 
 returns-2 : tie.Need-returns-2
@@ -32,16 +32,16 @@ returns-2 c =
     let h = headOf (a .head) in
     let s = drop (a .at) (a .s .now) in
     let y = sym (roomy .ensures) ∙ if2 .taken in
-    let (_, l, _, f) = roomy-parts (a .rooms) (length (a .mem .now)) (length (a .links .now)) h y in
+    let (_, l, _, f) = roomy-parts (a .capacity) (length (a .mem .now)) (length (a .links .now)) h y in
     let load = c .before .before .before .before .load-rest in
     let z : jobHeadRule document01 (headOf (a .head)) ≡ 0 = omega (arith, head-rule .ensures, if1 .left) in
-    rw (from-room (a .rooms) (length (a .mem .now)) (length (a .links .now)) h s z y) (rest-loaded (a .rooms) h s (load .last .1 .1 .1 .0) _ z (load .kept .1 .1 .1 .0 ∙ l) f _ (load .ensures))
+    rw (from-room (a .capacity) (length (a .mem .now)) (length (a .links .now)) h s z y) (rest-loaded (a .capacity) h s (load .last .1 .1 .1 .0) _ z (load .kept .1 .1 .1 .0 ∙ l) f _ (load .ensures))
 
 returns-3 : tie.Need-returns-3
 returns-3 c =
     let head-rule = c .before .before .before .head-rule in
     let a = c .before .before .before .before .before .before .before .args in
-    rw (from-short (a .rooms) (length (a .mem .now)) (length (a .links .now)) (headOf (a .head)) (drop (a .at) (a .s .now))
+    rw (from-short (a .capacity) (length (a .mem .now)) (length (a .links .now)) (headOf (a .head)) (drop (a .at) (a .s .now))
     (omega (arith, head-rule .ensures, c .before .before .if1 .left)) (sym (c .before .roomy .ensures) ∙ c .if2 .left)) refl
 
 pub load-job-spec : {M : Type 1} → statement M

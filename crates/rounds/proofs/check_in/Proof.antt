@@ -16,23 +16,23 @@ judge-requires c κs =
     let l = c .before .before .before .before .before .before .before .before .load-both in
     let enum-told = c .before .before .enum-told in
     let a = c .before .before .before .before .before .before .before .before .before .before .before .before .before .before .before .args in
-    let x = jobFrom (a .rooms) (length (a .mem .now)) (length (a .links .now)) (headOf (a .head)) (drop (a .at) (a .job .now)) in
-    both-held (a .rooms) x (a .plan .now) (l .last .1 .1 .1 .1 .0) (l .last .1 .1 .1 .1 .1 .0) _ (rw (enum-told .given .1) at (l .ensures))
+    let x = jobFrom (a .capacity) (length (a .mem .now)) (length (a .links .now)) (headOf (a .head)) (drop (a .at) (a .job .now)) in
+    both-held (a .capacity) x (a .plan .now) (l .last .1 .1 .1 .1 .0) (l .last .1 .1 .1 .1 .1 .0) _ (rw (enum-told .given .1) at (l .ensures))
 
 returns : tie.Need-returns
 returns c =
     let l = c .before .before .before .before .before .before .before .before .before .load-both in
     let enum-told = c .before .before .before .enum-told in
     let a = c .before .before .before .before .before .before .before .before .before .before .before .before .before .before .before .before .args in
-    let x = withPlan (jobFrom (a .rooms) (length (a .mem .now)) (length (a .links .now)) (headOf (a .head)) (drop (a .at) (a .job .now))) (a .plan .now) in
-    plan-judged (a .rooms) x (l .last .1 .1 .1 .1 .0) (l .last .1 .1 .1 .1 .1 .0) _ (rw (enum-told .given .1) at (l .ensures)) (c .judge .result) (c .judge .ensures)
+    let x = withPlan (jobFrom (a .capacity) (length (a .mem .now)) (length (a .links .now)) (headOf (a .head)) (drop (a .at) (a .job .now))) (a .plan .now) in
+    plan-judged (a .capacity) x (l .last .1 .1 .1 .1 .0) (l .last .1 .1 .1 .1 .1 .0) _ (rw (enum-told .given .1) at (l .ensures)) (c .judge .result) (c .judge .ensures)
 
 returns-2 : tie.Need-returns-2
 returns-2 c =
     let l = c .before .before .before .before .before .before .before .load-both in
     let a = c .before .before .before .before .before .before .before .before .before .before .before .before .before .before .args in
-    let x = withPlan (jobFrom (a .rooms) (length (a .mem .now)) (length (a .links .now)) (headOf (a .head)) (drop (a .at) (a .job .now))) (a .plan .now) in
-    texts-refused (a .rooms) x (l .last .1 .1 .1 .1 .0) (l .last .1 .1 .1 .1 .1 .0) _ (rw (c .before .x .given .1) at (l .ensures))
+    let x = withPlan (jobFrom (a .capacity) (length (a .mem .now)) (length (a .links .now)) (headOf (a .head)) (drop (a .at) (a .job .now))) (a .plan .now) in
+    texts-refused (a .capacity) x (l .last .1 .1 .1 .1 .0) (l .last .1 .1 .1 .1 .1 .0) _ (rw (c .before .x .given .1) at (l .ensures))
 
 pub check-in-spec : {M : Type 1} → statement M
 check-in-spec = tie.close (tie.spec

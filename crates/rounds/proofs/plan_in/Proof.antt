@@ -15,8 +15,8 @@ put-plan-requires c κs =
     let l = c .before .before .before .before .before .before .before .before .before .load-job in
     let enum-told = c .before .before .before .enum-told in
     let a = c .before .before .before .before .before .before .before .before .before .before .before .before .before .before .before .before .args in
-    let x = jobFrom (a .rooms) (length (a .mem .now)) (length (a .links .now)) (headOf (a .head)) (drop (a .at) (a .job .now)) in
-    let (_, h, i) = loaded-job (a .rooms) x (l .last .1 .1 .1 .0) (l .last .1 .1 .1 .1 .0) _ (rw (enum-told .given .1) at (l .ensures)) in (h, i)
+    let x = jobFrom (a .capacity) (length (a .mem .now)) (length (a .links .now)) (headOf (a .head)) (drop (a .at) (a .job .now)) in
+    let (_, h, i) = loaded-job (a .capacity) x (l .last .1 .1 .1 .0) (l .last .1 .1 .1 .1 .0) _ (rw (enum-told .given .1) at (l .ensures)) in (h, i)
 
 returns : tie.Need-returns
 returns c =
@@ -24,15 +24,15 @@ returns c =
     let enum-told = c .before .before .before .before .before .before .before .before .enum-told in
     let p = c .before .before .before .before .put-plan in
     let a = c .before .before .before .before .before .before .before .before .before .before .before .before .before .before .before .before .before .before .before .before .before .args in
-    let x = jobFrom (a .rooms) (length (a .mem .now)) (length (a .links .now)) (headOf (a .head)) (drop (a .at) (a .job .now)) in
-    plan-put (a .rooms) x (l .last .1 .1 .1 .0) (l .last .1 .1 .1 .1 .0) (a .out .now) _ (rw (enum-told .given .1) at (l .ensures)) (p .last .1 .1 .1 .0) (p .result) (p .ensures)
+    let x = jobFrom (a .capacity) (length (a .mem .now)) (length (a .links .now)) (headOf (a .head)) (drop (a .at) (a .job .now)) in
+    plan-put (a .capacity) x (l .last .1 .1 .1 .0) (l .last .1 .1 .1 .1 .0) (a .out .now) _ (rw (enum-told .given .1) at (l .ensures)) (p .last .1 .1 .1 .0) (p .result) (p .ensures)
 
 returns-2 : tie.Need-returns-2
 returns-2 c =
     let l = c .before .before .before .before .before .before .before .load-job in
     let a = c .before .before .before .before .before .before .before .before .before .before .before .before .before .before .args in
-    let x = jobFrom (a .rooms) (length (a .mem .now)) (length (a .links .now)) (headOf (a .head)) (drop (a .at) (a .job .now)) in
-    plan-no (a .rooms) x (l .last .1 .1 .1 .0) (l .last .1 .1 .1 .1 .0) (a .out .now) _ (rw (c .before .x .given .1) at (l .ensures))
+    let x = jobFrom (a .capacity) (length (a .mem .now)) (length (a .links .now)) (headOf (a .head)) (drop (a .at) (a .job .now)) in
+    plan-no (a .capacity) x (l .last .1 .1 .1 .0) (l .last .1 .1 .1 .1 .0) (a .out .now) _ (rw (c .before .x .given .1) at (l .ensures))
 
 pub plan-in-spec : {M : Type 1} → statement M
 plan-in-spec = tie.close (tie.spec

@@ -16,8 +16,8 @@ put-replay-requires c κs =
     let l = c .before .before .before .before .before .before .before .before .before .load-both in
     let enum-told = c .before .before .before .enum-told in
     let a = c .before .before .before .before .before .before .before .before .before .before .before .before .before .before .before .before .before .before .args in
-    let x = jobFrom (a .rooms) (length (a .mem .now)) (length (a .links .now)) (headOf (a .head)) (drop (a .at) (a .job .now)) in
-    both-held (a .rooms) x (a .plan .now) (l .last .1 .1 .1 .1 .0) (l .last .1 .1 .1 .1 .1 .0) _ (rw (enum-told .given .1) at (l .ensures))
+    let x = jobFrom (a .capacity) (length (a .mem .now)) (length (a .links .now)) (headOf (a .head)) (drop (a .at) (a .job .now)) in
+    both-held (a .capacity) x (a .plan .now) (l .last .1 .1 .1 .1 .0) (l .last .1 .1 .1 .1 .1 .0) _ (rw (enum-told .given .1) at (l .ensures))
 
 returns : tie.Need-returns
 returns c =
@@ -26,16 +26,16 @@ returns c =
     let p = c .before .before .before .before .put-replay in
     let here = c .before .before .before .before .before .before .before .before .before .before .before in
     let a = here .before .before .before .before .before .before .before .before .before .before .before .before .args in
-    let x = withPlan (jobFrom (a .rooms) (length (a .mem .now)) (length (a .links .now)) (headOf (a .head)) (drop (a .at) (a .job .now))) (a .plan .now) in
-    replay-put (a .rooms) x (l .last .1 .1 .1 .1 .0) (l .last .1 .1 .1 .1 .1 .0) (a .stops .now) (a .out .now) _ (rw (enum-told .given .1) at (l .ensures))
+    let x = withPlan (jobFrom (a .capacity) (length (a .mem .now)) (length (a .links .now)) (headOf (a .head)) (drop (a .at) (a .job .now))) (a .plan .now) in
+    replay-put (a .capacity) x (l .last .1 .1 .1 .1 .0) (l .last .1 .1 .1 .1 .1 .0) (a .stops .now) (a .out .now) _ (rw (enum-told .given .1) at (l .ensures))
     (p .last .1 .1 .1 .1 .0) (p .result) (p .ensures)
 
 returns-2 : tie.Need-returns-2
 returns-2 c =
     let l = c .before .before .before .before .before .before .before .load-both in
     let a = c .before .before .before .before .before .before .before .before .before .before .before .before .before .before .before .before .args in
-    let x = withPlan (jobFrom (a .rooms) (length (a .mem .now)) (length (a .links .now)) (headOf (a .head)) (drop (a .at) (a .job .now))) (a .plan .now) in
-    replay-refused (a .rooms) x (l .last .1 .1 .1 .1 .0) (l .last .1 .1 .1 .1 .1 .0) (a .stops .now) (a .out .now) _ (rw (c .before .x .given .1) at (l .ensures))
+    let x = withPlan (jobFrom (a .capacity) (length (a .mem .now)) (length (a .links .now)) (headOf (a .head)) (drop (a .at) (a .job .now))) (a .plan .now) in
+    replay-refused (a .capacity) x (l .last .1 .1 .1 .1 .0) (l .last .1 .1 .1 .1 .1 .0) (a .stops .now) (a .out .now) _ (rw (c .before .x .given .1) at (l .ensures))
 
 pub replay-in-spec : {M : Type 1} → statement M
 replay-in-spec = tie.close (tie.spec

@@ -1,6 +1,6 @@
 -- The lines from edge i on, after the edges before it, are all the lines.
 use Rattle.lists.proofs.Prelude.{_≡_, refl, sym, ap, _∙_, [], map, ℕ, _≤_, _-_, arith, needs, length, take, drop, sub-zero, nth, document01, found, edgeLine, edgeRule, Ascends}
-use Rattle.text.specs.Told.{told}
+use Rattle.text.specs.Meaning.{stepReading}
 use Rattle.lines.proofs.LineLaws.{lines-end, lines-no, lines-next}
 use Rattle.orders.specs.Edges.{edgeIn}
 use Rattle.edges.specs.EdgeLines.{edgeLines}
@@ -29,7 +29,7 @@ returns c =
     let args = c .before .before .before .before .before .before .before .before .before .before .before .args in
     let loop-test = c .before .before .before .before .before .before .before .loop-test in
     let seen = map edgeIn (take (loop .i) (loop .mem)) in
-    let e = sym (read-edge .ensures .1) ∙ ap (told (args .s .now) (edgeIn (nth (read-edge .last .1 .1 .1 .0) (loop .i)))) (c .before .x .given .1) in
+    let e = sym (read-edge .ensures .1) ∙ ap (stepReading (args .s .now) (edgeIn (nth (read-edge .last .1 .1 .1 .0) (loop .i)))) (c .before .x .given .1) in
     lines-no (edgeLine document01) (edgeRule document01 (args .v)) (args .n) (loop .i) seen (drop (loop .p) (args .s .now)) (loop-test .taken) _ e ∙ loop .inv .3
 
 loop-again : tie.Need-loop-again Inv-loop μ-loop
@@ -41,7 +41,7 @@ loop-again c =
     let i = loop .i in
     let seen = map edgeIn (take i (loop .mem)) in
     let new = read-edge .last .1 .1 .1 .0 in
-    let e = sym (read-edge .ensures .1) ∙ ap (told (args .s .now) (edgeIn (nth new i))) (c .before .next .given .1) in
+    let e = sym (read-edge .ensures .1) ∙ ap (stepReading (args .s .now) (edgeIn (nth new i))) (c .before .next .given .1) in
     let k = read-edge .kept .1 .1 .1 .0 in
     let q = edges-more new i (omega (arith, loop-test .taken, loop .inv .1, c .before .before .before .before .before .before .before .before .before .before .before .pre .1, k)) in
     let front = read-edge .ensures .0 in (

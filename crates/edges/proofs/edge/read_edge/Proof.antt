@@ -2,7 +2,7 @@
 use Rattle.lists.proofs.Prelude.{refl, sym, arith, needs, take, length-take-le, getD-set-same, map, edgeOf}
 use lib.Seq.{take-set-le}
 use Rattle.text.specs.Suited.{suited}
-use Rattle.lines.proofs.LineLaws.{line-told}
+use Rattle.lines.proofs.LineLaws.{line-reading}
 use Rattle.orders.specs.Edges.{edgeIn}
 use Rattle.edges.proofs.EdgeLaws.{edge-of-cell, edge-bad, edge-no, edge-yes}
 use Rattle.edges.proofs.edge.read_edge.Statement.{statement}
@@ -18,7 +18,7 @@ returns c =
     let read-line = c .before .before .before .before .before .before .before .read-line in
     let args = c .before .before .before .before .before .before .before .before .before .before .before .before .args in
     let ys = read-line .last .1 .1 .1 .1 .0 in
-    let e = line-told _ 3 _ 3 _ _ ys _ _ (read-line .ensures .0) (omega arith) (c .before .before .before .before .p .given .1) in
+    let e = line-reading _ 3 _ 3 _ _ ys _ _ (read-line .ensures .0) (omega arith) (c .before .before .before .before .p .given .1) in
     (refl, edge-no _ (args .v) (map edgeIn (take (args .i) (args .mem .now))) _ ys _ e _ (c .before .check-edge .ensures .0) (c .if1 .taken))
 
 cell-of-requires : tie.Need-cell-of-requires
@@ -37,7 +37,7 @@ returns-2 c =
     let i = args .i in
     let d = args .mem .now in
     let ys = read-line .last .1 .1 .1 .1 .0 in
-    let e = line-told _ 3 _ 3 _ _ ys _ _ (read-line .ensures .0) (omega arith) (c .before .before .before .before .before .p .given .1) in
+    let e = line-reading _ 3 _ 3 _ _ ys _ _ (read-line .ensures .0) (omega arith) (c .before .before .before .before .before .p .given .1) in
     let h = check-edge .ensures .1 (omega (arith, if1 .left)) in
     let k = edge-of-cell _ suited _ (edgeOf ys) (pre .0) (h .0) (h .1) in
     let y = edge-yes _ (args .v) (map edgeIn (take i d)) _ ys _ e _ (check-edge .ensures .0) (if1 .left) in
@@ -48,7 +48,7 @@ returns-3 c =
     let read-line = c .before .before .before .before .read-line in
     let args = c .before .before .before .before .before .before .before .before .before .args in
     let ys = read-line .last .1 .1 .1 .1 .0 in
-    let e = line-told _ 3 _ 3 _ _ ys _ _ (read-line .ensures .0) (omega arith) (c .before .x .given .1) in
+    let e = line-reading _ 3 _ 3 _ _ ys _ _ (read-line .ensures .0) (omega arith) (c .before .x .given .1) in
     (refl, edge-bad _ (args .v) (map edgeIn (take (args .i) (args .mem .now))) _ _ e)
 
 pub read-edge-spec : {M : Type 1} → statement M

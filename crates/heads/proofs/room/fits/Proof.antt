@@ -1,12 +1,12 @@
 -- Each test is one part of the definition's.
 use Rattle.lists.proofs.Prelude.{ℕ, _≤_, _+_, _*_, arith, needs, mul-le-mul}
-use Rattle.heads.proofs.Rooms.{many-tasks, many-edges, many-processors, few-cells}
+use Rattle.heads.proofs.Capacity.{many-tasks, many-edges, many-processors, few-cells}
 use Rattle.heads.proofs.room.fits.Statement.{statement}
 use Rattle.heads.proofs.room.fits.Tie as tie
 
 -- The product of a head that is not too large.
-most : (v m rooms : ℕ) → v ≤ 8 * rooms → rooms ≤ 32 → m ≤ 5664 → (v + m) * (m + 1) ≤ 5920 * 5665
-most v m rooms a r b = mul-le-mul {n₁ = v + m} {m₁ = m + 1} {n₂ = 5920} {m₂ = 5665} (omega (arith, a, r, b)) (omega (arith, b))
+most : (v m capacity : ℕ) → v ≤ 8 * capacity → capacity ≤ 32 → m ≤ 5664 → (v + m) * (m + 1) ≤ 5920 * 5665
+most v m capacity a r b = mul-le-mul {n₁ = v + m} {m₁ = m + 1} {n₂ = 5920} {m₂ = 5665} (omega (arith, a, r, b)) (omega (arith, b))
 
 pub fits-spec : {M : Type 1} → statement M
 fits-spec = tie.close (tie.spec

@@ -1,7 +1,7 @@
 -- The D lines' cells stand after those of the C lines, and the rest is as load_edges leaves it.
 use Rattle.lists.proofs.Prelude.{needs, refl, sym, ap, _∙_, map, _-_, _+_, arith, length, drop, bytes, nth, jobHeadOf}
 use borrow.Rule.Slice.PartMut.{putMid}
-use Rattle.text.specs.Told.{told}
+use Rattle.text.specs.Meaning.{stepReading}
 use Rattle.rows.specs.Rows.{rows}
 use Rattle.jobs.specs.Stages.{delaysAt}
 use Rattle.jobs.proofs.CellLaws.{runs-most, delays-read, lent-head, lent-headed, delays-in}
@@ -65,7 +65,7 @@ returns c runs q =
     let x = putMid a (length d - a) d ys in
     let ds = rows (1 + nth d 1) (nth d 1) ys in
     let r = runs-most d w in
-    let f = sym (read .ensures ∙ delays-read d w (bytes "D,") (drop at s)) ∙ ap (told s ds) (p .given .1) in
+    let f = sym (read .ensures ∙ delays-read d w (bytes "D,") (drop at s)) ∙ ap (stepReading s ds) (p .given .1) in
     delays-then (jobHeadOf d) runs (drop at s) _ _ ds _ f (jobHeadOf x) (lent-head d x ys a refl (omega arith) (omega arith)) _
     (load-edges .ensures runs (map (drop 1) ds) (delays-in d x ys w runs q refl _ _ f))
 
@@ -77,7 +77,7 @@ returns-2 c runs q =
     let s = args .s .now in
     let d = args .mem .now in
     let ds = rows (1 + nth d 1) (nth d 1) (read-rows .last .1 .1 .1 .1 .1 .1 .0) in
-    delays-no (jobHeadOf d) runs (drop (args .at) s) _ _ _ (sym (read-rows .ensures ∙ delays-read d (pre) (bytes "D,") (drop (args .at) s)) ∙ ap (told s ds) (c .before .n .given .1))
+    delays-no (jobHeadOf d) runs (drop (args .at) s) _ _ _ (sym (read-rows .ensures ∙ delays-read d (pre) (bytes "D,") (drop (args .at) s)) ∙ ap (stepReading s ds) (c .before .n .given .1))
 
 pub load-delays-spec : {M : Type 1} → statement M
 load-delays-spec = tie.close (tie.spec

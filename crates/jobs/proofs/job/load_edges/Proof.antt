@@ -1,6 +1,6 @@
 -- The edges' cells stand after those of the C and D lines, and are linked.
 use Rattle.lists.proofs.Prelude.{needs, refl, sym, ap, _∙_, map, arith, length, take, drop, length-take, nth, jobHeadOf}
-use Rattle.text.specs.Told.{told}
+use Rattle.text.specs.Meaning.{stepReading}
 use Rattle.orders.specs.Edges.{edgeIn}
 use Rattle.orders.proofs.PairLaws.{linkable-made}
 use Rattle.jobs.proofs.CellLaws.{cells-of, rows-most, edges-read, edges-fit, edges-part, edges-in}
@@ -72,7 +72,7 @@ close-requires c κs =
     let d = args .mem .now in
     let ys = read .last .1 .1 .1 .1 .0 in
     let es = map edgeIn (take (nth d 2) ys) in
-    let f = sym (read .ensures ∙ edges-read d w (drop (args .at) s)) ∙ ap (told s es) (p .given .1) in
+    let f = sym (read .ensures ∙ edges-read d w (drop (args .at) s)) ∙ ap (stepReading s es) (p .given .1) in
     rw (edges-part d _ ys w refl (read .kept .1 .1 .1 .1 .0))
     (linkable-made (nth d 0) (take (nth d 2) ys) (length (args .links .now)) (omega (arith, length-take (nth d 2) ys, w .links-room))
     (edges-within (nth d 0) (nth d 2) _ es _ f) (edges-ascend (nth d 0) (nth d 2) _ es _ f))
@@ -93,7 +93,7 @@ returns c runs delays q =
     let e = rw part at (close .0) in
     let k = rw part at (close .1) in
     rw e
-    (edges-closed (jobHeadOf d) runs delays (drop (args .at) s) _ _ es s (p .given .0 .0) (sym (read .ensures ∙ edges-read d w (drop (args .at) s)) ∙ ap (told s es) (p .given .1))
+    (edges-closed (jobHeadOf d) runs delays (drop (args .at) s) _ _ es s (p .given .0 .0) (sym (read .ensures ∙ edges-read d w (drop (args .at) s)) ∙ ap (stepReading s es) (p .given .1))
     _ (edges-fit d _ ys w refl l) (edges-in d _ ys w refl l runs delays q) (λ z. rw (cells-of (take (nth d 2) ys)) (k (e ∙ z))))
 
 returns-2 : tie.Need-returns-2
@@ -104,7 +104,7 @@ returns-2 c runs delays q =
     let s = args .s .now in
     let d = args .mem .now in
     let es = map edgeIn (take (nth d 2) (read .last .1 .1 .1 .1 .0)) in
-    edges-no (jobHeadOf d) runs delays (drop (args .at) s) _ _ _ (sym (read .ensures ∙ edges-read d (pre) (drop (args .at) s)) ∙ ap (told s es) (c .before .n .given .1))
+    edges-no (jobHeadOf d) runs delays (drop (args .at) s) _ _ _ (sym (read .ensures ∙ edges-read d (pre) (drop (args .at) s)) ∙ ap (stepReading s es) (c .before .n .given .1))
 
 pub load-edges-spec : {M : Type 1} → statement M
 load-edges-spec = tie.close (tie.spec

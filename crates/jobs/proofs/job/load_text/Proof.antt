@@ -1,6 +1,6 @@
 -- The head is read, then the rest.
 use Rattle.lists.proofs.Prelude.{refl, arith, needs}
-use Rattle.heads.proofs.Rooms.{largest-fits, fits-most}
+use Rattle.heads.proofs.Capacity.{largest-fits, fits-most}
 use Rattle.jobs.proofs.job.load_text.Statement.{statement}
 use Rattle.jobs.proofs.job.load_text.Tie as tie
 

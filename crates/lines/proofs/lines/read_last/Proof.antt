@@ -1,5 +1,5 @@
 use Rattle.lists.proofs.Prelude.{_≡_, refl, sym, ap, _∙_, _≤_, _-_, arith, needs, length, take, drop, drop-set-lt, document01, found, numbers}
-use Rattle.text.specs.Told.{numberTold, told, after}
+use Rattle.text.specs.Meaning.{numberReading, stepReading, after}
 use Rattle.lines.proofs.LineLaws.{numbers-bad, numbers-no, numbers-next, numbers-end, take-more}
 use Rattle.lines.proofs.lines.read_last.Statement.{statement}
 use Rattle.lines.proofs.lines.read_last.Tie as tie
@@ -16,7 +16,7 @@ returns : tie.Need-returns Inv-loop μ-loop
 returns c =
     let s = c .before .before .before .before .before .before .before .args .s .now in
     let l = c .before .before .before .before .loop in
-    let e = sym (c .before .before .read-number .ensures .0) ∙ ap (numberTold s) (c .enum-told .given .1) in
+    let e = sym (c .before .before .read-number .ensures .0) ∙ ap (numberReading s) (c .enum-told .given .1) in
     (numbers-bad document01 s (take (l .i) (l .vals)) _ (l .i) (l .p) (c .before .before .before .loop-test .taken) e ∙ l .inv .2, l .inv .3)
 
 loop-again : tie.Need-loop-again Inv-loop μ-loop
@@ -25,8 +25,8 @@ loop-again c =
     let l = c .before .before .before .before .before .before .before .before .before .before .loop in
     let h = c .before .before .before .before .before .before .before .before .before .loop-test .taken in
     let n = c .before .before .before .before .before .before .v .given .0 .1 .0 in
-    let e = sym (c .before .before .before .before .before .before .before .before .read-number .ensures .0) ∙ ap (numberTold s) (c .before .before .before .before .before .before .v .given .1) in
-    let f = rw (c .before .before .before .before .mark-after .ensures) at (sym (c .before .before .before .read-byte .ensures) ∙ ap (told s tt) (c .before .after .given .1)) in (
+    let e = sym (c .before .before .before .before .before .before .before .before .read-number .ensures .0) ∙ ap (numberReading s) (c .before .before .before .before .before .before .v .given .1) in
+    let f = rw (c .before .before .before .before .mark-after .ensures) at (sym (c .before .before .before .read-byte .ensures) ∙ ap (stepReading s tt) (c .before .after .given .1)) in (
       search needs,
       search needs,
       rw (take-more (l .vals) (l .i) _ (omega arith)) (numbers-next document01 s (take (l .i) (l .vals)) _ (l .i) (l .p) _ n h e (c .before .after .given .0 .0) f ∙ l .inv .2),
@@ -39,8 +39,8 @@ returns-2 c =
     let l = c .before .before .before .before .before .before .before .before .before .before .loop in
     let h = c .before .before .before .before .before .before .before .before .before .loop-test .taken in
     let n = c .before .before .before .before .before .before .v .given .0 .1 .0 in
-    let e = sym (c .before .before .before .before .before .before .before .before .read-number .ensures .0) ∙ ap (numberTold s) (c .before .before .before .before .before .before .v .given .1) in
-    let f = rw (c .before .before .before .before .mark-after .ensures) at (sym (c .before .before .before .read-byte .ensures) ∙ ap (told s tt) (c .before .n .given .1)) in
+    let e = sym (c .before .before .before .before .before .before .before .before .read-number .ensures .0) ∙ ap (numberReading s) (c .before .before .before .before .before .before .v .given .1) in
+    let f = rw (c .before .before .before .before .mark-after .ensures) at (sym (c .before .before .before .read-byte .ensures) ∙ ap (stepReading s tt) (c .before .n .given .1)) in
     (numbers-no document01 s (take (l .i) (l .vals)) _ (l .i) (l .p) _ n h e _ f ∙ l .inv .2, drop-set-lt _ (l .vals) (l .i) _ h ∙ l .inv .3)
 
 returns-3 : tie.Need-returns-3 Inv-loop μ-loop

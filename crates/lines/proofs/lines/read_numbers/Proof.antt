@@ -1,5 +1,5 @@
 use Rattle.lists.proofs.Prelude.{_≡_, refl, sym, ap, _∙_, List, ℕ, _≤_, _<_, _-_, _+_, arith, needs, length, take, drop, drop-set-lt, sub-zero, document01, found, number, numbers}
-use Rattle.text.specs.Told.{numberTold, after}
+use Rattle.text.specs.Meaning.{numberReading, after}
 use Rattle.lines.proofs.LineLaws.{after-none, byte-no, byte-yes, inner-place, numbers-bad, numbers-no, numbers-next, numbers-end, take-more}
 use Rattle.lines.proofs.lines.read_numbers.Statement.{statement}
 use Rattle.lines.proofs.lines.read_numbers.Tie as tie
@@ -17,7 +17,7 @@ text w = w .before .before .before .before .before .before .before .before .befo
 
 number-at : (w : tie.After-v Inv-loop μ-loop) → number document01 (drop (w .before .before .before .before .before .loop .p) (text w)) ≡ found (w .v .given .0 .0)
     (drop (w .v .given .0 .1 .0) (text w))
-number-at w = sym (w .before .before .read-number .ensures .0) ∙ ap (numberTold (text w)) (w .v .given .1)
+number-at w = sym (w .before .before .read-number .ensures .0) ∙ ap (numberReading (text w)) (w .v .given .1)
 
 place : (w : tie.After-v Inv-loop μ-loop) → w .v .given .0 .1 .0 < length (text w)
 place w = inner-place _ (text w) _ _ _ _ _ (w .before .before .before .before .before .before .end-of .ensures) (w .before .before .before .if1 .left)
@@ -33,7 +33,7 @@ returns-2 : tie.Need-returns-2 Inv-loop μ-loop
 returns-2 c =
     let s = c .before .before .before .before .before .before .before .before .before .args .s .now in
     let l = c .before .before .before .before .before .loop in
-    let e = sym (c .before .before .read-number .ensures .0) ∙ ap (numberTold s) (c .enum-told .given .1) in
+    let e = sym (c .before .before .read-number .ensures .0) ∙ ap (numberReading s) (c .enum-told .given .1) in
     (numbers-bad document01 s (take (l .i) (l .vals)) _ (l .i) (l .p) (c .before .before .before .before .loop-test .taken) e ∙ l .inv .2, l .inv .3)
 
 returns-3 : tie.Need-returns-3 Inv-loop μ-loop

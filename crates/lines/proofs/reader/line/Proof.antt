@@ -38,7 +38,7 @@ use denote.Triple.Walked.{says, needs}
 use Rattle.text.proofs.Step as S
 use Rattle.text.proofs.Step.Laws as S′
 use Rattle.lines.specs.declared.reader.Reader.{Reader}
-use Rattle.lines.proofs.ReaderLaws.{LineTold}
+use Rattle.lines.proofs.ReaderLaws.{LineReading}
 use Rattle.lines.proofs.WalkLaws.{Of, Walk, calls, ended, framed, met}
 use Rattle.lines.proofs.reader.Reader as T
 use Rattle.lines.proofs.reader.Reader.Laws as T′
@@ -100,7 +100,7 @@ module _ {M : Type 1} (𝓤 : URA M) (H : Heap 𝓤) (A : Atoms 𝓤) (W : Given
         assigns ! (agg ! (and-then ! (load ! (from ! (stop !)) (look ! 2 refl)) (and-then ! (load ! (from ! (fld ! refl (stop !))) (look-in ! 8 (sub ! 1 refl (whole !)))) (no-more !))))
         (from ! (stop !)) (init ! 0 refl (tt, (tt, (record { fits = py .0 .1 .0 }, tt)))) $
         move ! (18 ∷ []) $ use1 W (raw (Of 𝓤 H A line-at.ended (line-at.clauses 𝓤 H A mem run) .pre to)) (goes within) $
-        calls ! fm line-at.ended (line-at.clauses 𝓤 H A mem run) known to (λ r ws. LineTold document01 d o k y (ws .1 .1 .1 .1 .0) r) (λ r ws. id⊢ 𝓤 _)
+        calls ! fm line-at.ended (line-at.clauses 𝓤 H A mem run) known to (λ r ws. LineReading document01 d o k y (ws .1 .1 .1 .1 .0) r) (λ r ws. id⊢ 𝓤 _)
         (and-then ! (load ! (from ! (stop !)) (look ! 7 refl))
         (and-then ! (load ! (from ! (stop !)) (look ! 5 refl))
         (and-then ! (load ! (from ! (stop !)) (look ! 13 refl)) (and-then ! (load ! (from ! (stop !)) (look ! 11 refl)) (and-then ! (load ! (from ! (stop !)) (look ! 1 refl)) (no-more !))))))
@@ -112,7 +112,7 @@ module _ {M : Type 1} (𝓤 : URA M) (H : Heap 𝓤) (A : Atoms 𝓤) (W : Given
         move ! (19 ∷ 20 ∷ []) $ free1 ! $ move ! (17 ∷ 18 ∷ []) $ free1 ! $ move ! (15 ∷ 16 ∷ []) $ free1 ! $ move ! (13 ∷ 14 ∷ []) $ free1 ! $ move ! (11 ∷ 12 ∷ []) $ free1 ! $ move !
         (9 ∷ 10 ∷ []) $ free1 ! $ move ! (7 ∷ 8 ∷ []) $ free1 ! $ move ! (5 ∷ 6 ∷ []) $ free1 ! $ move ! (3 ∷ 4 ∷ []) $ free1 ! $ free0 ! $
         move ! (2 ∷ []) $ fsplit ! $ drop ! $ move ! (1 ∷ 2 ∷ 0 ∷ []) $ by ! (ended 𝓤 H A W line.ended (line.clauses 𝓤 H A mem run) at u r (ws .1)
-        (LineTold document01 d o k y (ws .1 .1 .1 .1 .0) r) (id⊢ 𝓤 _) e)))))))))))
+        (LineReading document01 d o k y (ws .1 .1 .1 .1 .0) r) (id⊢ 𝓤 _) e)))))))))))
 
 pub line-spec : {M : Type 1} → stated.statement M
 unfolding code.routine

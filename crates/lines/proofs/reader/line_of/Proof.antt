@@ -36,7 +36,7 @@ use denote.Triple.Walked.{says, needs}
 use Rattle.text.proofs.Step as S
 use Rattle.text.proofs.Step.Laws as S′
 use Rattle.lines.specs.declared.reader.Reader.{Reader}
-use Rattle.lines.proofs.ReaderLaws.{LineTold}
+use Rattle.lines.proofs.ReaderLaws.{LineReading}
 use Rattle.lines.proofs.WalkLaws.{Of, Walk, calls, ended, framed, met}
 use Rattle.lines.proofs.reader.Reader as T
 use Rattle.lines.proofs.reader.Reader.Laws as T′
@@ -161,7 +161,7 @@ module _ {M : Type 1} (𝓤 : URA M) (H : Heap 𝓤) (A : Atoms 𝓤) (W : Given
         (from ! (stop !)) (init ! 6 refl (tt, (tt, (record { fits = py .0 .1 .0 }, tt)))) $
         -- `line`
         move ! (3 ∷ 5 ∷ []) $ join ! $ move ! (1 ∷ 2 ∷ 0 ∷ []) $ use3 W (raw (Line 𝓤 H A mem run .pre (to-line r₁ u₁))) (goes-line within r₁ u₁) $
-        calls ! fm line.ended (line.clauses 𝓤 H A mem run) known-line (to-line r₁ u₁) (λ r ws. LineTold document01 r₁ o k y (ws .1 .1 .1 .0) r) (λ r ws. id⊢ 𝓤 _)
+        calls ! fm line.ended (line.clauses 𝓤 H A mem run) known-line (to-line r₁ u₁) (λ r ws. LineReading document01 r₁ o k y (ws .1 .1 .1 .0) r) (λ r ws. id⊢ 𝓤 _)
         (and-then ! (load ! (from ! (stop !)) (look ! 9 refl))
         (and-then ! (load ! (from ! (stop !)) (look ! 15 refl)) (and-then ! (load ! (from ! (stop !)) (look ! 13 refl)) (and-then ! (load ! (from ! (stop !)) (look ! 3 refl)) (no-more !)))))
         (λ u r ws e is.
@@ -172,8 +172,8 @@ module _ {M : Type 1} (𝓤 : URA M) (H : Heap 𝓤) (A : Atoms 𝓤) (W : Given
         move ! (23 ∷ 24 ∷ []) $ free1 ! $ move ! (21 ∷ 22 ∷ []) $ free1 ! $ move ! (19 ∷ 20 ∷ []) $ free1 ! $ move ! (17 ∷ 18 ∷ []) $ free1 ! $ move ! (15 ∷ 16 ∷ []) $ free1 ! $ move !
         (13 ∷ 14 ∷ []) $ free1 ! $ move ! (11 ∷ 12 ∷ []) $ free1 ! $ move ! (9 ∷ 10 ∷ []) $ free1 ! $ move ! (7 ∷ 8 ∷ []) $ free1 ! $ move ! (5 ∷ 6 ∷ []) $ free1 ! $ free0 ! $
         move ! (2 ∷ []) $ nothing ! $ fjoin ! $ keep ! (1 ∷ 2 ∷ 0 ∷ []) $
-        by ! (ended 𝓤 H A W line-of.ended (line-of.clauses 𝓤 H A mem run) at u r (tt, ws) (LineTold document01 (record { text = s; at = n }) o k y (ws .1 .1 .1 .0) r) (id⊢ 𝓤 _)
-        (subst (λ (x : Reader). LineTold document01 x o k y (ws .1 .1 .1 .0) r) (λ i. record { text = (e₁ .0 ∙ e₀ .0) i; at = e₁ .1 i }) e)))))))))))))))
+        by ! (ended 𝓤 H A W line-of.ended (line-of.clauses 𝓤 H A mem run) at u r (tt, ws) (LineReading document01 (record { text = s; at = n }) o k y (ws .1 .1 .1 .0) r) (id⊢ 𝓤 _)
+        (subst (λ (x : Reader). LineReading document01 x o k y (ws .1 .1 .1 .0) r) (λ i. record { text = (e₁ .0 ∙ e₀ .0) i; at = e₁ .1 i }) e)))))))))))))))
 
 pub line-of-spec : {M : Type 1} → stated.statement M
 unfolding code.routine

@@ -15,7 +15,7 @@ returns c =
     let args = c .before .before .before .before .before .before .before .before .before .before .before .before .before .before .before .before .before .before .before .args in
     let enum-told = c .before .before .before .before .before .before .before .before .before .before .before .enum-told in
     let plan-in = c .before .before .before .before .before .before .before .plan-in in
-    let x = jobFrom (args .rooms) (length (args .mem .now)) (length (args .links .now)) (headOf (args .head)) (drop (args .at) (args .job .now)) in
+    let x = jobFrom (args .capacity) (length (args .mem .now)) (length (args .links .now)) (headOf (args .head)) (drop (args .at) (args .job .now)) in
     rw (enum-told .given .1) (answered-wrote (planOf x (length (args .out .now))) _ _ (plan-in .result) (c .written .result) (plan-in .ensures) (c .written .ensures))
 
 returns-2 : tie.Need-returns-2
@@ -29,7 +29,7 @@ returns-3 c =
     let args = c .before .before .before .before .before .before .before .before .before .before .before .before .before .before .before .before .before .before .before .args in
     let enum-told3 = c .before .before .before .before .before .before .before .before .before .before .before .enum-told3 in
     let replay-in = c .before .before .before .before .before .before .before .replay-in in
-    let x = bothFrom (args .rooms) (length (args .mem .now)) (length (args .links .now)) (headOf (args .head)) (drop (args .at) (args .job .now)) (args .plan .now) in
+    let x = bothFrom (args .capacity) (length (args .mem .now)) (length (args .links .now)) (headOf (args .head)) (drop (args .at) (args .job .now)) (args .plan .now) in
     rw (enum-told3 .given .1)
     (answered-wrote (replayBoth x (args .stops .now) (length (args .out .now))) _ _ (replay-in .result) (c .written2 .result) (replay-in .ensures) (c .written2 .ensures))
 

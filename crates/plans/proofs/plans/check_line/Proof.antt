@@ -1,6 +1,6 @@
 use Rattle.lists.proofs.Prelude.{sym, _∙_, _-_, arith, needs}
 use Rattle.jobs.proofs.Held.{sizes}
-use Rattle.plans.proofs.PlanLaws.{strays-not, line-strays, line-descends, line-again, line-unfed, line-good}
+use Rattle.plans.proofs.PlanLaws.{strays-not, line-strays, line-descends, line-again, predecessor-missing, line-good}
 use Rattle.plans.proofs.plans.check_line.Statement.{statement}
 use Rattle.plans.proofs.plans.check_line.Tie as tie
 
@@ -33,8 +33,8 @@ returns-3 c =
     let g = sym (c .before .before .before .if2 .left) ∙ c .before .before .before .before .descends .ensures in
     (λ k s. line-again (args .mem .now) (args .a) k s f g (λ z. c .if3 .taken (c .before .line-of .ensures ∙ z)), λ z. absurd (omega arith))
 
-fed-requires : tie.Need-fed-requires
-fed-requires c κs =
+predecessors-placed-requires : tie.Need-predecessors-placed-requires
+predecessors-placed-requires c κs =
     let pre = c .before .before .before .before .before .before .before .before .before .pre in
     let args = c .before .before .before .before .before .before .before .before .before .args in (
       pre .0,
@@ -51,7 +51,7 @@ returns-4 c =
     let h = strays-not (args .mem .now) (args .a) (sym (strays .ensures) ∙ if1 .left) in
     let f = sym (if1 .left) ∙ strays .ensures in let g = sym (c .before .before .before .before .before .if2 .left) ∙ c .before .before .before .before .before .before .descends .ensures in
     let z = sym (c .before .before .before .line-of .ensures) ∙ c .before .before .if3 .left in
-    (λ k s. line-good (args .mem .now) (args .a) k s f g z (sym (c .if4 .taken) ∙ c .before .fed .ensures), λ _. (h .0, z, h .1))
+    (λ k s. line-good (args .mem .now) (args .a) k s f g z (sym (c .if4 .taken) ∙ c .before .predecessors-placed .ensures), λ _. (h .0, z, h .1))
 
 returns-5 : tie.Need-returns-5
 returns-5 c =
@@ -59,9 +59,9 @@ returns-5 c =
     let f = sym (c .before .before .before .before .before .before .before .if1 .left) ∙ c .before .before .before .before .before .before .before .before .strays .ensures in
     let g = sym (c .before .before .before .before .before .if2 .left) ∙ c .before .before .before .before .before .before .descends .ensures in
     let z = sym (c .before .before .before .line-of .ensures) ∙ c .before .before .if3 .left in
-    (λ k s. line-unfed (args .mem .now) (args .a) k s f g z (sym (c .if4 .left) ∙ c .before .fed .ensures), λ z. absurd (omega arith))
+    (λ k s. predecessor-missing (args .mem .now) (args .a) k s f g z (sym (c .if4 .left) ∙ c .before .predecessors-placed .ensures), λ z. absurd (omega arith))
 
 pub check-line-spec : {M : Type 1} → statement M
 check-line-spec = tie.close (tie.spec
     (λ c κs. ((_, c .before .before .pre .0), c .before .before .pre .2)) returns descends-requires returns-2 (λ c. search needs) (λ c. search needs)
-    line-of-requires returns-3 fed-requires returns-4 returns-5)
+    line-of-requires returns-3 predecessors-placed-requires returns-4 returns-5)

@@ -7,10 +7,11 @@ use Rattle.plans.proofs.plans.clear_lines.Statement.{statement}
 use Rattle.plans.proofs.plans.clear_lines.Tie as tie
 
 abbrev Inv-loop : tie.InvT-loop
-Inv-loop mem₀ rooms line n t₀ mem t = (t ≤ 8 * rooms) × (length mem ≡ length mem₀) × KeptOutside (lineAt rooms) (blockedAt rooms) mem₀ mem × ((u : ℕ) → u < t → nth mem (lineAt rooms + u) ≡ 0)
+Inv-loop mem₀ capacity line n t₀ mem t = (t ≤ 8 * capacity) × (length mem ≡ length mem₀) × KeptOutside (lineAt capacity) (blockedAt capacity) mem₀ mem
+    × ((u : ℕ) → u < t → nth mem (lineAt capacity + u) ≡ 0)
 
 abbrev μ-loop : tie.MeasureT-loop
-μ-loop mem₀ rooms line n t₀ mem t = 8 * rooms - t
+μ-loop mem₀ capacity line n t₀ mem t = 8 * capacity - t
 
 loop-again : tie.Need-loop-again Inv-loop μ-loop
 loop-again c =

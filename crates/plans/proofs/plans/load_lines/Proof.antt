@@ -1,6 +1,6 @@
 -- The table of lines is cleared, the lines are read, and then M* and M are stored.
 use Rattle.lists.proofs.Prelude.{sym, ap, _∙_, _+_, arith, needs, length-set, nth}
-use Rattle.text.specs.Told.{told}
+use Rattle.text.specs.Meaning.{stepReading}
 use Rattle.heads.specs.Layout.{lineAt, largestDelayAt}
 use Rattle.jobs.proofs.Held.{sizes, links-kept}
 use Rattle.lists.proofs.Kept.{kept-then, kept-wider}
@@ -23,9 +23,9 @@ returns c =
     let clear-lines = c .before .before .before .before .before .before .before .before .before .before .clear-lines in
     let read-plan-lines = c .before .before .before .before .before .before .read-plan-lines in
     let mem = read-plan-lines .last .1 .1 .0 in
-    let ns = linesIn (args .rooms) (nth mem 3 + 1) (nth mem 0) mem in
-    let g = sym (ap (told (args .s .now) ns) (p .given .1)) ∙ read-plan-lines .ensures .1 ∙ cleared-lines (pre .0) (clear-lines .ensures .0) (args .s .now) (args .at) in (
-      kept-then (kept-wider (lineAt (args .rooms)) (largestDelayAt (args .rooms)) (clear-lines .ensures .0) (omega arith) (omega arith)) (read-plan-lines .ensures .0),
+    let ns = linesIn (args .capacity) (nth mem 3 + 1) (nth mem 0) mem in
+    let g = sym (ap (stepReading (args .s .now) ns) (p .given .1)) ∙ read-plan-lines .ensures .1 ∙ cleared-lines (pre .0) (clear-lines .ensures .0) (args .s .now) (args .at) in (
+      kept-then (kept-wider (lineAt (args .capacity)) (largestDelayAt (args .capacity)) (clear-lines .ensures .0) (omega arith) (omega arith)) (read-plan-lines .ensures .0),
       plan-left-over (args .mem .now) (args .s .now) _ _ (args .at) ns (p .given .0 .0) g _ mem (c .if1 .taken),
     )
 
@@ -61,14 +61,14 @@ returns-2 c =
     let clear-lines = c .before .before .before .before .before .before .before .before .before .before .clear-lines in
     let read-plan-lines = c .before .before .before .before .before .before .read-plan-lines in
     let mem = read-plan-lines .last .1 .1 .0 in
-    let best = args .best in
-    let worst = args .worst in
-    let ns = linesIn (args .rooms) (nth mem 3 + 1) (nth mem 0) mem in
-    let g = sym (ap (told (args .s .now) ns) (p .given .1)) ∙ read-plan-lines .ensures .1 ∙ cleared-lines (pre .0) (clear-lines .ensures .0) (args .s .now) (args .at) in
+    let lower = args .lower in
+    let upper = args .upper in
+    let ns = linesIn (args .capacity) (nth mem 3 + 1) (nth mem 0) mem in
+    let g = sym (ap (stepReading (args .s .now) ns) (p .given .1)) ∙ read-plan-lines .ensures .1 ∙ cleared-lines (pre .0) (clear-lines .ensures .0) (args .s .now) (args .at) in
     let t = read-plan-lines .ensures .2 (p .given .0 .0) (p .given .1) in (
-      kept-then (kept-wider (lineAt (args .rooms)) (largestDelayAt (args .rooms)) (clear-lines .ensures .0) (omega arith) (omega arith))
-          (kept-then (read-plan-lines .ensures .0) (kept-wider (lineAt (args .rooms)) (largestDelayAt (args .rooms)) (stored-kept mem best worst t) (omega arith) (omega arith))),
-      plan-good (args .mem .now) (args .s .now) best worst (args .at) ns (p .given .0 .0) g _ (c .if1 .left) (stored-plan mem best worst t) (stored-standing mem best worst t),
+      kept-then (kept-wider (lineAt (args .capacity)) (largestDelayAt (args .capacity)) (clear-lines .ensures .0) (omega arith) (omega arith))
+          (kept-then (read-plan-lines .ensures .0) (kept-wider (lineAt (args .capacity)) (largestDelayAt (args .capacity)) (stored-kept mem lower upper t) (omega arith) (omega arith))),
+      plan-good (args .mem .now) (args .s .now) lower upper (args .at) ns (p .given .0 .0) g _ (c .if1 .left) (stored-plan mem lower upper t) (stored-standing mem lower upper t),
     )
 
 returns-3 : tie.Need-returns-3
@@ -78,9 +78,9 @@ returns-3 c =
     let clear-lines = c .before .before .before .before .before .before .before .before .before .clear-lines in
     let read-plan-lines = c .before .before .before .before .before .read-plan-lines in
     let mem = read-plan-lines .last .1 .1 .0 in
-    let ns = linesIn (args .rooms) (nth mem 3 + 1) (nth mem 0) mem in
-    let g = sym (ap (told (args .s .now) ns) (c .before .x .given .1)) ∙ read-plan-lines .ensures .1 ∙ cleared-lines (pre .0) (clear-lines .ensures .0) (args .s .now) (args .at) in (
-      kept-then (kept-wider (lineAt (args .rooms)) (largestDelayAt (args .rooms)) (clear-lines .ensures .0) (omega arith) (omega arith)) (read-plan-lines .ensures .0),
+    let ns = linesIn (args .capacity) (nth mem 3 + 1) (nth mem 0) mem in
+    let g = sym (ap (stepReading (args .s .now) ns) (c .before .x .given .1)) ∙ read-plan-lines .ensures .1 ∙ cleared-lines (pre .0) (clear-lines .ensures .0) (args .s .now) (args .at) in (
+      kept-then (kept-wider (lineAt (args .capacity)) (largestDelayAt (args .capacity)) (clear-lines .ensures .0) (omega arith) (omega arith)) (read-plan-lines .ensures .0),
       plan-lines-bad (args .mem .now) (args .s .now) _ _ (args .at) _ mem _ g,
     )
 

@@ -1,6 +1,6 @@
 -- The head is read, then the lines.
 use Rattle.lists.proofs.Prelude.{_≡_, sym, ap, _∙_, arith, needs, take}
-use Rattle.text.specs.Told.{told}
+use Rattle.text.specs.Meaning.{stepReading}
 use Rattle.lines.proofs.LineLaws.{line-fits}
 use Rattle.lists.proofs.Kept.{kept-all}
 use Rattle.plans.proofs.PlanText.{plan-long, plan-head-bad, plan-head-no, plan-next}
@@ -22,7 +22,7 @@ returns-2 c =
     let s = args .s .now in
     let ys = read-line .last .1 .1 .1 .1 .0 in (
       kept-all,
-      plan-head-no d s (if1 .left) ys (p .given .0 .0) (sym (read-line .ensures .0 ∙ line-fits _ 5 _ 5 _ (omega arith)) ∙ ap (told s (take 5 ys)) (p .given .1)) _ d _
+      plan-head-no d s (if1 .left) ys (p .given .0 .0) (sym (read-line .ensures .0 ∙ line-fits _ 5 _ 5 _ (omega arith)) ∙ ap (stepReading s (take 5 ys)) (p .given .1)) _ d _
           (c .before .check-head .ensures) (c .if2 .taken),
     )
 
@@ -46,7 +46,7 @@ returns-3 c =
     let z : 0 ≡ check-head .result = omega (arith, if2 .left) in (
       load-lines .ensures .0,
       rw (plan-next d s (if1 .left) ys (p .given .0 .0)
-          (sym (read-line .ensures .0 ∙ line-fits _ 5 _ 5 _ (omega arith)) ∙ ap (told s (take 5 ys)) (p .given .1)) (z ∙ check-head .ensures)) (load-lines .ensures .1),
+          (sym (read-line .ensures .0 ∙ line-fits _ 5 _ 5 _ (omega arith)) ∙ ap (stepReading s (take 5 ys)) (p .given .1)) (z ∙ check-head .ensures)) (load-lines .ensures .1),
     )
 
 returns-4 : tie.Need-returns-4
@@ -57,7 +57,7 @@ returns-4 c =
     let d = args .mem .now in
     let s = args .s .now in
     let ys = read-line .last .1 .1 .1 .1 .0 in
-    (kept-all, plan-head-bad d s (if1 .left) _ d _ (sym (read-line .ensures .0 ∙ line-fits _ 5 _ 5 _ (omega arith)) ∙ ap (told s (take 5 ys)) (c .before .x .given .1)))
+    (kept-all, plan-head-bad d s (if1 .left) _ d _ (sym (read-line .ensures .0 ∙ line-fits _ 5 _ 5 _ (omega arith)) ∙ ap (stepReading s (take 5 ys)) (c .before .x .given .1)))
 
 pub load-plan-spec : {M : Type 1} → statement M
 load-plan-spec = tie.close (tie.spec

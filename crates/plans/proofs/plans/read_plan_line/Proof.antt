@@ -1,6 +1,6 @@
 -- The line is read, then its rule is tried; its task gets its place in the table.
 use Rattle.lists.proofs.Prelude.{sym, ap, _∙_, _-_, arith, needs, take}
-use Rattle.text.specs.Told.{told}
+use Rattle.text.specs.Meaning.{stepReading}
 use Rattle.lines.proofs.LineLaws.{line-fits}
 use Rattle.jobs.proofs.Held.{sizes}
 use Rattle.plans.proofs.PlanReading.{row-within, row-numbers, line-room, line-standing, line-links, line-place, read-bad, read-no, read-yes}
@@ -44,7 +44,7 @@ returns c =
     let (u, g, h) = c .before .before .before .before .before .before .before .before .before .before .before .before .before .before .before .before .before .pre in
     let z = c .before .before .before .before .before .before .before .before .before .before .before .row-at .ensures in let q = line-cells .ensures in let n = line-cells .result in
     let ys = read-line .last .1 .1 .1 .1 .0 in let l = read-line .kept .1 .1 .1 .1 .0 in
-    let e = sym (read-line .ensures .0 ∙ line-fits _ _ _ _ _ (line-room u h _ n z q ys l)) ∙ ap (told (a .s .now) (take n ys)) (p .given .1) in
+    let e = sym (read-line .ensures .0 ∙ line-fits _ _ _ _ _ (line-room u h _ n z q ys l)) ∙ ap (stepReading (a .s .now) (take n ys)) (p .given .1) in
     read-no u h _ n z q ys l (a .s .now) (a .at) (p .given .0 .0) e _ (c .before .check-line .ensures .0 (a .k) (line-standing u h _ n z q ys l)) (c .if1 .taken)
 
 put-line-requires : tie.Need-put-line-requires
@@ -70,7 +70,7 @@ returns-2 c =
     let z = c .before .before .before .before .before .before .before .before .before .before .before .before .before .before .before .before .row-at .ensures in
     let q = line-cells .ensures in let n = line-cells .result in
     let ys = read-line .last .1 .1 .1 .1 .0 in let l = read-line .kept .1 .1 .1 .1 .0 in
-    let e = sym (read-line .ensures .0 ∙ line-fits _ _ _ _ _ (line-room u h _ n z q ys l)) ∙ ap (told (a .s .now) (take n ys)) (p .given .1) in
+    let e = sym (read-line .ensures .0 ∙ line-fits _ _ _ _ _ (line-room u h _ n z q ys l)) ∙ ap (stepReading (a .s .now) (take n ys)) (p .given .1) in
     rw (c .before .before .put-line .ensures)
     (read-yes u h _ n z q ys l (a .s .now) (a .at) (p .given .0 .0) e _ (check-line .ensures .0 (a .k) (line-standing u h _ n z q ys l)) (if1 .left)
     (check-line .ensures .1 (omega (arith, if1 .left))))
@@ -83,7 +83,7 @@ returns-3 c =
     let (u, g, h) = c .before .before .before .before .before .before .before .before .before .before .before .before .before .before .pre in
     let z = c .before .before .before .before .before .before .before .before .row-at .ensures in let q = line-cells .ensures in let n = line-cells .result in
     let ys = read-line .last .1 .1 .1 .1 .0 in let l = read-line .kept .1 .1 .1 .1 .0 in
-    let e = sym (read-line .ensures .0 ∙ line-fits _ _ _ _ _ (line-room u h _ n z q ys l)) ∙ ap (told (a .s .now) (take n ys)) (c .before .x .given .1) in
+    let e = sym (read-line .ensures .0 ∙ line-fits _ _ _ _ _ (line-room u h _ n z q ys l)) ∙ ap (stepReading (a .s .now) (take n ys)) (c .before .x .given .1) in
     read-bad u h _ n z q ys l (a .s .now) (a .at) _ e
 
 pub read-plan-line-spec : {M : Type 1} → statement M

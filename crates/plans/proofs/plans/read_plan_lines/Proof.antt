@@ -6,10 +6,10 @@ use Rattle.plans.proofs.plans.read_plan_lines.Statement.{statement}
 use Rattle.plans.proofs.plans.read_plan_lines.Tie as tie
 
 abbrev Inv-loop : tie.InvT-loop
-Inv-loop s at mem₀ links rooms v p₀ k₀ mem p k = (k ≤ v) × LinesUpTo rooms s at mem₀ k p mem
+Inv-loop s at mem₀ links capacity v p₀ k₀ mem p k = (k ≤ v) × LinesUpTo capacity s at mem₀ k p mem
 
 abbrev μ-loop : tie.MeasureT-loop
-μ-loop s at mem₀ links rooms v p₀ k₀ mem p k = v - k
+μ-loop s at mem₀ links capacity v p₀ k₀ mem p k = v - k
 
 loop-holds : tie.Need-loop-holds Inv-loop μ-loop
 loop-holds c =

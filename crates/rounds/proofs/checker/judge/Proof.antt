@@ -13,7 +13,7 @@ returns-2 c =
     let args = c .before .before .before .before .before .before .args in
     let doubled = c .before .before .before .doubled in
     let i = rw (c .before .t .given .1) at (doubled .ensures) in
-    answer-doubled (jobIn (args .mem .now)) (planIn (args .rooms) (args .mem .now)) _ (i .0)
+    answer-doubled (jobIn (args .mem .now)) (planIn (args .capacity) (args .mem .now)) _ (i .0)
 
 pub judge-spec : {M : Type 1} → statement M
 judge-spec = tie.close (tie.spec

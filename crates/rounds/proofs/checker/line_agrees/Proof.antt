@@ -9,10 +9,10 @@ use Rattle.rounds.proofs.checker.line_agrees.Statement.{statement}
 use Rattle.rounds.proofs.checker.line_agrees.Tie as tie
 
 abbrev Inv-loop : tie.InvT-loop
-Inv-loop mem links rooms delays k w a t f c₀ c = (c ≤ w) × (nth mem 3 ≤ 7) × AgreesTo rooms k c mem
+Inv-loop mem links capacity delays k w a t f c₀ c = (c ≤ w) × (nth mem 3 ≤ 7) × AgreesTo capacity k c mem
 
 abbrev μ-loop : tie.MeasureT-loop
-μ-loop mem links rooms delays k w a t f c₀ c = w - c
+μ-loop mem links capacity delays k w a t f c₀ c = w - c
 
 row-at-requires : tie.Need-row-at-requires Inv-loop μ-loop
 row-at-requires c κs =
@@ -39,7 +39,7 @@ finishes-requires c κs =
 loop-holds : tie.Need-loop-holds Inv-loop μ-loop
 loop-holds c =
     let args = c .before .before .before .before .before .before .args in
-    (omega arith, sizes (c .before .before .before .before .before .before .pre .0 .standing .job) .losses-most, agrees-none (args .rooms) (args .k) (args .mem .now))
+    (omega arith, sizes (c .before .before .before .before .before .before .pre .0 .standing .job) .losses-most, agrees-none (args .capacity) (args .k) (args .mem .now))
 
 replica-at-requires : tie.Need-replica-at-requires Inv-loop μ-loop
 replica-at-requires c κs =
@@ -136,7 +136,7 @@ returns-3 c =
     let args = c .before .before .before .before .before .before .before .before .args in
     let pre = c .before .before .before .before .before .before .before .before .pre in
     let e : loop .c ≡ nth (args .mem .now) 3 + 1 = omega arith in
-    let a : LineAgrees (args .rooms) (args .k) (args .mem .now) = rw e at (loop .inv .2) in
+    let a : LineAgrees (args .capacity) (args .k) (args .mem .now) = rw e at (loop .inv .2) in
     (λ z. (a, short-next (pre .0) (args .k) (pre .2) (pre .3) a), λ b. refl)
 
 pub line-agrees-spec : {M : Type 1} → statement M

@@ -9,11 +9,11 @@ use Rattle.rounds.proofs.checker.ticks_agree.Statement.{statement}
 use Rattle.rounds.proofs.checker.ticks_agree.Tie as tie
 
 abbrev Inv-loop : tie.InvT-loop
-Inv-loop mem links rooms v delays clocks₀ k₀ clocks k =
-    (k ≤ v) × ((i : ℕ) → i < k → LineAgrees rooms i mem) × ShortTo rooms k mem × ClocksAfter rooms k mem clocks
+Inv-loop mem links capacity v delays clocks₀ k₀ clocks k =
+    (k ≤ v) × ((i : ℕ) → i < k → LineAgrees capacity i mem) × ShortTo capacity k mem × ClocksAfter capacity k mem clocks
 
 abbrev μ-loop : tie.MeasureT-loop
-μ-loop mem links rooms v delays clocks₀ k₀ clocks k = v - k
+μ-loop mem links capacity v delays clocks₀ k₀ clocks k = v - k
 
 loop-holds : tie.Need-loop-holds Inv-loop μ-loop
 loop-holds c = (
@@ -53,8 +53,8 @@ loop-again : tie.Need-loop-again Inv-loop μ-loop
 loop-again c =
     let (a, s) = c .before .before .before .line-agrees .ensures .0 (c .before .before .if1 .taken) in
     let x = c .before .before .before .before .before .before .before .before .before .before .before .before .args in let l = c .before .before .before .before .before .before .loop in
-    let r = clocks-line (x .rooms) (l .k) (x .mem .now) (c .advance-line .result) (rw (c .before .row-at .ensures) at (c .advance-line .ensures _ _ (l .inv .3))) in
-    (omega arith, agreed-next (x .rooms) (x .mem .now) (l .k) a (l .inv .1), s, r)
+    let r = clocks-line (x .capacity) (l .k) (x .mem .now) (c .advance-line .result) (rw (c .before .row-at .ensures) at (c .advance-line .ensures _ _ (l .inv .3))) in
+    (omega arith, agreed-next (x .capacity) (x .mem .now) (l .k) a (l .inv .1), s, r)
 
 returns-2 : tie.Need-returns-2 Inv-loop μ-loop
 returns-2 c =

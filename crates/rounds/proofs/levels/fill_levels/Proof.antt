@@ -9,16 +9,16 @@ use Rattle.rounds.proofs.levels.fill_levels.Statement.{statement}
 use Rattle.rounds.proofs.levels.fill_levels.Tie as tie
 
 abbrev Inv-loop : tie.InvT-loop
-Inv-loop mem₀ links rooms level v total i₀ mem i = (i ≤ v) × (length mem ≡ memorySize rooms) × Filling rooms (drop (orderAt v 0) links) mem₀ mem i
+Inv-loop mem₀ links capacity level v total i₀ mem i = (i ≤ v) × (length mem ≡ memorySize capacity) × Filling capacity (drop (orderAt v 0) links) mem₀ mem i
 
 abbrev μ-loop : tie.MeasureT-loop
-μ-loop mem₀ links rooms level v total i₀ mem i = i
+μ-loop mem₀ links capacity level v total i₀ mem i = i
 
 -- The next task.
 step : (c : tie.After-task-at Inv-loop μ-loop)
     → let a = c .before .before .before .before .before .before .before .before .args in
     let l = c .before .before .loop in
-    FillStep (a .rooms) (drop (orderAt (nth (a .mem .now) 0) 0) (a .links .now)) (a .mem .now) (l .mem) (a .links .now) (l .i) (c .task-at .result)
+    FillStep (a .capacity) (drop (orderAt (nth (a .mem .now) 0) 0) (a .links .now)) (a .mem .now) (l .mem) (a .links .now) (l .i) (c .task-at .result)
 step c =
     let pre = c .before .before .before .before .before .before .before .before .pre in
     let l = c .before .before .loop in

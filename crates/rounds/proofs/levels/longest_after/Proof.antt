@@ -12,15 +12,16 @@ use Rattle.rounds.proofs.levels.longest_after.Statement.{statement}
 use Rattle.rounds.proofs.levels.longest_after.Tie as tie
 
 abbrev Inv-loop : tie.InvT-loop
-Inv-loop mem links rooms t total level g x₀ k₀ k-end x k = Passed (g + k₀) (g + k-end) mem (outgoing (jobIn mem) t) (g + k) × (x ≤ 133_714_329_600) × Longest (sent rooms mem) (g + k₀) mem x (g + k)
+Inv-loop mem links capacity t total level g x₀ k₀ k-end x k = Passed (g + k₀) (g + k-end) mem (outgoing (jobIn mem) t) (g + k)
+    × (x ≤ 133_714_329_600) × Longest (sent capacity mem) (g + k₀) mem x (g + k)
 
 abbrev μ-loop : tie.MeasureT-loop
-μ-loop mem links rooms t total level g x₀ k₀ k-end x k = k-end - k
+μ-loop mem links capacity t total level g x₀ k₀ k-end x k = k-end - k
 
 -- The edge at hand.
 here : (c : tie.In-loop Inv-loop μ-loop)
     → let a = c .before .before .before .before .before .before .before .args in
-    Message (a .rooms) (a .total) (a .mem .now) (edgeIn (nth (a .mem .now) (c .before .before .before .before .edges-at .result + c .before .loop .k)))
+    Message (a .capacity) (a .total) (a .mem .now) (edgeIn (nth (a .mem .now) (c .before .before .before .before .edges-at .result + c .before .loop .k)))
 here c =
     let pre = c .before .before .before .before .before .before .before .pre in
     message (pre .0) (c .before .before .before .before .before .before .before .args .t) (pre .3) (pre .4) _ (pass-at (c .before .loop .inv .0) (omega (arith, c .loop-test .taken)))
@@ -57,8 +58,8 @@ loop-again c =
     let h = here (c .before .before .before .before .before) in
     let l = c .before .before .before .before .before .before .loop in
     let mem = args .mem .now in
-    let z = sent (args .rooms) mem (edgeIn (nth mem (edges-at .result + l .k))) in
-    let y : edge-volume .result * args .total + nth mem (levelAt (args .rooms) + edge-to .result) ≡ z = rw (edge-volume .ensures, edge-to .ensures .0) (h .sent-same) in
+    let z = sent (args .capacity) mem (edgeIn (nth mem (edges-at .result + l .k))) in
+    let y : edge-volume .result * args .total + nth mem (levelAt (args .capacity) + edge-to .result) ≡ z = rw (edge-volume .ensures, edge-to .ensures .0) (h .sent-same) in
     let x : c .if1 .x ≡ max z (l .x) = ⊎-elim (λ w. omega (arith, w, y)) (λ w. omega (arith, w, y)) (c .if1 .came) in (
       pass-on (l .inv .0) (omega (arith, loop-test .taken)) _ (omega arith),
       omega (arith, x, h .little, h .level, h .sent-same, l .inv .1),

@@ -8,11 +8,11 @@ use Rattle.rounds.proofs.plan_text.render.Statement.{statement}
 use Rattle.rounds.proofs.plan_text.render.Tie as tie
 
 abbrev Inv-loop : tie.InvT-loop
-Inv-loop out₀ mem rooms v at₀ k₀ out at k =
-    (k ≤ v) × (at ≤ 60 + 277 * k) × ((d : List ℕ) → Rendered (rowsAfterHead rooms 0 mem) d out₀ at₀ → Rendered (rowsAfterHead rooms k mem) d out at)
+Inv-loop out₀ mem capacity v at₀ k₀ out at k =
+    (k ≤ v) × (at ≤ 60 + 277 * k) × ((d : List ℕ) → Rendered (rowsAfterHead capacity 0 mem) d out₀ at₀ → Rendered (rowsAfterHead capacity k mem) d out at)
 
 abbrev μ-loop : tie.MeasureT-loop
-μ-loop out₀ mem rooms v at₀ k₀ out at k =
+μ-loop out₀ mem capacity v at₀ k₀ out at k =
     v - k
 
 shared-slice-read-v : tie.Need-shared-slice-read-v Inv-loop μ-loop
@@ -57,7 +57,7 @@ loop-again c =
     let loop-test = c .before .before .before .before .loop-test in
     let row-line = c .before .before .row-line in
     let pre = c .before .before .before .before .before .before .before .before .before .before .before .before .before .before .before .before .pre in
-    let t = rowLine (args .rooms) (loop .k) (args .mem .now) in (
+    let t = rowLine (args .capacity) (loop .k) (args .mem .now) in (
       omega (arith, loop-test .taken),
       omega (arith, loop .inv .1, row-line .ensures .0 .1),
       λ d r. rw (rows-more (sizes pre) (loop .k) (loop-test .taken))
@@ -81,7 +81,7 @@ returns c =
     let line = c .before .before .before .before .line in
     let e : c .before .loop .k ≡ nth (args .mem .now) 0 = omega (arith, c .before .loop .inv .0, c .loop-test .left) in
     let h = head-rendered (sizes pre) (plan-head .result) (args .out .now) (line .last .0) (line .result) (plan-head .ensures) (line .ensures .0) (line .ensures .1) in
-    rw (plan-text (args .rooms) (args .mem .now)) (rw e at (c .before .loop .inv .2 (args .out .now) (h .1)))
+    rw (plan-text (args .capacity) (args .mem .now)) (rw e at (c .before .loop .inv .2 (args .out .now) (h .1)))
 
 pub render-spec : {M : Type 1} → statement M
 render-spec = tie.close (tie.spec

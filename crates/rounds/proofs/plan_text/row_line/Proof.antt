@@ -43,8 +43,8 @@ returns c =
     let place-in = c .before .before .before .before .before .before .place-in in
     let (e, m) = row-counted (sizes (pre .0)) (args .k) (line .result) (line .ensures .0) in (
       (omega (arith, e), omega (arith, m)),
-      lent-written (args .out .now) (args .at) (place-in .result) (rowLine (args .rooms) (args .k) (args .mem .now)) (line .last .0) (place-in .ensures)
-          (rw (row-part (args .rooms) (args .k) (args .mem .now)) at (line .ensures .1)),
+      lent-written (args .out .now) (args .at) (place-in .result) (rowLine (args .capacity) (args .k) (args .mem .now)) (line .last .0) (place-in .ensures)
+          (rw (row-part (args .capacity) (args .k) (args .mem .now)) at (line .ensures .1)),
     )
 
 pub row-line-spec : {M : Type 1} → statement M

@@ -13,11 +13,11 @@ use Rattle.rounds.proofs.planner.clear_tasks.Statement.{statement}
 use Rattle.rounds.proofs.planner.clear_tasks.Tie as tie
 
 abbrev Inv-loop : tie.InvT-loop
-Inv-loop mem₀ links rooms level line blocked priorities v t₀ mem t = (t ≤ v) × ((v ≤ 255) × (v ≤ 8 * rooms)) × (length mem ≡ memorySize rooms)
-    × KeptOutside (lineAt rooms) (rowAt rooms 0) mem₀ mem × Cleared rooms t (jobIn mem₀) mem
+Inv-loop mem₀ links capacity level line blocked priorities v t₀ mem t = (t ≤ v) × ((v ≤ 255) × (v ≤ 8 * capacity)) × (length mem ≡ memorySize capacity)
+    × KeptOutside (lineAt capacity) (rowAt capacity 0) mem₀ mem × Cleared capacity t (jobIn mem₀) mem
 
 abbrev μ-loop : tie.MeasureT-loop
-μ-loop mem₀ links rooms level line blocked priorities v t₀ mem t = v - t
+μ-loop mem₀ links capacity level line blocked priorities v t₀ mem t = v - t
 
 sub-mem : tie.Need-sub-mem Inv-loop μ-loop
 sub-mem c =
@@ -30,7 +30,7 @@ loop-again : tie.Need-loop-again Inv-loop μ-loop
 loop-again c =
     let start = c .before .before .before .before .before .before .before .before in
     let l = c .before .before .before .before .loop in
-    let h : l .t < 8 * start .args .rooms = omega arith in
+    let h : l .t < 8 * start .args .capacity = omega arith in
     let r = enters-run (start .pre .1) (c .before .before .before .loop-test .taken) (c .before .before .entering .ensures) in (
       search needs,
       l .inv .1,

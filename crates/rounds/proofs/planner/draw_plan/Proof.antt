@@ -9,19 +9,19 @@ use Rattle.rounds.specs.Clocks.{earliesIn, latesIn, ClocksHeld}
 use Rattle.jobs.proofs.Held.{processors-in, sizes, links-kept}
 use Rattle.lists.proofs.Kept.{same-before, kept-all, kept-then, kept-wider}
 use Rattle.rounds.proofs.ShortLaws.{delays-kept}
-use Rattle.rounds.proofs.FreeLaws.{free-few, last-best, free-out}
+use Rattle.rounds.proofs.FreeLaws.{free-few, last-critical, free-out}
 use Rattle.rounds.proofs.Drawing.{drawn-choice, clocks-choice, listed-some}
 use Rattle.rounds.proofs.ClockLaws.{outset-clocks}
 use Rattle.rounds.proofs.planner.draw_plan.Statement.{statement}
 use Rattle.rounds.proofs.planner.draw_plan.Tie as tie
 
 abbrev Inv-loop : tie.InvT-loop
-Inv-loop mem₀ links rooms v delays clocks₀ free₀ n₀ k₀ mem clocks free n k =
-    (k ≤ v) × (v ≡ nth mem 0) × KeptOutside (levelAt rooms) (memorySize rooms) mem₀ mem × Drawn rooms k mem × Ranked rooms [] mem
-    × ClocksHeld clocks (jobIn mem) (earliesIn rooms k mem) (latesIn rooms k mem) × FreeList rooms free n mem
+Inv-loop mem₀ links capacity v delays clocks₀ free₀ n₀ k₀ mem clocks free n k =
+    (k ≤ v) × (v ≡ nth mem 0) × KeptOutside (levelAt capacity) (memorySize capacity) mem₀ mem × Drawn capacity k mem × Ranked capacity [] mem
+    × ClocksHeld clocks (jobIn mem) (earliesIn capacity k mem) (latesIn capacity k mem) × FreeList capacity free n mem
 
 abbrev μ-loop : tie.MeasureT-loop
-μ-loop mem₀ links rooms v delays clocks₀ free₀ n₀ k₀ mem clocks free n k = v - k
+μ-loop mem₀ links capacity v delays clocks₀ free₀ n₀ k₀ mem clocks free n k = v - k
 
 -- Some task is free while lines are left.
 some : (c : tie.In-loop Inv-loop μ-loop) → 0 < c .before .loop .n
@@ -76,7 +76,7 @@ place-task-requires c κs =
       l .inv .4,
       omega
           (arith, c .before .before .loop-test .taken, l .inv .1),
-      last-best (l .inv .6) (some (c .before .before)),
+      last-critical (l .inv .6) (some (c .before .before)),
       l .inv .5,
       links-here (c .before .before),
     )

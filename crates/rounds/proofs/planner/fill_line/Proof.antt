@@ -10,11 +10,11 @@ use Rattle.rounds.proofs.planner.fill_line.Statement.{statement}
 use Rattle.rounds.proofs.planner.fill_line.Tie as tie
 
 abbrev Inv-loop : tie.InvT-loop
-Inv-loop mem₀ rooms k t early late m w a c₀ p₀ mem c p =
-    (p ≤ m) × (a ≡ rowAt rooms k) × (c ≡ length (keep (isChosen early m w) (below p))) × Begun rooms k t (keep (isChosen early m w) (below p)) mem₀ mem
+Inv-loop mem₀ capacity k t early late m w a c₀ p₀ mem c p =
+    (p ≤ m) × (a ≡ rowAt capacity k) × (c ≡ length (keep (isChosen early m w) (below p))) × Begun capacity k t (keep (isChosen early m w) (below p)) mem₀ mem
 
 abbrev μ-loop : tie.MeasureT-loop
-μ-loop mem₀ rooms k t early late m w a c₀ p₀ mem c p = m - p
+μ-loop mem₀ capacity k t early late m w a c₀ p₀ mem c p = m - p
 
 row-at-requires : tie.Need-row-at-requires Inv-loop μ-loop
 row-at-requires c κs =
@@ -62,7 +62,7 @@ loop-again c =
     let h = c .before .before .before .loop-test .taken in let d = a .mem .now in
     let e = sym (c .before .is-chosen .ensures ∙ among (nth d 1) (l .p) (isChosen (a .t5) (nth d 1) (nth d 3 + 1) (l .p)) (sizes (pre .drawn .standing .job) .processors-most) h) in
     let ps = keep (isChosen (a .t5) (nth d 1) (nth d 3 + 1)) (below (l .p + 1)) in
-    let b : (c .if1 .c ≡ length ps) × Begun (a .rooms) (a .k) (a .t) ps d (c .if1 .mem) =
+    let b : (c .if1 .c ≡ length ps) × Begun (a .capacity) (a .k) (a .t) ps d (c .if1 .mem) =
     ⊎-elim
     (λ w. rw (w .5, w .6) (take-box (pre) h (l .inv .2) (l .inv .3) (e ∙ w .0 .taken) (rw (l .inv .1) at (w .2 .ensures))))
     (λ w. rw (w .1, w .2) (pass-box (pre) h (l .inv .2) (l .inv .3) (e ∙ w .0 .left)))

@@ -2,16 +2,16 @@
 use Rattle.lists.proofs.Prelude.{_≡_, _∙_, _<_, _-_, _+_, _*_, arith, length, set, length-set}
 use Rattle.heads.specs.Layout.{memorySize, lineAt, rowAt}
 use Rattle.jobs.proofs.Held.{sizes}
-use Rattle.rounds.proofs.Placed.{fed-all}
-use Rattle.rounds.proofs.Drawing.{task-below, task-fed}
+use Rattle.rounds.proofs.Placed.{predecessors-all}
+use Rattle.rounds.proofs.Drawing.{task-below, task-predecessors}
 use Rattle.rounds.proofs.ClockLaws.{line-timed, clocks-line}
 use Rattle.rounds.proofs.NextLine.{laid, laid-kept, tried, taken, drawn-next, ranked-next, clocks-kept}
-use Rattle.rounds.proofs.Outcomes.{clocks-short, fed-short}
+use Rattle.rounds.proofs.Outcomes.{clocks-short, predecessors-short}
 use Rattle.rounds.proofs.planner.place_task.Statement.{statement}
 use Rattle.rounds.proofs.planner.place_task.Tie as tie
 
 -- The line and the task are within their tables.
-small : (c : tie.Start) → (c .args .k < 8 * c .args .rooms) × (c .args .t < 8 * c .args .rooms) × (length (c .args .mem .now) ≡ memorySize (c .args .rooms))
+small : (c : tie.Start) → (c .args .k < 8 * c .args .capacity) × (c .args .t < 8 * c .args .capacity) × (length (c .args .mem .now) ≡ memorySize (c .args .capacity))
 small c =
     let p = c .pre in
     let w = sizes (p .1 .standing .job) in
@@ -24,7 +24,7 @@ finishes-requires c κs =
       (args .k, p .1 .standing),
       p .0,
       task-below (p .1) (p .3) (p .2) t (p .4),
-      fed-short (p .1 .standing) (omega arith) (p .1 .ticks) t (fed-all (p .1 .standing) t (task-fed (p .1) (p .3) (p .2) t (p .4))),
+      predecessors-short (p .1 .standing) (omega arith) (p .1 .ticks) t (predecessors-all (p .1 .standing) t (task-predecessors (p .1) (p .3) (p .2) t (p .4))),
       clocks-short (p .1 .standing) (omega arith) (p .1 .ticks) (p .5),
       p .6,
     )
@@ -73,10 +73,10 @@ returns c =
     let p = c .before .before .before .before .before .before .before .before .before .before .before .before .before .before .before .before .before .pre in let a = args in
     let t = args .t in let d = fill-line .last .0 in let b = fill-line .ensures in
     let x = laid (p .1) (p .3) (p .2) t (p .4) d b in
-    let e = set (set d (rowAt (a .rooms) (a .k)) t) (lineAt (a .rooms) + t) (a .k + 1) in
+    let e = set (set d (rowAt (a .capacity) (a .k)) t) (lineAt (a .capacity) + t) (a .k + 1) in
     let q : put-line .last .0 ≡ e = put-line .ensures ∙ rw (row-at .ensures) in
     let v = rw (q, row-at .ensures) at (advance-line .ensures) in
-    let r = clocks-line (a .rooms) (a .k) e (advance-line .result) (v _ _ (clocks-kept (p .1) (p .3) (p .2) t (p .4) x (p .5))) in
+    let r = clocks-line (a .capacity) (a .k) e (advance-line .result) (v _ _ (clocks-kept (p .1) (p .3) (p .2) t (p .4) x (p .5))) in
     rw q
     (laid-kept (p .1) (p .3) (p .2) t (p .4) d b, drawn-next (p .1) (p .3) (p .2) t (p .4) x, ranked-next (p .1) (p .3) (p .2) t (p .4) x, r, taken (p .1) (p .3) (p .2) t (p .4) x)
 

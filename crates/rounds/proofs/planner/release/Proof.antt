@@ -10,11 +10,11 @@ use Rattle.rounds.proofs.planner.release.Statement.{statement}
 use Rattle.rounds.proofs.planner.release.Tie as tie
 
 abbrev Inv-loop : tie.InvT-loop
-Inv-loop mem₀ links rooms t free₀ count g n₀ start k₀ mem free n k = (Passed (g + start) (g + k₀) mem₀ (outgoing (jobIn mem₀) t) (g + k) × (g + k₀ ≤ edgeAt mem₀ (nth mem₀ 2)))
-    × ((i : ℕ) × Drawn rooms i mem₀ × Releasing rooms i (passed (g + start) (g + k) mem₀) mem₀ mem) × FreeList rooms free n mem
+Inv-loop mem₀ links capacity t free₀ count g n₀ start k₀ mem free n k = (Passed (g + start) (g + k₀) mem₀ (outgoing (jobIn mem₀) t) (g + k) × (g + k₀ ≤ edgeAt mem₀ (nth mem₀ 2)))
+    × ((i : ℕ) × Drawn capacity i mem₀ × Releasing capacity i (passed (g + start) (g + k) mem₀) mem₀ mem) × FreeList capacity free n mem
 
 abbrev μ-loop : tie.MeasureT-loop
-μ-loop mem₀ links rooms t free₀ count g n₀ start k₀ mem free n k = k
+μ-loop mem₀ links capacity t free₀ count g n₀ start k₀ mem free n k = k
 
 loop-holds : tie.Need-loop-holds Inv-loop μ-loop
 loop-holds c =

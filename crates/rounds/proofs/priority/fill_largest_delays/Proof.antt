@@ -10,12 +10,12 @@ use Rattle.rounds.proofs.priority.fill_largest_delays.Statement.{statem
 use Rattle.rounds.proofs.priority.fill_largest_delays.Tie as tie
 
 abbrev Inv-loop : tie.InvT-loop
-Inv-loop mem₀ rooms far m p₀ mem p =
-    (p ≤ m) × (m ≤ 16) × (length mem ≡ memorySize rooms) × KeptOutside (largestDelayAt rooms) (memorySize rooms) mem₀ mem
-    × ((q : ℕ) → q < p → nth mem (largestDelayAt rooms + q) ≡ largestDelay (jobIn mem₀) q)
+Inv-loop mem₀ capacity far m p₀ mem p =
+    (p ≤ m) × (m ≤ 16) × (length mem ≡ memorySize capacity) × KeptOutside (largestDelayAt capacity) (memorySize capacity) mem₀ mem
+    × ((q : ℕ) → q < p → nth mem (largestDelayAt capacity + q) ≡ largestDelay (jobIn mem₀) q)
 
 abbrev μ-loop : tie.MeasureT-loop
-μ-loop mem₀ rooms far m p₀ mem p = m - p
+μ-loop mem₀ capacity far m p₀ mem p = m - p
 
 largest-delay-requires : tie.Need-largest-delay-requires Inv-loop μ-loop
 largest-delay-requires c κs =
@@ -30,8 +30,8 @@ loop-again c =
       search needs,
       search needs,
       search needs,
-      kept-set (largestDelayAt (args .rooms) + loop .p) (x .result) (loop .inv .3) (omega arith) (omega arith),
-      table-more (largestDelay (jobIn (args .mem .now))) (loop .mem) (largestDelayAt (args .rooms)) (loop .p) (x .result) (loop .inv .4) (omega arith) (rw new at (x .ensures)),
+      kept-set (largestDelayAt (args .capacity) + loop .p) (x .result) (loop .inv .3) (omega arith) (omega arith),
+      table-more (largestDelay (jobIn (args .mem .now))) (loop .mem) (largestDelayAt (args .capacity)) (loop .p) (x .result) (loop .inv .4) (omega arith) (rw new at (x .ensures)),
     )
 
 returns : tie.Need-returns Inv-loop μ-loop

@@ -6,10 +6,10 @@ use Rattle.rounds.proofs.priority.spread.Statement.{statement}
 use Rattle.rounds.proofs.priority.spread.Tie as tie
 
 abbrev Inv-loop : tie.InvT-loop
-Inv-loop mem rooms a volume w x₀ c₀ x c = (c ≤ w) × (x ≤ 4296011520) × (tick x ≡ spreadIn rooms volume a c mem)
+Inv-loop mem capacity a volume w x₀ c₀ x c = (c ≤ w) × (x ≤ 4296011520) × (tick x ≡ spreadIn capacity volume a c mem)
 
 abbrev μ-loop : tie.MeasureT-loop
-μ-loop mem rooms a volume w x₀ c₀ x c = w - c
+μ-loop mem capacity a volume w x₀ c₀ x c = w - c
 
 loop-again : tie.Need-loop-again Inv-loop μ-loop
 loop-again c =

@@ -11,10 +11,10 @@ use Rattle.rounds.proofs.priority.top_level.Statement.{statement}
 use Rattle.rounds.proofs.priority.top_level.Tie as tie
 
 abbrev Inv-loop : tie.InvT-loop
-Inv-loop mem links rooms t x₀ k₀ k-end x k = Passed k₀ k-end links (incoming (jobIn mem) t) k × (x ≤ 4296011520) × Gathered (spreads rooms mem) k₀ links (timeIn x) k
+Inv-loop mem links capacity t x₀ k₀ k-end x k = Passed k₀ k-end links (incoming (jobIn mem) t) k × (x ≤ 4296011520) × Gathered (spreads capacity mem) k₀ links (timeIn x) k
 
 abbrev μ-loop : tie.MeasureT-loop
-μ-loop mem links rooms t x₀ k₀ k-end x k = k-end - k
+μ-loop mem links capacity t x₀ k₀ k-end x k = k-end - k
 
 loop-holds : tie.Need-loop-holds Inv-loop μ-loop
 loop-holds c =

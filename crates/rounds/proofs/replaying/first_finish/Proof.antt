@@ -3,7 +3,7 @@ use Rattle.ticks.specs.Cells.{neverCell}
 use Rattle.jobs.proofs.Held.{sizes}
 use Rattle.plans.specs.Lines.{rowOf}
 use Rattle.replicas.proofs.TwiceLaws.{cells-count, cells-on, cells-early}
-use Rattle.rounds.proofs.EndLaws.{cells-of-task}
+use Rattle.rounds.proofs.MakespanLaws.{cells-of-task}
 use Rattle.rounds.proofs.FirstLaws.{first-seen}
 use Rattle.rounds.proofs.replaying.first_finish.Statement.{statement}
 use Rattle.rounds.proofs.replaying.first_finish.Tie as tie
@@ -47,7 +47,7 @@ returns c =
     let place2 = c .before .before .place2 in
     let first-finish = c .first-finish in
     let m = args .mem .now in let (_, b, d) = cells-of-task (pre .0) (args .t) (pre .2) in
-    let r = rowOf (args .rooms) (args .t) m in let w = nth m 3 + 1 in
+    let r = rowOf (args .capacity) (args .t) m in let w = nth m 3 + 1 in
     let small : (i : ℕ) → nth m i ≤ neverCell = λ i. omega (arith, c .before .before .before .before .before .before .shared-slice-known .given i) in
     let x : place .result ≡ r + 1 = omega (arith, place .ensures, row-of .ensures) in
     let y : place2 .result ≡ r + 1 + 3 * w = omega (arith, place2 .ensures, row-of .ensures) in

@@ -2,16 +2,16 @@
 use Rattle.lists.proofs.Prelude.{_≡_, ℕ, _≤_, _<_, _-_, arith, needs, length, nth, lt-ltb}
 use Rattle.heads.specs.Layout.{rowAt, processorAt, replicaEnd}
 use Rattle.jobs.proofs.Held.{sizes}
-use Rattle.rounds.proofs.RunLaws.{LineRuns, LineStep, line-fed-short, line-first, line-step, line-next, line-done}
+use Rattle.rounds.proofs.RunLaws.{LineRuns, LineStep, line-predecessors-short, line-first, line-step, line-next, line-done}
 use Rattle.rounds.proofs.replaying.run_line.Statement.{statement}
 use Rattle.rounds.proofs.replaying.run_line.Tie as tie
 
 abbrev Inv-loop : tie.InvT-loop
-Inv-loop mem₀ links rooms delays k stops w a t supplied runs after₀ c₀ mem after c =
-    (c ≤ w) × (w ≤ 8) × (a ≡ rowAt rooms k) × LineRuns rooms k c stops (after .at) mem₀ mem
+Inv-loop mem₀ links capacity delays k stops w a t supplied runs after₀ c₀ mem after c =
+    (c ≤ w) × (w ≤ 8) × (a ≡ rowAt capacity k) × LineRuns capacity k c stops (after .at) mem₀ mem
 
 abbrev μ-loop : tie.MeasureT-loop
-μ-loop mem₀ links rooms delays k stops w a t supplied runs after₀ c₀ mem after c = w - c
+μ-loop mem₀ links capacity delays k stops w a t supplied runs after₀ c₀ mem after c = w - c
 
 -- Replica c of the line is in the memory.
 room : (c : tie.In-loop Inv-loop μ-loop) → replicaEnd (c .before .before .before .before .before .before .before .row-at .result) (c .before .loop .c) ≤ length (c .before .loop .mem)
@@ -23,7 +23,7 @@ room c =
 abbrev its : tie.After-replica-at Inv-loop μ-loop → ℕ
 its c =
     let a = c .before .before .before .before .before .before .before .before .before .before .before .before .before .before .args in
-    nth (c .before .before .before .loop .mem) (processorAt (rowAt (a .rooms) (a .k)) (c .before .before .before .loop .c))
+    nth (c .before .before .before .loop .mem) (processorAt (rowAt (a .capacity) (a .k)) (c .before .before .before .loop .c))
 
 step : (c : tie.After-replica-at Inv-loop μ-loop) → LineStep (its c) (c .before .before .before .loop .after .at)
     (c .before .before .before .before .before .before .before .before .before .before .before .before .before .before .args .mem .now)
@@ -57,7 +57,7 @@ first-data-requires : tie.Need-first-data-requires Inv-loop μ-loop
 first-data-requires c κs =
     let args = c .before .before .before .before .before .before .before .args in
     let p = c .before .before .before .before .before .before .before .pre in
-    rw (c .before .before .row-at .ensures) ((_, p .1 .standing), p .5, p .0, p .1 .standing .task-of (args .k) (p .2), line-fed-short (args .k) (p .1) (p .2) (p .3))
+    rw (c .before .before .row-at .ensures) ((_, p .1 .standing), p .5, p .0, p .1 .standing .task-of (args .k) (p .2), line-predecessors-short (args .k) (p .1) (p .2) (p .3))
 
 run-times-requires : tie.Need-run-times-requires Inv-loop μ-loop
 run-times-requires c κs =

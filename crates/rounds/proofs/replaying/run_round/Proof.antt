@@ -6,10 +6,10 @@ use Rattle.rounds.proofs.replaying.run_round.Statement.{statement}
 use Rattle.rounds.proofs.replaying.run_round.Tie as tie
 
 abbrev Inv-loop : tie.InvT-loop
-Inv-loop mem₀ links rooms stops v delays ready₀ k₀ mem ready k = (k ≤ v) × RoundRuns rooms k stops (ready .at) mem₀ mem
+Inv-loop mem₀ links capacity stops v delays ready₀ k₀ mem ready k = (k ≤ v) × RoundRuns capacity k stops (ready .at) mem₀ mem
 
 abbrev μ-loop : tie.MeasureT-loop
-μ-loop mem₀ links rooms stops v delays ready₀ k₀ mem ready k = v - k
+μ-loop mem₀ links capacity stops v delays ready₀ k₀ mem ready k = v - k
 
 run-line-requires : tie.Need-run-line-requires Inv-loop μ-loop
 run-line-requires c κs =

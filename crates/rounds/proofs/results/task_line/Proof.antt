@@ -26,7 +26,7 @@ returns c =
     let q = task-line (first-finish .ensures) in
     let (e, m) = result-line .ensures .0 in (
       (omega (arith, e, ap length q), omega (arith, m)),
-      lent-written (args .out .now) (args .at) (place-in .result) (taskLine (args .rooms) (args .t) (args .mem .now)) (result-line .last .0) (place-in .ensures) (rw q (result-line .ensures .1)),
+      lent-written (args .out .now) (args .at) (place-in .result) (taskLine (args .capacity) (args .t) (args .mem .now)) (result-line .last .0) (place-in .ensures) (rw q (result-line .ensures .1)),
     )
 
 pub task-line-spec : {M : Type 1} → statement M

@@ -9,7 +9,7 @@ use Rattle.rounds.proofs.times.both_arrivals.Statement.{statement}
 use Rattle.rounds.proofs.times.both_arrivals.Tie as tie
 
 abbrev Inv-loop : tie.InvT-loop
-Inv-loop mem delays a volume early late₀ w low₀ c₀ late low c = (c ≤ w) × ((rooms : ℕ) × Sizes rooms mem) × Offered volume a mem late₀ c low late
+Inv-loop mem delays a volume early late₀ w low₀ c₀ late low c = (c ≤ w) × ((capacity : ℕ) × Sizes capacity mem) × Offered volume a mem late₀ c low late
 
 abbrev μ-loop : tie.MeasureT-loop
 μ-loop mem delays a volume early late₀ w low₀ c₀ late low c = w - c

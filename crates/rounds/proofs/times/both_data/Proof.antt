@@ -10,10 +10,10 @@ use Rattle.rounds.proofs.times.both_data.Statement.{statement}
 use Rattle.rounds.proofs.times.both_data.Tie as tie
 
 abbrev Inv-loop : tie.InvT-loop
-Inv-loop mem links rooms delays t early₀ late₀ k₀ k-end early late k = Passed k₀ k-end links (incoming (jobIn mem) t) k × BothGathered rooms mem k₀ links early late k
+Inv-loop mem links capacity delays t early₀ late₀ k₀ k-end early late k = Passed k₀ k-end links (incoming (jobIn mem) t) k × BothGathered capacity mem k₀ links early late k
 
 abbrev μ-loop : tie.MeasureT-loop
-μ-loop mem links rooms delays t early₀ late₀ k₀ k-end early late k = k-end - k
+μ-loop mem links capacity delays t early₀ late₀ k₀ k-end early late k = k-end - k
 
 loop-holds : tie.Need-loop-holds Inv-loop μ-loop
 loop-holds c =

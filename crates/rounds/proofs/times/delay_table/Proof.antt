@@ -6,7 +6,7 @@ use Rattle.rounds.proofs.times.delay_table.Statement.{statement}
 use Rattle.rounds.proofs.times.delay_table.Tie as tie
 
 abbrev Inv-loop : tie.InvT-loop
-Inv-loop mem m n delays₀ i₀ delays i = (i ≤ n) × (length delays ≡ 256) × ((rooms : ℕ) × Sizes rooms mem) × Filled (DelayCell mem) delays₀ delays i
+Inv-loop mem m n delays₀ i₀ delays i = (i ≤ n) × (length delays ≡ 256) × ((capacity : ℕ) × Sizes capacity mem) × Filled (DelayCell mem) delays₀ delays i
 
 abbrev μ-loop : tie.MeasureT-loop
 μ-loop mem m n delays₀ i₀ delays i = n - i

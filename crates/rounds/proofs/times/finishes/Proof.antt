@@ -9,7 +9,7 @@ returns : tie.Need-returns
 returns c =
     let a = c .before .before .before .before .before .args in
     let p = c .before .before .before .before .before .pre in
-    finish-made (a .rooms) (a .t) (a .clocks) (a .mem .now) _ _ (c .before .run-times .result) _ _ (p .2) (sizes (p .0 .1 .job) .processors-most) (c .before .before .both-data .ensures)
+    finish-made (a .capacity) (a .t) (a .clocks) (a .mem .now) _ _ (c .before .run-times .result) _ _ (p .2) (sizes (p .0 .1 .job) .processors-most) (c .before .before .both-data .ensures)
     (p .4) (c .before .run-times .ensures) (c .finish .ensures .0) (c .finish .ensures .1)
 
 pub finishes-spec : {M : Type 1} → statement M

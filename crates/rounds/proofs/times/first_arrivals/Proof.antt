@@ -13,7 +13,7 @@ use Rattle.rounds.proofs.times.first_arrivals.Tie as tie
 
 abbrev Inv-loop : tie.InvT-loop
 Inv-loop mem delays a volume w low₀ c₀ low c =
-    (c ≤ w) × (length low ≡ 16) × ((rooms : ℕ) × Sizes rooms mem) × ((p : ℕ) → p < nth mem 1 → shortIn (nth low p) ≡ chosenBy false (λ q. volume * delay (jobIn mem) q p) a c mem)
+    (c ≤ w) × (length low ≡ 16) × ((capacity : ℕ) × Sizes capacity mem) × ((p : ℕ) → p < nth mem 1 → shortIn (nth low p) ≡ chosenBy false (λ q. volume * delay (jobIn mem) q p) a c mem)
 
 abbrev μ-loop : tie.MeasureT-loop
 μ-loop mem delays a volume w low₀ c₀ low c = w - c

@@ -17,11 +17,11 @@ use Rattle.rounds.proofs.times.first_data.Statement.{statement}
 use Rattle.rounds.proofs.times.first_data.Tie as tie
 
 abbrev Inv-loop : tie.InvT-loop
-Inv-loop mem links rooms delays t high₀ k₀ k-end high k = (length high ≡ 16) × ((p : ℕ) → p < 16 → nth high p ≤ shortNever) × Passed k₀ k-end links (incoming (jobIn mem) t) k
-    × ((p : ℕ) → p < nth mem 1 → Gathered (arrives rooms false p mem) k₀ links (shortIn (nth high p)) k)
+Inv-loop mem links capacity delays t high₀ k₀ k-end high k = (length high ≡ 16) × ((p : ℕ) → p < 16 → nth high p ≤ shortNever) × Passed k₀ k-end links (incoming (jobIn mem) t) k
+    × ((p : ℕ) → p < nth mem 1 → Gathered (arrives capacity false p mem) k₀ links (shortIn (nth high p)) k)
 
 abbrev μ-loop : tie.MeasureT-loop
-μ-loop mem links rooms delays t high₀ k₀ k-end high k = k-end - k
+μ-loop mem links capacity delays t high₀ k₀ k-end high k = k-end - k
 
 loop-holds : tie.Need-loop-holds Inv-loop μ-loop
 loop-holds c =

@@ -61,7 +61,7 @@ returns-3 c =
     let load-stops = c .before .before .before .before .load-stops in
     let pre = c .before .before .before .before .before .before .before .before .before .before .before .pre in
     let d = args .mem .now in
-    run-refused (args .rooms) d (load-stops .last .1 .1 .0) (args .stops .now) (args .out .now) _ (pre .0 .standing .job)
+    run-refused (args .capacity) d (load-stops .last .1 .1 .0) (args .stops .now) (args .out .now) _ (pre .0 .standing .job)
     (rw (c .before .x .given .1) at (load-stops .ensures (jobIn d) (processors-in d)))
 
 pub put-replay-spec : {M : Type 1} → statement M

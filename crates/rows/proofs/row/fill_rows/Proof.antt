@@ -1,7 +1,7 @@
 -- The lines from row i on, after the rows before it, are all the lines.
 use Rattle.lists.proofs.Prelude.{_≡_, refl, sym, ap, _∙_, [], ℕ, _≤_, _-_, _+_, _*_, arith, needs, length, take, drop, length-take, length-drop, sub-zero, document01, found, line}
 use borrow.Rule.Slice.PartMut.{same-len-mid}
-use Rattle.text.specs.Told.{told}
+use Rattle.text.specs.Meaning.{stepReading}
 use Rattle.lines.proofs.LineLaws.{lines-end, lines-no, lines-next}
 use Rattle.rows.specs.Rows.{rows, ruleOf, rowLines}
 use Rattle.rows.proofs.RowLaws.{length-rows, row-ends, lent-more}
@@ -39,7 +39,7 @@ returns c =
     let loop-test = c .before .before .before .before .before .before .before .loop-test in
     let read-row = c .before .before .before .before .before .read-row in
     let e = sym (read-row .ensures (rows (a .k) (l .i) (l .mem)) (length-rows (a .k) (l .i) (l .mem)))
-    ∙ ap (told (a .s .now) (take (a .k) (read-row .last .1 .1 .1 .1 .1 .1 .0))) (c .before .x .given .1) in
+    ∙ ap (stepReading (a .s .now) (take (a .k) (read-row .last .1 .1 .1 .1 .1 .1 .0))) (c .before .x .given .1) in
     lines-no (line document01 (a .opening .now) (a .k)) (ruleOf document01 (a .kind)) (a .n) (l .i) (rows (a .k) (l .i) (l .mem)) (drop (l .p) (a .s .now)) (loop-test .taken) _ e ∙ l .inv .2
 
 loop-again : tie.Need-loop-again Inv-loop μ-loop
@@ -49,7 +49,7 @@ loop-again c =
     let loop-test = c .before .before .before .before .before .before .before .loop-test in
     let read-row = c .before .before .before .before .before .read-row in
     let ys = read-row .last .1 .1 .1 .1 .1 .1 .0 in
-    let e = sym (read-row .ensures (rows (a .k) (l .i) (l .mem)) (length-rows (a .k) (l .i) (l .mem))) ∙ ap (told (a .s .now) (take (a .k) ys)) (c .before .next .given .1) in (
+    let e = sym (read-row .ensures (rows (a .k) (l .i) (l .mem)) (length-rows (a .k) (l .i) (l .mem))) ∙ ap (stepReading (a .s .now) (take (a .k) ys)) (c .before .next .given .1) in (
       omega (arith, loop-test .taken),
       same-len-mid (l .i * a .k) (length (l .mem) - l .i * a .k) (l .mem) ys (read-row .kept .1 .1 .1 .1 .1 .1 .0) ∙ l .inv .1,
       rw (lent-more (a .k) (l .i) (l .mem) ys (omega (arith, ends (c .before .before .before .before .before .before .before))))

@@ -1,6 +1,6 @@
 -- The row is read, then its rule is tried.
 use Rattle.lists.proofs.Prelude.{sym, arith, needs, take, drop, length-take-le, document01, line}
-use Rattle.lines.proofs.LineLaws.{line-told, ruled-bad, ruled-no, ruled-yes}
+use Rattle.lines.proofs.LineLaws.{line-reading, ruled-bad, ruled-no, ruled-yes}
 use Rattle.rows.specs.Rows.{ruleOf}
 use Rattle.rows.proofs.row.read_row.Statement.{statement}
 use Rattle.rows.proofs.row.read_row.Tie as tie
@@ -31,7 +31,7 @@ returns c =
     let read-line = c .before .before .before .before .before .before .before .before .read-line in
     λ seen l.
     let ys = read-line .last .1 .1 .1 .1 .0 in
-    let e = line-told _ _ _ _ _ _ ys _ _ (read-line .ensures .0) (pre .1) (c .before .before .before .before .p .given .1) in
+    let e = line-reading _ _ _ _ _ _ ys _ _ (read-line .ensures .0) (pre .1) (c .before .before .before .before .p .given .1) in
     ruled-no (line document01 (a .opening .now) (a .k)) (ruleOf document01 (a .kind)) seen (drop (a .at) (a .s .now)) (take (a .k) ys) _ e _ (c .before .check-row .ensures seen l) (c .if1 .taken)
 
 returns-2 : tie.Need-returns-2
@@ -41,7 +41,7 @@ returns-2 c =
     let read-line = c .before .before .before .before .before .before .before .before .read-line in
     λ seen l.
     let ys = read-line .last .1 .1 .1 .1 .0 in
-    let e = line-told _ _ _ _ _ _ ys _ _ (read-line .ensures .0) (pre .1) (c .before .before .before .before .p .given .1) in
+    let e = line-reading _ _ _ _ _ _ ys _ _ (read-line .ensures .0) (pre .1) (c .before .before .before .before .p .given .1) in
     ruled-yes (line document01 (a .opening .now) (a .k)) (ruleOf document01 (a .kind)) seen (drop (a .at) (a .s .now)) (take (a .k) ys) _ e _ (c .before .check-row .ensures seen l) (c .if1 .left)
 
 returns-3 : tie.Need-returns-3
@@ -50,7 +50,7 @@ returns-3 c =
     let read-line = c .before .before .before .before .before .read-line in
     λ seen l.
     let ys = read-line .last .1 .1 .1 .1 .0 in
-    let e = line-told _ _ _ _ _ _ ys _ _ (read-line .ensures .0) (c .before .before .before .before .before .before .before .before .before .before .pre .1) (c .before .x .given .1) in
+    let e = line-reading _ _ _ _ _ _ ys _ _ (read-line .ensures .0) (c .before .before .before .before .before .before .before .before .before .before .pre .1) (c .before .x .given .1) in
     ruled-bad (line document01 (a .opening .now) (a .k)) (ruleOf document01 (a .kind)) seen (drop (a .at) (a .s .now)) _ e
 
 pub read-row-spec : {M : Type 1} → statement M

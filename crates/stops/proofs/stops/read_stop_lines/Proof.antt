@@ -1,6 +1,6 @@
 use Rattle.lists.proofs.Prelude.{_≡_, refl, sym, _∙_, _-_, arith, needs, length, length-set, document01}
 use Rattle.text.specs.Suited.{suited}
-use Rattle.lines.proofs.LineLaws.{line-told}
+use Rattle.lines.proofs.LineLaws.{line-reading}
 use Rattle.stops.proofs.StopLaws.{StopsUpTo, stops-none, stops-end, stops-bad, stops-no, stops-shorter, stops-next}
 use Rattle.stops.proofs.stops.read_stop_lines.Statement.{statement}
 use Rattle.stops.proofs.stops.read_stop_lines.Tie as tie
@@ -20,7 +20,7 @@ returns c =
     let loop = c .before .before .before .before .before .before .before .before .loop in
     let loop-test = c .before .before .before .before .before .before .before .loop-test in
     let read-line = c .before .before .before .before .read-line in
-    stops-bad (loop .inv .2) (loop-test .taken) _ (line-told _ (length (loop .line)) _ 2 _ _ (read-line .last .1 .1 .1 .1 .0) _ _ (read-line .ensures .0) (omega (arith, loop .inv .0))
+    stops-bad (loop .inv .2) (loop-test .taken) _ (line-reading _ (length (loop .line)) _ 2 _ _ (read-line .last .1 .1 .1 .1 .0) _ _ (read-line .ensures .0) (omega (arith, loop .inv .0))
     (c .before .x .given .1))
 
 returns-2 : tie.Need-returns-2 Inv-loop μ-loop
@@ -30,7 +30,7 @@ returns-2 c =
     let read-line = c .before .before .before .before .before .before .read-line in
     let next = c .before .before .before .next in
     let ys = read-line .last .1 .1 .1 .1 .0 in
-    let b = line-told _ (length (loop .line)) _ 2 _ _ ys _ _ (read-line .ensures .0) (omega (arith, loop .inv .0)) (next .given .1) in
+    let b = line-reading _ (length (loop .line)) _ 2 _ _ ys _ _ (read-line .ensures .0) (omega (arith, loop .inv .0)) (next .given .1) in
     stops-no (loop .inv .2) (loop-test .taken) ys (next .given .0 .0) b _ (c .if1 .taken) (c .before .check-stop .ensures .0)
 
 mul-stops : tie.Need-mul-stops Inv-loop μ-loop
@@ -50,7 +50,7 @@ loop-less c =
     let read-line = c .before .before .before .before .before .before .read-line in
     let next = c .before .before .before .next in
     let ys = read-line .last .1 .1 .1 .1 .0 in
-    let b = line-told _ (length (loop .line)) _ 2 _ _ ys _ _ (read-line .ensures .0) (omega (arith, loop .inv .0)) (next .given .1) in
+    let b = line-reading _ (length (loop .line)) _ 2 _ _ ys _ _ (read-line .ensures .0) (omega (arith, loop .inv .0)) (next .given .1) in
     stops-shorter (loop .inv .2) (c .before .before .before .before .before .before .before .before .before .loop-test .taken) ys (next .given .0 .0) b
 
 loop-again : tie.Need-loop-again Inv-loop μ-loop
@@ -60,7 +60,7 @@ loop-again c =
     let read-line = c .before .before .before .before .before .before .read-line in
     let next = c .before .before .before .next in
     let ys = read-line .last .1 .1 .1 .1 .0 in
-    let b = line-told _ (length (loop .line)) _ 2 _ _ ys _ _ (read-line .ensures .0) (omega (arith, loop .inv .0)) (next .given .1) in
+    let b = line-reading _ (length (loop .line)) _ 2 _ _ ys _ _ (read-line .ensures .0) (omega (arith, loop .inv .0)) (next .given .1) in
     let check = c .before .check-stop in
     let z : check .result ≡ 0 = omega arith in
     let (k, t, o) = check .ensures .1 z in

@@ -14,9 +14,9 @@ use Rattle.text.specs.declared.Step.{Step}
 use Rattle.text.specs.declared.Step.the-variants.{Next, Refused}
 
 -- A number that was read in the text s, or 2.
-abbrev pub numberTold : List ℕ → Num → Reading ℕ
-numberTold s (Value v next) = found v (drop next s)
-numberTold s Bad = refused 2
+abbrev pub numberReading : List ℕ → Num → Reading ℕ
+numberReading s (Value v next) = found v (drop next s)
+numberReading s Bad = refused 2
 
 -- The place after a number that was read in the text s is in it, or its end.
 abbrev pub Placed : List ℕ → Num → Type 0
@@ -29,18 +29,18 @@ PlacedBy p (Value v next) = next ≤ p
 PlacedBy p Bad = Unit {0}
 
 -- x was read in the text s, or the refusal.
-abbrev pub told : {A : Type 0} → List ℕ → A → Step → Reading A
-told s x (Next next) = found x (drop next s)
-told s x (Refused n) = refused n
+abbrev pub stepReading : {A : Type 0} → List ℕ → A → Step → Reading A
+stepReading s x (Next next) = found x (drop next s)
+stepReading s x (Refused n) = refused n
 
 -- A reading of a list, with the members xs before it.
 abbrev pub after : {A : Type 0} → List A → Reading (List A) → Reading (List A)
 after xs r = next r (λ vs s. found (xs ++ vs) s)
 
 -- Document 01's number and values for each case of a step: the place after what was read, or the number of the refusal.
-abbrev pub stepTold : Step → Result ℕ
-stepTold (Next next) = good next
-stepTold (Refused n) = bad n
+abbrev pub stepResult : Step → Result ℕ
+stepResult (Next next) = good next
+stepResult (Refused n) = bad n
 
 -- The place after what was read is p.
 abbrev pub PlacedAt : ℕ → Step → Type 0

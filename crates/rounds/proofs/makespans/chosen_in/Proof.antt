@@ -2,9 +2,9 @@
 use Rattle.lists.proofs.Prelude.{_≡_, _≤_, _-_, _+_, arith, needs, nth}
 use Rattle.ticks.specs.Cells.{timeIn}
 use Rattle.jobs.proofs.Held.{sizes}
-use Rattle.rounds.proofs.EndLaws.{chosenIn, chosen-first, chosen-next}
-use Rattle.rounds.proofs.ends.chosen_in.Statement.{statement}
-use Rattle.rounds.proofs.ends.chosen_in.Tie as tie
+use Rattle.rounds.proofs.MakespanLaws.{chosenIn, chosen-first, chosen-next}
+use Rattle.rounds.proofs.makespans.chosen_in.Statement.{statement}
+use Rattle.rounds.proofs.makespans.chosen_in.Tie as tie
 
 abbrev Inv-loop : tie.InvT-loop
 Inv-loop mem late a w acc₀ c₀ acc c = (c ≤ w) × (nth mem 3 ≤ 7) × (timeIn acc ≡ chosenIn late a c mem)

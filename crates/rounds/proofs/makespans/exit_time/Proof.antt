@@ -2,9 +2,9 @@
 use Rattle.lists.proofs.Prelude.{refl, _-_, arith, needs}
 use Rattle.jobs.proofs.Held.{sizes}
 use Rattle.rounds.proofs.Walks.{leaves-run}
-use Rattle.rounds.proofs.EndLaws.{cells-of-task, exit-end, exit-other}
-use Rattle.rounds.proofs.ends.exit_time.Statement.{statement}
-use Rattle.rounds.proofs.ends.exit_time.Tie as tie
+use Rattle.rounds.proofs.MakespanLaws.{cells-of-task, exit-makespan, exit-other}
+use Rattle.rounds.proofs.makespans.exit_time.Statement.{statement}
+use Rattle.rounds.proofs.makespans.exit_time.Tie as tie
 
 returns : tie.Need-returns
 returns c =
@@ -26,7 +26,7 @@ returns-2 : tie.Need-returns-2
 returns-2 c =
     let args = c .before .before .before .before .before .before .before .before .args in
     let pre = c .before .before .before .before .before .before .before .before .pre in
-    exit-end (args .late) (pre .0) (args .t) (pre .2) (leaves-run (pre .1) (pre .2) refl (c .before .before .before .before .leaving .ensures) .0) (c .chosen-in .result)
+    exit-makespan (args .late) (pre .0) (args .t) (pre .2) (leaves-run (pre .1) (pre .2) refl (c .before .before .before .before .leaving .ensures) .0) (c .chosen-in .result)
     (omega (arith, c .before .before .if1 .left)) (rw (c .before .row-of .ensures) at (c .chosen-in .ensures))
 
 pub exit-time-spec : {M : Type 1} → statement M

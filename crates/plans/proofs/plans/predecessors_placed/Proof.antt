@@ -4,15 +4,15 @@ use Rattle.orders.specs.Links.{Run}
 use Rattle.jobs.specs.Held.{jobIn}
 use Rattle.jobs.proofs.Held.{sizes}
 use Rattle.plans.proofs.PlanLaws.{hasLine, linedTo, lined-end, lined-no, lined-next, entering-run, lined-all, sender-below}
-use Rattle.plans.proofs.plans.fed.Statement.{statement}
-use Rattle.plans.proofs.plans.fed.Tie as tie
+use Rattle.plans.proofs.plans.predecessors_placed.Statement.{statement}
+use Rattle.plans.proofs.plans.predecessors_placed.Tie as tie
 
 abbrev Inv-loop : tie.InvT-loop
-Inv-loop mem links rooms t line start k₀ k =
-    (k ≤ k₀) × Run start k₀ links (incoming (jobIn mem) t) × (linedTo rooms mem links start k ≡ all (λ e. hasLine rooms mem (e .from)) (incoming (jobIn mem) t))
+Inv-loop mem links capacity t line start k₀ k =
+    (k ≤ k₀) × Run start k₀ links (incoming (jobIn mem) t) × (linedTo capacity mem links start k ≡ all (λ e. hasLine capacity mem (e .from)) (incoming (jobIn mem) t))
 
 abbrev μ-loop : tie.MeasureT-loop
-μ-loop mem links rooms t line start k₀ k = k - start
+μ-loop mem links capacity t line start k₀ k = k - start
 
 loop-holds : tie.Need-loop-holds Inv-loop μ-loop
 loop-holds c =
@@ -66,7 +66,7 @@ returns c =
     let loop-test = c .before .before .before .before .loop-test in
     let a = c .before .before .before .before .before .before .before .before .before .before .args in
     let l = c .before .before .before .before .before .loop in
-    lined-no (a .rooms) (a .mem .now) (a .links .now) _ (l .k - 1) (l .k) (omega (arith, loop-test .taken)) (omega (arith, loop-test .taken))
+    lined-no (a .capacity) (a .mem .now) (a .links .now) _ (l .k - 1) (l .k) (omega (arith, loop-test .taken)) (omega (arith, loop-test .taken))
     (rw (← c .before .before .edge-from .ensures .0) (c .if1 .taken)) ∙ l .inv .2
 
 loop-again : tie.Need-loop-again Inv-loop μ-loop
@@ -76,17 +76,17 @@ loop-again c =
     let l = c .before .before .before .before .before .loop in (
       omega (arith, l .inv .0),
       l .inv .1,
-      lined-next (a .rooms) (a .mem .now) (a .links .now) _ (l .k - 1) (l .k) (omega (arith, loop-test .taken)) (omega (arith, loop-test .taken))
+      lined-next (a .capacity) (a .mem .now) (a .links .now) _ (l .k - 1) (l .k) (omega (arith, loop-test .taken)) (omega (arith, loop-test .taken))
           (rw (← c .before .before .edge-from .ensures .0) (c .if1 .left)) ∙ l .inv .2,
     )
 
 returns-2 : tie.Need-returns-2 Inv-loop μ-loop
 returns-2 c =
     let a = c .before .before .before .before .before .before .args in
-    lined-end (a .rooms) (a .mem .now) (a .links .now) _ (c .before .loop .k) (c .loop-test .left) ∙ c .before .loop .inv .2
+    lined-end (a .capacity) (a .mem .now) (a .links .now) _ (c .before .loop .k) (c .loop-test .left) ∙ c .before .loop .inv .2
 
-pub fed-spec : {M : Type 1} → statement M
-fed-spec = tie.close (tie.spec
+pub predecessors-placed-spec : {M : Type 1} → statement M
+predecessors-placed-spec = tie.close (tie.spec
     Inv-loop μ-loop (λ c. omega (arith, sizes (c .before .before .pre .0) .size))
     (λ c. let w = sizes (c .before .before .before .pre .0) in omega (arith, w .size, w .tasks-most, w .some-task)) (λ c κs. search needs) loop-holds
     (λ c. omega (arith, c .loop-test .taken)) mul-edge-from
