@@ -256,7 +256,7 @@ each-task j ns o c t h = ⊎-elim (λ i. absurd i) (λ i. i) (every-task j ns []
 
 -- What an accepted plan is ------------------------------------------------------------------------------------
 
-none-kept : {A B : Type 0} (f : A → B) (g : A → Bool) (xs : List A) → empty (map f (keep g xs)) ≡ true → (x : A) → In x xs → g x ≡ false
+pub none-kept : {A B : Type 0} (f : A → B) (g : A → Bool) (xs : List A) → empty (map f (keep g xs)) ≡ true → (x : A) → In x xs → g x ≡ false
 none-kept f g xs h x i = by (g x) refl
   where
     by : (b : Bool) → g x ≡ b → g x ≡ false

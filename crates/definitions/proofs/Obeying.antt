@@ -23,7 +23,7 @@ use Rattle.definitions.proofs.Guarantee.{same-times, each-task, times-s
 -- Lines and those before them ---------------------------------------------------------------------------------
 
 -- P is true of each line and the lines before it, after those in `before`.
-abbrev Each : (List Line → Line → Type 0) → List Line → List Line → Type 0
+abbrev pub Each : (List Line → Line → Type 0) → List Line → List Line → Type 0
 Each P before [] = Unit {0}
 Each P before (n ∷ ns) = P before n × Each P (before ++ n ∷ []) ns
 
@@ -123,7 +123,7 @@ reverse-append (x ∷ xs) ys zs = reverse-append xs ys (x ∷ zs)
 
 module _ (j : Job) (choose : List Time → Time) (which : Replica → ℕ) where
   -- What is written before a line, the newest first.
-  abbrev placedBy : List Line → List Outcome
+  abbrev pub placedBy : List Line → List Outcome
   placedBy before = reverse (written which before)
 
   placed-after : (before : List Line) (n : Line) (ds : List Outcome)
@@ -134,11 +134,11 @@ module _ (j : Job) (choose : List Time → Time) (which : Replica → ℕ) where
       let now = map (writtenOutcome which (m .task)) (m .replicas) in
       rw (reverse-append now (written which before) ds, reverse-append now (written which (before ++ n ∷ [])) ds) (placed-after before n (reverseAux now ds))
 
-  placed-more : (before : List Line) (n : Line) → reverseAux (map (writtenOutcome which (n .task)) (n .replicas)) (placedBy before) ≡ placedBy (before ++ n ∷ [])
+  pub placed-more : (before : List Line) (n : Line) → reverseAux (map (writtenOutcome which (n .task)) (n .replicas)) (placedBy before) ≡ placedBy (before ++ n ∷ [])
   placed-more before n = placed-after before n []
 
   -- The ticks of a line are the equation's.
-  abbrev TicksObey : List Line → Line → Type 0
+  abbrev pub TicksObey : List Line → Line → Type 0
   TicksObey before n = (r : Replica) → In r (n .replicas) → tick (which r) ≡ equation j choose (placedBy before) (n .task) (r .processor)
 
   own-line : (seen : List ℕ) (n : Line) → LineFacts j seen n → (e : Edge) → In e (incoming j (n .task)) → n .task ≡ e .from → ⊥
@@ -235,17 +235,17 @@ module _ (j : Job) where
       omega (arith, length-map ns (λ n. n .task), length-count 0 (j .tasks))
 
   -- The ticks agree exactly if each line's are the equations'; then the walk gives what is written.
-  agreed : (choose : List Time → Time) (which : Replica → ℕ) (ns : List Line) → Ordered j [] ns → Apart ns
+  pub agreed : (choose : List Time → Time) (which : Replica → ℕ) (ns : List Line) → Ordered j [] ns → Apart ns
       → sameTimes (times (walk j choose [] [] (placements j ns))) (map (λ r. tick (which r)) (replicasOf ns)) ≡ true → Each (TicksObey j choose which) [] ns
   unfolding written
   agreed choose which ns o a h = lines-ticks j choose which [] ns [] o a (same-times _ _ h)
 
-  obeyed : (choose : List Time → Time) (which : Replica → ℕ) (ns : List Line) → Ordered j [] ns → Apart ns → Each (TicksObey j choose which) [] ns
+  pub obeyed : (choose : List Time → Time) (which : Replica → ℕ) (ns : List Line) → Ordered j [] ns → Apart ns → Each (TicksObey j choose which) [] ns
       → walk j choose [] [] (placements j ns) ≡ written which ns
   unfolding written
   obeyed choose which ns o a h = ticks-lines j choose which [] ns [] o a h
 
-  agrees : (choose : List Time → Time) (which : Replica → ℕ) (ns : List Line) → walk j choose [] [] (placements j ns) ≡ written which ns
+  pub agrees : (choose : List Time → Time) (which : Replica → ℕ) (ns : List Line) → walk j choose [] [] (placements j ns) ≡ written which ns
       → sameTimes (times (walk j choose [] [] (placements j ns))) (map (λ r. tick (which r)) (replicasOf ns)) ≡ true
   agrees choose which ns h = rw (h, written-times j choose which ns) (times-same (map (λ r. tick (which r)) (replicasOf ns)))
 

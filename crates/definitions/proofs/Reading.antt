@@ -300,7 +300,7 @@ module _ (l : Limits) where
       let q : nth (getD rows i []) (1 + i) ≡ 0 = rw n at (delay-parts seen (getD rows i []) z .1) in
       rw (List·getD-map (drop 1) rows i [], getD-drop 1 (getD rows i []) i 0) q
 
-  edge-parts : (tasks : ℕ) (seen : List Edge) (e : Edge) → edgeRule l tasks seen e ≡ 0
+  pub edge-parts : (tasks : ℕ) (seen : List Edge) (e : Edge) → edgeRule l tasks seen e ≡ 0
       → (e .from < tasks) × (e .to < tasks) × (e .volume ≤ l .volume)
   unfolding edgeRule
   edge-parts tasks seen e z =
@@ -310,7 +310,7 @@ module _ (l : Limits) where
       (ltb-true _ _ (not-false _ d), ltb-true _ _ (not-false _ f), inside 0 (l .volume) (e .volume) c .1)
 
   -- Edge lines that passed ascend.
-  edges-ascend : (tasks : ℕ) (seen es : List Edge) → Ascends seen → Ruled (edgeLine l) (edgeRule l tasks) seen es → Ascends (seen ++ es)
+  pub edges-ascend : (tasks : ℕ) (seen es : List Edge) → Ascends seen → Ruled (edgeLine l) (edgeRule l tasks) seen es → Ascends (seen ++ es)
   unfolding edgeRule
   edges-ascend tasks seen [] a w = rw (append-nil seen) a
   edges-ascend tasks seen (e ∷ es) a (_, z, w) =

@@ -1,15 +1,17 @@
 -- Edges in cells, their order, and the rule of an edge.
-use Rattle.lists.proofs.Prelude.{_≡_, refl, sym, _∙_, List, [], _∷_, _++_, map, map-append, getLast?, none, some, Bool, true, false, not, _||_, ℕ, _+_, _*_, _-_, _/_, _%_, _<_, _≤_, arith, add-one, leb, ltb, length, take, drop, drop-of-length-le, take-suc, drop-cons, getD-take, eq-eqb, ne-eqb, lt-ltb, le-ltb, ltb-true, leb-true, le-leb, not-false, bytes, nth, any, Limits, found, refused, firstOf, line, return, Edge, outside, samePair, edgeOf, edgeLine, edgeRule, Ascends}
+use Rattle.lists.proofs.Prelude.{_≡_, refl, sym, _∙_, List, [], _∷_, _++_, map, map-append, getLast?, none, some, Bool, true, false, not, _||_, ℕ, _+_, _*_, _-_, _/_, _%_, _<_, _≤_, arith, add-one, leb, ltb, length, take, drop, take-suc, getD-take, lt-ltb, le-ltb, ltb-true, leb-true, le-leb, not-false, bytes, nth, any, Limits, found, refused, firstOf, return, Edge, outside, samePair, edgeOf, edgeLine, edgeRule, Ascends}
 use native.Mathlib.Nat.{div-div-eq-div-mul}
 use Rattle.definitions.specs.Job.{smallerThanLast, edgeOrder}
 use Rattle.definitions.proofs.Lists.{both, both-true, neither, inside, passed, none-in, last-in}
 use Rattle.definitions.proofs.Reading.{rule-found}
 use Rattle.definitions.proofs.EdgeOrder.{else-smaller, order-next, order-smaller, ascends-more}
 use Rattle.text.specs.Suited.{Suited}
-use Rattle.text.specs.Meaning.{ruled}
-use Rattle.lines.proofs.LineLaws.{ruled-no, ruled-yes}
+use Rattle.text.specs.Meaning.{stepReading, lineInto, ruled}
+use Rattle.text.specs.declared.Step.{Step}
+use Rattle.text.specs.declared.Step.the-variants.{Next, Refused}
+use Rattle.lines.proofs.LineLaws.{line-reading, ruled-no, ruled-yes}
 use Rattle.orders.specs.Edges.{edgeCell, edgeIn, pairIn}
-use Rattle.orders.proofs.PairLaws.{pair-same, pair-smaller}
+use Rattle.orders.proofs.PairLaws.{pair-smaller}
 use Rattle.edges.specs.EdgeLines.{edgeLines, edgesFit, edgesInto}
 
 -- An edge between v tasks in a cell, and back.
@@ -77,23 +79,22 @@ module _ (cs : List ℕ) (c x : ℕ) (l : getLast? (map edgeIn cs) ≡ some (edg
       rw l (else-smaller (edgeIn x) (edgeIn c) s (sym (pair-smaller x c) ∙ le-ltb (pairIn x) (pairIn c) h)) in
       order-smaller (map edgeIn cs) (edgeIn c) n q b
 
--- An edge line after some edges: its form, then its rule.
-module _ (l : Limits) (v : ℕ) (seen : List Edge) (s : List ℕ) where
-  pub edge-bad : (x : ℕ) → line l (bytes "E,") 3 s ≡ refused x → refused x ≡ ruled (edgeLine l) (edgeRule l v) seen s
+-- An edge line after some edges, read with the answer r: its form, then its rule. Its numbers stand at the front of ys.
+module _ (l : Limits) (v : ℕ) (seen : List Edge) (s t ys : List ℕ) (r : Step) (e : stepReading t (take 3 ys) r ≡ lineInto l 3 (bytes "E,") 3 s) where
+  pub edge-bad : (x : ℕ) → r ≡ Refused x → refused x ≡ ruled (edgeLine l) (edgeRule l v) seen s
   unfolding edgeLine
-  edge-bad x e = rw e
+  edge-bad x f = rw (line-reading _ 3 _ 3 _ _ ys _ _ e (omega arith) f)
 
-  -- Its numbers stand at the front of ys.
-  module _ (ys r : List ℕ) (e : line l (bytes "E,") 3 s ≡ found (take 3 ys) r) (x : ℕ) (f : x ≡ edgeRule l v seen (edgeOf ys)) where
-    formed : edgeLine l s ≡ found (edgeOf ys) r
+  module _ (p : ℕ) (f : r ≡ Next p) (x : ℕ) (g : x ≡ edgeRule l v seen (edgeOf ys)) where
+    formed : edgeLine l s ≡ found (edgeOf ys) (drop p t)
     unfolding edgeLine
-    formed = rw (e, getD-take 3 ys 0 0 (omega arith), getD-take 3 ys 1 0 (omega arith), getD-take 3 ys 2 0 (omega arith))
+    formed = rw (line-reading _ 3 _ 3 _ _ ys _ _ e (omega arith) f, getD-take 3 ys 0 0 (omega arith), getD-take 3 ys 1 0 (omega arith), getD-take 3 ys 2 0 (omega arith))
 
     pub edge-no : 0 < x → refused x ≡ ruled (edgeLine l) (edgeRule l v) seen s
-    edge-no g = ruled-no (edgeLine l) (edgeRule l v) seen s (edgeOf ys) r formed x f g
+    edge-no = ruled-no (edgeLine l) (edgeRule l v) seen s (edgeOf ys) (drop p t) formed x g
 
-    pub edge-yes : x ≤ 0 → found (edgeOf ys) r ≡ ruled (edgeLine l) (edgeRule l v) seen s
-    edge-yes g = ruled-yes (edgeLine l) (edgeRule l v) seen s (edgeOf ys) r formed x f g
+    pub edge-yes : x ≤ 0 → found (edgeOf ys) (drop p t) ≡ ruled (edgeLine l) (edgeRule l v) seen s
+    edge-yes = ruled-yes (edgeLine l) (edgeRule l v) seen s (edgeOf ys) (drop p t) formed x g
 
 -- Whether n edges fit so many cells.
 module _ (l : Limits) (room v n : ℕ) where
@@ -111,28 +112,6 @@ module _ (l : Limits) (room v n : ℕ) where
 
   pub edges-enough : (s : List ℕ) → v ≤ l .tasks → n ≤ room → edgesInto l room v n s ≡ edgeLines l v n [] s
   edges-enough s h g = edges-fit s (both-true (le-leb v (l .tasks) h) (le-leb n room g))
-
--- Edges in cells ---------------------------------------------------------------------------------------------------------
-
--- Whether some from the i-th on have the pair of the edge in a cell: that one, or some after it.
-module _ (c : ℕ) (cs : List ℕ) (i : ℕ) where
-  abbrev repeats : ℕ → Bool
-  repeats k = any (λ d. samePair d (edgeIn c)) (map edgeIn (drop k cs))
-
-  module _ (h : i < length cs) where
-    one-of : repeats i ≡ (samePair (edgeIn (nth cs i)) (edgeIn c) || repeats (i + 1))
-    unfolding any
-    one-of = rw (drop-cons cs i 0 h, add-one i)
-
-    pub repeats-here : pairIn (nth cs i) ≡ pairIn c → true ≡ repeats i
-    repeats-here e = sym (one-of ∙ rw (← pair-same (nth cs i) c, eq-eqb (pairIn (nth cs i)) (pairIn c) e))
-
-    pub repeats-on : (pairIn (nth cs i) ≡ pairIn c → ⊥) → repeats (i + 1) ≡ repeats i
-    repeats-on n = sym (one-of ∙ rw (← pair-same (nth cs i) c, ne-eqb (pairIn (nth cs i)) (pairIn c) n))
-
-  pub repeats-no : length cs ≤ i → false ≡ repeats i
-  unfolding any
-  repeats-no h = rw (drop-of-length-le cs h)
 
 -- One edge more.
 pub edges-more : (cs : List ℕ) (i : ℕ) → i < length cs → map edgeIn (take (i + 1) cs) ≡ map edgeIn (take i cs) ++ edgeIn (nth cs i) ∷ []

@@ -10,7 +10,9 @@ ghost use Rattle.definitions.specs.Job.{Ascends, samePair, edgeOrder, edgeLine,
 ghost use Rattle.text.specs.Meaning.{stepReading, ruled};
 ghost use Rattle.orders.specs.Edges.{edgeCell, edgeIn};
 ghost use Rattle.edges.specs.EdgeLines.{edgeLines, edgesFit};
+use orders::edge_from;
 use orders::edge_pair;
+use orders::edge_to;
 use text::Step;
 use text::limits::TASKS;
 use text::limits::VOLUME;
@@ -43,7 +45,7 @@ fn check_order(before: &[u64], cell: u64) -> u64
     requires { ⌜ Ascends (map edgeIn (now before)) ⌝ }
     ensures { λ r. ⌜ r ≡ firstOf (edgeOrder (map edgeIn (now (before .entry))) (edgeIn cell)) ⌝ }
 {
-    if cell % 256 == cell / 256 % 256 {
+    if edge_from(cell) == edge_to(cell) {
         return 6;
     }
     let n = before.len();

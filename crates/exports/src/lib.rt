@@ -10,7 +10,7 @@ use mirguneth::Checked;
 // A job's text in cells: 0 with the number of cells written, or the number of the refusal.
 #[no_mangle]
 pub extern "C" fn mirguneth_read_job(text: &[u8], cells: &mut [u64], written: &mut u64) -> u64
-    ensures { λ r. do ⌜ Exported (jobAnswer (now (text .entry)) (← ⟦cells.len()⟧ .entry)) (now (cells .entry)) (now (cells .exit)) (now (written .entry)) (now (written .exit)) r ⌝ }
+    ensures { λ r. do ⌜ Exported (jobAnswer document01 (now (text .entry)) (← ⟦cells.len()⟧ .entry)) (now (cells .entry)) (now (cells .exit)) (now (written .entry)) (now (written .exit)) r ⌝ }
 {
     match mirguneth::read_job(text, cells) {
         Answer::Done(count) => {

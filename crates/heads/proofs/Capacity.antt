@@ -20,10 +20,7 @@ module _ (capacity : ℕ) (h : JobHead) where
   -- The test finds out whether a job fits.
   room-fits : hasRoom capacity h ≡ true → FitsIn capacity h
   unfolding hasRoom
-  room-fits e =
-      let (f, c) = both _ _ e in
-      let (a, b) = both _ _ f in
-      (leb-true _ _ a, leb-true _ _ b, leb-true _ _ c)
+  room-fits e = let (f, c) = both _ _ e in let (a, b) = both _ _ f in (leb-true _ _ a, leb-true _ _ b, leb-true _ _ c)
 
   fits-room : FitsIn capacity h → hasRoom capacity h ≡ true
   unfolding hasRoom
@@ -49,11 +46,13 @@ module _ (capacity : ℕ) (h : JobHead) where
 
       pub many-processors : capacity ≤ 32 → 5664 < h .processors → false ≡ hasRoom capacity h
       many-processors r c =
-          let w : h .processors * 1 ≤ (h .tasks + h .processors) * (h .processors + 1) = mul-le-mul {n₁ = h .processors} {m₁ = 1} {n₂ = h .tasks + h .processors} {m₂ = h .processors + 1}
-          (omega arith) (omega arith) in
-          many-cells (omega (arith, w, r, c))
+          many-cells (omega (arith, mul-le-mul {n₁ = h .processors} {m₁ = 1} {n₂ = h .tasks + h .processors} {m₂ = h .processors + 1} (omega arith) (omega arith), r, c))
 
 -- The capacity that a job is given is 1, 2, 8 or 32.
+pub capacity-tried : (h : JobHead) → capacityFor h ≡ (if hasRoom 1 h then 1 else (if hasRoom 2 h then 2 else (if hasRoom 8 h then 8 else 32)))
+unfolding capacityFor
+capacity-tried h = refl
+
 capacity-cases : (h : JobHead) (P : ℕ → Type 0) → (hasRoom 1 h ≡ true → P 1) → (hasRoom 2 h ≡ true → P 2) → (hasRoom 8 h ≡ true → P 8) → P 32 → P (capacityFor h)
 unfolding capacityFor
 capacity-cases h P = by (hasRoom 1 h) (hasRoom 2 h) (hasRoom 8 h)

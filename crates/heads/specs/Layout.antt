@@ -55,9 +55,17 @@ blockedAt capacity = 193 * capacity
 abbrev pub priorityAt : ℕ → ℕ
 priorityAt capacity = 201 * capacity
 
--- The plan's lines, 25 cells each: the task, then processor, early and late for each replica.
+-- The replicas that a line of the plan has cells for.
+abbrev pub replicasMost : ℕ
+replicasMost = 8
+
+-- The cells of a line: the task, then processor, early and late for each replica.
+abbrev pub rowCells : ℕ
+rowCells = 1 + 3 * replicasMost
+
+-- The plan's lines.
 abbrev pub rowAt : ℕ → ℕ → ℕ
-rowAt capacity i = 209 * capacity + i * 25
+rowAt capacity i = 209 * capacity + i * rowCells
 
 -- In the line at a, replica c: its processor, its early and its late time; the place after it.
 abbrev pub processorAt : ℕ → ℕ → ℕ
@@ -75,6 +83,10 @@ replicaEnd a c = a + (4 + 3 * c)
 -- Its late time or its early one.
 abbrev pub timeAt : Bool → ℕ → ℕ → ℕ
 timeAt late a c = a + ((if late then 3 else 2) + 3 * c)
+
+-- The processors that a memory has cells for, and a table of ticks a lane.
+abbrev pub lanesMost : ℕ
+lanesMost = 16
 
 -- For each processor its largest delay to any processor, after the last line.
 abbrev pub largestDelayAt : ℕ → ℕ

@@ -28,8 +28,11 @@ pub const UPPER: usize = 194;
 // While a plan is drawn up: the priority of each free task.
 pub const PRIORITY: usize = 201;
 
-// The lines of the plan, 25 cells each: the task, then a processor and two ticks for each replica.
+// The lines of the plan.
 pub const ROWS: usize = 209;
+
+// The cells of a line: the task, then a processor and two ticks for each replica.
+pub const ROW: usize = 25;
 
 // For each processor its largest delay.
 pub const LARGEST_DELAY: usize = 409;

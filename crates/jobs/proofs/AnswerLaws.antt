@@ -1,5 +1,5 @@
 -- What the answer of the reader of jobs says, and the public answer that is made of it.
-use Rattle.lists.proofs.Prelude.{_≡_, refl, ap, List, map, ℕ, _<_, _≤_, arith, lt-ltb, le-ltb, length, take, length-take, document01, Result, good, bad, Job, readJob}
+use Rattle.lists.proofs.Prelude.{_≡_, refl, ap, List, map, ℕ, _<_, _≤_, arith, lt-ltb, le-ltb, length, take, length-take, Limits, Result, good, bad, Job, readJob}
 use Rattle.lists.specs.Over.{over}
 use Rattle.text.specs.declared.Step.the-variants.{Next, Refused}
 use Rattle.orders.specs.Edges.{edgeCell}
@@ -22,19 +22,19 @@ loaded-next (bad k) mem links n e = absurd (let z : _≡_ {A = ℕ} 0 1 = cc in 
 pub loaded-fits : (x : Result Job) (mem links : List ℕ) (n : ℕ) → Loaded x mem links (Next n) → n ≤ length mem
 loaded-fits x mem links n h = let (j, _, l, f, _) = loaded-next x mem links n h in omega (arith, length-take n mem, ap length f)
 
-module _ (s d mem links : List ℕ) (n : ℕ) where
-  pub answer-no : Loaded (readJob document01 s) mem links (Refused n) → Answered (jobAnswer s (length d)) d d (Refusal n)
+module _ (l : Limits) (s d mem links : List ℕ) (n : ℕ) where
+  pub answer-no : Loaded (readJob l s) mem links (Refused n) → Answered (jobAnswer l s (length d)) d d (Refusal n)
   unfolding jobAnswer
-  answer-no h = rw (loaded-no (readJob document01 s) mem links n h) (refl, refl)
+  answer-no h = rw (loaded-no (readJob l s) mem links n h) (refl, refl)
 
-  pub answer-short : Loaded (readJob document01 s) mem links (Next n) → length d < n → Answered (jobAnswer s (length d)) d d (Refusal 8)
+  pub answer-short : Loaded (readJob l s) mem links (Next n) → length d < n → Answered (jobAnswer l s (length d)) d d (Refusal 8)
   unfolding jobAnswer
   answer-short h g =
-      let (j, e, l, _, _) = loaded-next (readJob document01 s) mem links n h in
-      rw (e, ← l, lt-ltb (length d) n g) (refl, refl)
+      let (j, e, k, _, _) = loaded-next (readJob l s) mem links n h in
+      rw (e, ← k, lt-ltb (length d) n g) (refl, refl)
 
-  pub answer-done : Loaded (readJob document01 s) mem links (Next n) → n ≤ length d → Answered (jobAnswer s (length d)) d (over d 0 (take n mem)) (Done n)
+  pub answer-done : Loaded (readJob l s) mem links (Next n) → n ≤ length d → Answered (jobAnswer l s (length d)) d (over d 0 (take n mem)) (Done n)
   unfolding jobAnswer
   answer-done h g =
-      let (j, e, l, f, _) = loaded-next (readJob document01 s) mem links n h in
-      rw (e, ← l, le-ltb (length d) n g, f) (ap good l, refl)
+      let (j, e, k, f, _) = loaded-next (readJob l s) mem links n h in
+      rw (e, ← k, le-ltb (length d) n g, f) (ap good k, refl)

@@ -1,5 +1,5 @@
 -- The cells of a job in memory: rows with their number in front, edges, and the front of a memory whose rest was lent.
-use Rattle.lists.proofs.Prelude.{_≡_, refl, ap, _∙_, sym, List, [], _∷_, _++_, map, append-assoc, append-nil, ℕ, zero, suc, _+_, _-_, _*_, _<_, _≤_, arith, zero-mul, suc-mul, add-mul, mul-le-mul, eqb-true, not-false, lt-ltb, length, take, drop, length-append, length-map, length-take, length-drop, take-add, take-take, length-take-le, getD-take, bytes, nth, document01, found, line, lines, runRule, delayRule, edgeLine, edgeRule, jobHeadOf}
+use Rattle.lists.proofs.Prelude.{_≡_, refl, ap, _∙_, sym, List, [], _∷_, _++_, map, append-assoc, append-nil, ℕ, zero, suc, _+_, _-_, _*_, _<_, _≤_, arith, zero-mul, suc-mul, add-mul, mul-le-mul, eqb-true, not-false, lt-ltb, length, take, drop, length-append, length-map, length-take, length-drop, take-add, take-take, length-take-le, getD-take, bytes, nth, Limits, found, line, lines, runRule, delayRule, edgeLine, edgeRule, jobHeadOf}
 use borrow.Rule.Slice.PartMut.{midOf, putMid, take-put, mid-len, same-len-mid}
 use Rattle.definitions.proofs.Lists.{passed}
 use Rattle.definitions.proofs.Reading.{Ruled, lines-found, line-found}
@@ -41,34 +41,34 @@ rows-joined k (suc n) mem =
     ∙ rw (rows-joined k n mem, append-nil, suc-mul) (sym (take-add (n * k) k mem))
 
 -- The first number of a row by its rule.
-turn : (kind : Kind) (seen : List (List ℕ)) (vs : List ℕ) → ruleOf document01 kind seen vs ≡ 0 → nth vs 0 ≡ length seen
+turn : (l : Limits) (kind : Kind) (seen : List (List ℕ)) (vs : List ℕ) → ruleOf l kind seen vs ≡ 0 → nth vs 0 ≡ length seen
 unfolding runRule delayRule
-turn Runs seen vs z = eqb-true _ _ (not-false _ (passed _ _ _ z .0))
-turn Delays seen vs z = eqb-true _ _ (not-false _ (passed _ _ _ z .0))
+turn l Runs seen vs z = eqb-true _ _ (not-false _ (passed _ _ _ z .0))
+turn l Delays seen vs z = eqb-true _ _ (not-false _ (passed _ _ _ z .0))
 
 front : (n : ℕ) (vs : List ℕ) → 0 < length vs → nth vs 0 ≡ n → n ∷ drop 1 vs ≡ vs
 front n [] h e = absurd (omega arith)
 front n (v ∷ vs) h e = rw e
 
-module _ (kind : Kind) (opening : List ℕ) (m : ℕ) where
+module _ (l : Limits) (kind : Kind) (opening : List ℕ) (m : ℕ) where
   -- Rows that were read after those in `seen`.
-  ruled-numbered : (seen xs : List (List ℕ)) → Ruled (line document01 opening (1 + m)) (ruleOf document01 kind) seen xs
+  ruled-numbered : (seen xs : List (List ℕ)) → Ruled (line l opening (1 + m)) (ruleOf l kind) seen xs
       → numbered (length seen) (map (drop 1) xs) ≡ joined xs
   unfolding numbered joined
   ruled-numbered seen [] w = refl
   ruled-numbered seen (x ∷ xs) ((s, r, f), z, w) =
-      let l : length x ≡ 1 + m = line-found document01 opening (1 + m) s x r f in
-      let e : length seen ∷ drop 1 x ≡ x = front (length seen) x (omega arith) (turn kind seen x z) in
+      let k : length x ≡ 1 + m = line-found l opening (1 + m) s x r f in
+      let e : length seen ∷ drop 1 x ≡ x = front (length seen) x (omega arith) (turn l kind seen x z) in
       let n : suc (length seen) ≡ length (seen ++ x ∷ []) = omega (arith, length-append seen (x ∷ [])) in
       ap (λ (y : List ℕ). y ++ numbered (suc (length seen)) (map (drop 1) xs)) e
       ∙ ap (λ (i : ℕ). x ++ numbered i (map (drop 1) xs)) n
       ∙ ap (λ (y : List ℕ). x ++ y) (ruled-numbered (seen ++ x ∷ []) xs w)
 
   -- The cells of n rows that were read.
-  pub rows-numbered : (n : ℕ) (mem s r : List ℕ) → lines (line document01 opening (1 + m)) (ruleOf document01 kind) n [] s ≡ found (rows (1 + m) n mem) r
+  rows-numbered : (n : ℕ) (mem s r : List ℕ) → lines (line l opening (1 + m)) (ruleOf l kind) n [] s ≡ found (rows (1 + m) n mem) r
       → numbered 0 (map (drop 1) (rows (1 + m) n mem)) ≡ take (n * (1 + m)) mem
   rows-numbered n mem s r f =
-      let (ys, q, _, w) = lines-found (line document01 opening (1 + m)) (ruleOf document01 kind) n [] s (rows (1 + m) n mem) r f in
+      let (ys, q, _, w) = lines-found (line l opening (1 + m)) (ruleOf l kind) n [] s (rows (1 + m) n mem) r f in
       ap (λ (xs : List (List ℕ)). numbered 0 (map (drop 1) xs)) q ∙ ruled-numbered [] ys w ∙ ap joined (sym q) ∙ rows-joined (1 + m) n mem
 
 -- The rest of a memory was lent -----------------------------------------------------------------------------------
@@ -81,10 +81,10 @@ module _ (d x ys : List ℕ) (a : ℕ) (e : x ≡ putMid a (length d - a) d ys) 
   lent-cells : (n : ℕ) → take (a + n) x ≡ take a d ++ take n ys
   lent-cells n = let q : drop a x ≡ ys = rw e (drop-lent a d ys h) in take-add a n x ∙ rw (lent-front, q)
 
-  pub lent-take : (n : ℕ) → n ≤ a → take n x ≡ take n d
+  lent-take : (n : ℕ) → n ≤ a → take n x ≡ take n d
   lent-take n g = sym (take-take n a x g) ∙ ap (take n) lent-front ∙ take-take n a d g
 
-  pub lent-nth : (i : ℕ) → i < a → nth x i ≡ nth d i
+  lent-nth : (i : ℕ) → i < a → nth x i ≡ nth d i
   lent-nth i g = sym (getD-take a x i 0 g) ∙ ap (λ (l : List ℕ). nth l i) lent-front ∙ getD-take a d i 0 g
 
   pub lent-head : 4 ≤ a → jobHeadOf x ≡ jobHeadOf d
@@ -92,33 +92,34 @@ module _ (d x ys : List ℕ) (a : ℕ) (e : x ≡ putMid a (length d - a) d ys) 
 
 -- A job's cells, stage by stage -------------------------------------------------------------------------------------
 
-pub runs-most : {n : ℕ} (d : List ℕ) → Headed d n → nth d 0 * (1 + nth d 1) ≤ 4335
-runs-most d w = mul-le-mul {n₁ = nth d 0} {m₁ = 1 + nth d 1} {n₂ = 255} {m₂ = 17} (w .tasks-most) (omega arith)
+module _ {l : Limits} {n : ℕ} {d : List ℕ} (w : Headed l d n) where
+  pub runs-most : nth d 0 * (1 + nth d 1) ≤ l .tasks * (1 + l .processors)
+  runs-most = mul-le-mul {n₁ = nth d 0} {m₁ = 1 + nth d 1} {n₂ = l .tasks} {m₂ = 1 + l .processors} (w .tasks-most) (omega arith)
 
-pub delays-most : {n : ℕ} (d : List ℕ) → Headed d n → nth d 1 * (1 + nth d 1) ≤ 272
-delays-most d w = mul-le-mul {n₁ = nth d 1} {m₁ = 1 + nth d 1} {n₂ = 16} {m₂ = 17} (w .processors-most) (omega arith)
+  delays-most : nth d 1 * (1 + nth d 1) ≤ l .processors * (1 + l .processors)
+  delays-most = mul-le-mul {n₁ = nth d 1} {m₁ = 1 + nth d 1} {n₂ = l .processors} {m₂ = 1 + l .processors} (w .processors-most) (omega arith)
 
-pub rows-most : {n : ℕ} (d : List ℕ) → Headed d n → (nth d 0 + nth d 1) * (1 + nth d 1) ≤ 4607
-rows-most d w = mul-le-mul {n₁ = nth d 0 + nth d 1} {m₁ = 1 + nth d 1} {n₂ = 271} {m₂ = 17} (omega arith) (omega arith)
+  pub rows-most : (nth d 0 + nth d 1) * (1 + nth d 1) ≤ (l .tasks + l .processors) * (1 + l .processors)
+  rows-most = mul-le-mul {n₁ = nth d 0 + nth d 1} {m₁ = 1 + nth d 1} {n₂ = l .tasks + l .processors} {m₂ = 1 + l .processors} (omega arith) (omega arith)
 
 -- There is room for the C lines after the head, for the D lines after them, and for the E lines after those.
-module _ {size : ℕ} (d : List ℕ) (w : Headed d size) (opening s : List ℕ) where
-  pub runs-read : rowsInto document01 (length (midOf 4 (length d - 4) d)) Runs opening (1 + nth d 1) (nth d 0) s
-      ≡ lines (line document01 opening (1 + nth d 1)) (ruleOf document01 Runs) (nth d 0) [] s
+module _ {l : Limits} {size : ℕ} (d : List ℕ) (w : Headed l d size) (opening s : List ℕ) where
+  pub runs-read : rowsInto l (length (midOf 4 (length d - 4) d)) Runs opening (1 + nth d 1) (nth d 0) s
+      ≡ lines (line l opening (1 + nth d 1)) (ruleOf l Runs) (nth d 0) [] s
   runs-read =
-      let r = runs-most d w in
+      let r = runs-most w in
       rows-fit _ _ Runs opening (1 + nth d 1) (nth d 0) s (lt-ltb 0 (1 + nth d 1) (omega arith)) (simp (length-take, length-drop) (omega arith))
 
-  pub delays-read : rowsInto document01 (length (midOf (delaysAt (jobHeadOf d)) (length d - delaysAt (jobHeadOf d)) d)) Delays opening (1 + nth d 1) (nth d 1) s
-      ≡ lines (line document01 opening (1 + nth d 1)) (ruleOf document01 Delays) (nth d 1) [] s
+  pub delays-read : rowsInto l (length (midOf (delaysAt (jobHeadOf d)) (length d - delaysAt (jobHeadOf d)) d)) Delays opening (1 + nth d 1) (nth d 1) s
+      ≡ lines (line l opening (1 + nth d 1)) (ruleOf l Delays) (nth d 1) [] s
   delays-read =
-      let r = runs-most d w in
-      let t = delays-most d w in
+      let r = runs-most w in
+      let t = delays-most w in
       rows-fit _ _ Delays opening (1 + nth d 1) (nth d 1) s (lt-ltb (nth d 1) (1 + nth d 1) (omega arith)) (simp (length-take, length-drop) (omega arith))
 
-pub edges-read : {n : ℕ} (d : List ℕ) → Headed d n → (s : List ℕ)
-    → edgesInto document01 (length (midOf (edgesAt (jobHeadOf d)) (length d - edgesAt (jobHeadOf d)) d)) (nth d 0) (nth d 2) s
-    ≡ lines (edgeLine document01) (edgeRule document01 (nth d 0)) (nth d 2) [] s
+pub edges-read : {l : Limits} {n : ℕ} (d : List ℕ) → Headed l d n → (s : List ℕ)
+    → edgesInto l (length (midOf (edgesAt (jobHeadOf d)) (length d - edgesAt (jobHeadOf d)) d)) (nth d 0) (nth d 2) s
+    ≡ lines (edgeLine l) (edgeRule l (nth d 0)) (nth d 2) [] s
 edges-read d w s = edges-enough _ _ (nth d 0) (nth d 2) s (w .tasks-most) (simp (length-take, length-drop) (omega (arith, w .room)))
 
 head-cells : (d : List ℕ) → 4 ≤ length d → take 4 d ≡ nth d 0 ∷ nth d 1 ∷ nth d 2 ∷ nth d 3 ∷ []
@@ -129,73 +130,65 @@ head-cells (a ∷ b ∷ c ∷ []) h = absurd (omega arith)
 head-cells (a ∷ b ∷ c ∷ e ∷ d) h = refl
 
 -- A head stays while the cells after it are lent.
-pub lent-headed : {size : ℕ} (d x ys : List ℕ) (a : ℕ) → x ≡ putMid a (length d - a) d ys → length ys ≡ length (midOf a (length d - a) d) → 4 ≤ a → a ≤ length d
-    → Headed d size → Headed x size
-lent-headed d x ys a e l g h w =
-    let n : length x ≡ length d = rw (e, same-len-mid a (length d - a) d ys l) in
+pub lent-headed : {l : Limits} {size : ℕ} (d x ys : List ℕ) (a : ℕ) → x ≡ putMid a (length d - a) d ys → length ys ≡ length (midOf a (length d - a) d) → 4 ≤ a → a ≤ length d
+    → Headed l d size → Headed l x size
+lent-headed d x ys a e k g h w =
+    let same = lent-nth d x ys a e h in
+    let v = same 0 (omega arith) in
+    let m = same 1 (omega arith) in
+    let n = same 2 (omega arith) in
+    let size : length x ≡ length d = rw (e, same-len-mid a (length d - a) d ys k) in
     record {
-      some-task = rw (lent-nth d x ys a e h 0 (omega arith)) (w .some-task);
-      tasks-most = rw (lent-nth d x ys a e h 0 (omega arith)) (w .tasks-most);
-      processors-most = rw (lent-nth d x ys a e h 1 (omega arith)) (w .processors-most);
-      edges-most = rw (lent-nth d x ys a e h 2 (omega arith)) (w .edges-most);
-      room = rw (lent-nth d x ys a e h 0 (omega arith), lent-nth d x ys a e h 1 (omega arith), lent-nth d x ys a e h 2 (omega arith), n) (w .room);
-      links-room = rw (lent-nth d x ys a e h 0 (omega arith), lent-nth d x ys a e h 2 (omega arith)) (w .links-room);
+      some-task = rw v (w .some-task);
+      tasks-most = rw v (w .tasks-most);
+      processors-most = rw m (w .processors-most);
+      edges-most = rw n (w .edges-most);
+      room = rw (v, m, n, size) (w .room);
+      links-room = rw (v, n) (w .links-room);
     }
 
 -- The memory d, with a head: its cells from a stage on were lent and came back as ys, and x is the memory then.
-module _ {size : ℕ} (d x ys : List ℕ) (w : Headed d size) where
+module _ {l : Limits} {size : ℕ} (d x ys : List ℕ) (w : Headed l d size) where
   -- The C lines were read.
   pub runs-in : x ≡ putMid 4 (length d - 4) d ys → (s r : List ℕ)
-      → lines (line document01 (bytes "C,") (1 + nth d 1)) (ruleOf document01 Runs) (nth d 0) [] s ≡ found (rows (1 + nth d 1) (nth d 0) ys) r
+      → lines (line l (bytes "C,") (1 + nth d 1)) (ruleOf l Runs) (nth d 0) [] s ≡ found (rows (1 + nth d 1) (nth d 0) ys) r
       → RunsIn x (map (drop 1) (rows (1 + nth d 1) (nth d 0) ys))
   runs-in e s r f =
       let h : 4 ≤ length d = omega arith in
-      rw (
-        lent-nth d x ys 4 e h 0 (omega arith),
-        lent-nth d x ys 4 e h 1 (omega arith),
-        lent-take d x ys 4 e h 4 (omega arith),
-        rows-numbered Runs (bytes "C,") (nth d 1) (nth d 0) ys s r f,
-      )
-      (lent-cells d x ys 4 e h (nth d 0 * (1 + nth d 1)))
+      let same = lent-nth d x ys 4 e h in
+      let numbers = rows-numbered l Runs (bytes "C,") (nth d 1) (nth d 0) ys s r f in
+      rw (same 0 (omega arith), same 1 (omega arith), lent-take d x ys 4 e h 4 (omega arith), numbers) (lent-cells d x ys 4 e h (nth d 0 * (1 + nth d 1)))
 
   -- The D lines were read.
   pub delays-in : (runs : List (List ℕ)) → RunsIn d runs → x ≡ putMid (delaysAt (jobHeadOf d)) (length d - delaysAt (jobHeadOf d)) d ys → (s r : List ℕ)
-      → lines (line document01 (bytes "D,") (1 + nth d 1)) (ruleOf document01 Delays) (nth d 1) [] s ≡ found (rows (1 + nth d 1) (nth d 1) ys) r
+      → lines (line l (bytes "D,") (1 + nth d 1)) (ruleOf l Delays) (nth d 1) [] s ≡ found (rows (1 + nth d 1) (nth d 1) ys) r
       → DelaysIn x runs (map (drop 1) (rows (1 + nth d 1) (nth d 1) ys))
   delays-in runs q e s r f =
       let a = delaysAt (jobHeadOf d) in
-      let h : a ≤ length d = omega (arith, runs-most d w) in
+      let h : a ≤ length d = omega (arith, runs-most w) in
       let u : 4 + (nth d 0 + nth d 1) * (1 + nth d 1) ≡ a + nth d 1 * (1 + nth d 1) = omega (arith, add-mul (nth d 0) (nth d 1) (1 + nth d 1)) in
-      rw (
-        lent-nth d x ys a e h 0 (omega arith),
-        lent-nth d x ys a e h 1 (omega arith),
-        lent-take d x ys a e h 4 (omega arith),
-        rows-numbered Delays (bytes "D,") (nth d 1) (nth d 1) ys s r f,
-        u,
-        ← q,
-      )
-      (lent-cells d x ys a e h (nth d 1 * (1 + nth d 1)))
+      let same = lent-nth d x ys a e h in
+      let numbers = rows-numbered l Delays (bytes "D,") (nth d 1) (nth d 1) ys s r f in
+      rw (same 0 (omega arith), same 1 (omega arith), lent-take d x ys a e h 4 (omega arith), numbers, u, ← q) (lent-cells d x ys a e h (nth d 1 * (1 + nth d 1)))
 
   -- The E lines were read.
   module _ (e : x ≡ putMid (edgesAt (jobHeadOf d)) (length d - edgesAt (jobHeadOf d)) d ys)
-      (l : length ys ≡ length (midOf (edgesAt (jobHeadOf d)) (length d - edgesAt (jobHeadOf d)) d)) where
+      (k : length ys ≡ length (midOf (edgesAt (jobHeadOf d)) (length d - edgesAt (jobHeadOf d)) d)) where
     pub edges-fit : edgesAt (jobHeadOf d) + nth d 2 ≤ length x
-    edges-fit =
-        let a = edgesAt (jobHeadOf d) in
-        rw e (omega (arith, rows-most d w, same-len-mid a (length d - a) d ys l))
+    edges-fit = let a = edgesAt (jobHeadOf d) in rw e (omega (arith, rows-most w, same-len-mid a (length d - a) d ys k))
 
     pub edges-part : take (edgesAt (jobHeadOf d) + nth d 2 - edgesAt (jobHeadOf d)) (drop (edgesAt (jobHeadOf d)) x) ≡ take (nth d 2) ys
     edges-part =
         let a = edgesAt (jobHeadOf d) in
         let m : a + nth d 2 - a ≡ nth d 2 = omega arith in
-        rw (m, e, drop-lent a d ys (omega (arith, rows-most d w)))
+        rw (m, e, drop-lent a d ys (omega (arith, rows-most w)))
 
     pub edges-in : (runs delays : List (List ℕ)) → DelaysIn d runs delays
         → take (edgesAt (jobHeadOf d) + nth d 2) x ≡ jobCells (jobOf (jobHeadOf d) runs delays (map edgeIn (take (nth d 2) ys)))
     unfolding jobCells
     edges-in runs delays q =
         let a = edgesAt (jobHeadOf d) in
-        let r = rows-most d w in
+        let r = rows-most w in
         let g : nth d 2 ≤ length ys = omega (arith, mid-len a (length d) d (omega arith)) in
         let n : length (map edgeIn (take (nth d 2) ys)) ≡ nth d 2 = length-map (take (nth d 2) ys) edgeIn ∙ length-take-le (nth d 2) ys g in
         lent-cells d x ys a e (omega arith) (nth d 2) ∙ rw (q, head-cells d (omega arith), n, cells-of)

@@ -1,9 +1,12 @@
 -- A job that stands in a memory: where its numbers are, and what a change elsewhere leaves as it was.
-use Rattle.lists.proofs.Prelude.{_≡_, refl, ap, _∙_, List, [], map, ℕ, _+_, _*_, _-_, _<_, _≤_, arith, mul-le-mul, length, length-map, if_then_else_, nth, below, Edge, Job, runTime, delay}
+use Rattle.lists.proofs.Prelude.{_≡_, refl, ap, _∙_, List, [], map, ℕ, _+_, _*_, _<_, _≤_, arith, mul-le-mul, length, length-map, nth, below, Edge, Job, runTime, delay, incoming, Limits}
 use Rattle.definitions.proofs.Lists.{length-count}
 use Rattle.orders.specs.Edges.{edgeIn}
+use Rattle.orders.specs.Links.{Run, inStartAt, linkIn}
+use Rattle.orders.proofs.LinkIn.{link-in}
 use Rattle.orders.proofs.RunLaws.{run-same}
-use Rattle.heads.specs.Layout.{memorySize, jobSize}
+use Rattle.heads.specs.Layout.{memorySize, jobSize, replicasMost, lanesMost}
+use Rattle.jobs.specs.Tables.{Tabled}
 use Rattle.jobs.specs.Held.{numberAt, runAt, delayAt, edgeAt, jobIn, JobHeld, LinksHeld}
 use Rattle.lists.specs.Kept.{KeptOutside}
 use Rattle.rows.proofs.RowLaws.{row-ends}
@@ -47,22 +50,26 @@ module _ (mem : List ℕ) where
 
 -- How large the job is ----------------------------------------------------------------------------------------
 
--- The numbers of the job's head are within their limits, and all its cells are in the job's part of the memory.
-pub record Sizes (capacity : ℕ) (mem : List ℕ) : Type 0 where
+-- The numbers of the job's head are within their limits, and all its cells are in the job's part of the memory; a line's cells hold its
+-- replicas, and there is a lane for each processor.
+pub record Sizes (l : Limits) (capacity : ℕ) (mem : List ℕ) : Type 0 where
   pub size : length mem ≡ memorySize capacity
   pub some-task : 1 ≤ nth mem 0
-  pub tasks-most : (nth mem 0 ≤ 255) × (nth mem 0 ≤ 8 * capacity)
+  pub tasks-most : (nth mem 0 ≤ l .tasks) × (nth mem 0 ≤ 8 * capacity)
   pub some-processor : 1 ≤ nth mem 1
-  pub processors-most : nth mem 1 ≤ 16
-  pub edges-most : (nth mem 2 ≤ 1024) × (nth mem 2 ≤ 32 * capacity)
-  pub losses-most : nth mem 3 ≤ 7
+  pub processors-most : nth mem 1 ≤ l .processors
+  pub lanes-fit : nth mem 1 ≤ lanesMost
+  pub edges-most : (nth mem 2 ≤ l .edges) × (nth mem 2 ≤ 32 * capacity)
+  pub losses-most : nth mem 3 ≤ l .losses
+  pub row-fits : nth mem 3 + 1 ≤ replicasMost
   pub enough : nth mem 3 + 1 ≤ nth mem 1
-  pub before-edges : (nth mem 0 + nth mem 1) * (nth mem 1 + 1) ≤ 4607
+  pub before-edges : (nth mem 0 + nth mem 1) * (nth mem 1 + 1) ≤ (l .tasks + l .processors) * (l .processors + 1)
   pub cells-room : edgeAt mem (nth mem 2) ≤ jobSize capacity
+  pub tabled : Tabled l
 
-pub sizes : {capacity : ℕ} {mem : List ℕ} → JobHeld capacity mem → Sizes capacity mem
+pub sizes : {l : Limits} {capacity : ℕ} {mem : List ℕ} → JobHeld l capacity mem → Sizes l capacity mem
 unfolding jobIn
-sizes {mem} h =
+sizes {l} {mem} h =
     let f = h .facts in
     record {
       size = h .size;
@@ -70,14 +77,18 @@ sizes {mem} h =
       tasks-most = (f .tasks-most, h .fits .0);
       some-processor = f .some-processor;
       processors-most = f .processors-most;
+      lanes-fit = omega (arith, f .processors-most, h .tabled .lanes-fit);
       edges-most = (omega (arith, f .edges-most, length-edges mem), h .fits .1);
       losses-most = f .losses-most;
+      row-fits = omega (arith, f .losses-most, h .tabled .row-fits);
       enough = f .enough;
-      before-edges = mul-le-mul {n₁ = nth mem 0 + nth mem 1} {m₁ = nth mem 1 + 1} {n₂ = 271} {m₂ = 17} (omega (arith, f .tasks-most, f .processors-most)) (omega (arith, f .processors-most));
+      before-edges = mul-le-mul {n₁ = nth mem 0 + nth mem 1} {m₁ = nth mem 1 + 1} {n₂ = l .tasks + l .processors} {m₂ = l .processors + 1}
+          (omega (arith, f .tasks-most, f .processors-most)) (omega (arith, f .processors-most));
       cells-room = omega (arith, h .fits .2);
+      tabled = h .tabled;
     }
 
-module _ {capacity : ℕ} {mem : List ℕ} (s : Sizes capacity mem) where
+module _ {l : Limits} {capacity : ℕ} {mem : List ℕ} (s : Sizes l capacity mem) where
   -- The cells of row r, before the edges: the rows of the tasks, then those of the processors.
   pub row-cell : (r p : ℕ) → r < nth mem 0 + nth mem 1 → p < nth mem 1
       → numberAt mem r p < 4 + (nth mem 0 + nth mem 1) * (nth mem 1 + 1)
@@ -126,24 +137,24 @@ module _ {capacity : ℕ} {mem : List ℕ} (s : Sizes capacity mem) where
         made p q r s t u = rw (p, q, r, s, t, u)
 
 -- A job that is as it was stands in a memory of the same size.
-pub held-same : {capacity : ℕ} {d e : List ℕ} → JobHeld capacity d → length e ≡ length d → Same 0 (jobSize capacity) d e → JobHeld capacity e
+pub held-same : {l : Limits} {capacity : ℕ} {d e : List ℕ} → JobHeld l capacity d → length e ≡ length d → Same 0 (jobSize capacity) d e → JobHeld l capacity e
 held-same {capacity} {d} {e} h z k =
     let w = sizes h in
     let v : nth e 0 ≡ nth d 0 = k .cell 0 (omega arith) (omega arith) in
     let m : nth e 1 ≡ nth d 1 = k .cell 1 (omega arith) (omega arith) in
     let n : nth e 2 ≡ nth d 2 = k .cell 2 (omega arith) (omega arith) in
-    record { size = z ∙ h .size; fits = rw (v, m, n) (h .fits); facts = rw (job-same w k) (h .facts) }
+    record { size = z ∙ h .size; fits = rw (v, m, n) (h .fits); facts = rw (job-same w k) (h .facts); suited = h .suited; tabled = h .tabled }
 
-module _ {capacity low high : ℕ} {d e : List ℕ} (h : JobHeld capacity d) (k : KeptOutside low high d e) (a : jobSize capacity ≤ low) where
+module _ {l : Limits} {capacity low high : ℕ} {d e : List ℕ} (h : JobHeld l capacity d) (k : KeptOutside low high d e) (a : jobSize capacity ≤ low) where
   -- A change behind the job leaves the job as it was.
   pub job-kept : jobIn e ≡ jobIn d
   job-kept = job-same (sizes h) (same-before 0 (jobSize capacity) k a)
 
-  pub held-kept : JobHeld capacity e
+  pub held-kept : JobHeld l capacity e
   held-kept = held-same h (k .size) (same-before 0 (jobSize capacity) k a)
 
 -- And the job's links are still its links.
-pub links-kept : {capacity low high : ℕ} {d e links : List ℕ} → JobHeld capacity d → KeptOutside low high d e → jobSize capacity ≤ low → LinksHeld d links → LinksHeld e links
+pub links-kept : {l : Limits} {capacity low high : ℕ} {d e links : List ℕ} → JobHeld l capacity d → KeptOutside low high d e → jobSize capacity ≤ low → LinksHeld d links → LinksHeld e links
 links-kept {capacity} {d} {e} {links} h k a l =
     let w = sizes h in
     let same = same-before 0 (jobSize capacity) k a in
@@ -165,3 +176,13 @@ links-kept {capacity} {d} {e} {links} h k a l =
       ins = λ t g. rw (v, job-kept h k a) (l .ins t (omega arith));
       order = rw (v, job-kept h k a) (l .order);
     }
+
+-- A task's cells among the links, and the run of the edges that enter it, as they are read.
+module _ {mem links : List ℕ} (l : LinksHeld mem links) {t : ℕ} (h : t < nth mem 0) where
+  pub link-cell : (i : ℕ) → linkIn (nth mem 0) t i links ≡ nth links i
+  link-cell i = link-in (nth mem 0) t i links (nth mem 2) (l .size) h
+
+  pub enters-run : {a b : ℕ}
+      → (a ≡ linkIn (nth mem 0) t (inStartAt (nth mem 0) t) links) × (b ≡ linkIn (nth mem 0) t (inStartAt (nth mem 0) (t + 1)) links)
+      → Run a b links (incoming (jobIn mem) t)
+  enters-run s = rw (s .0 ∙ link-cell _, s .1 ∙ link-cell _) (l .ins t h)

@@ -1,5 +1,5 @@
 -- The job that a memory holds is the job that was read into it.
-use Rattle.lists.proofs.Prelude.{_≡_, refl, ap, _∙_, sym, inl, inr, List, [], _∷_, _++_, map, append-assoc, append-nil, ℕ, zero, suc, _+_, _*_, _-_, _<_, _≤_, arith, add-mul, suc-mul, zero-mul, length, getD, take, length-append, length-take, length-map, List·getD-append, List·getD-map, getD-take, ext-getD, nth, In, below, document01, good, Edge, Job, JobHead, jobHeadRule, outgoing, incoming, JobFacts}
+use Rattle.lists.proofs.Prelude.{_≡_, refl, ap, _∙_, sym, inl, inr, List, [], _∷_, _++_, map, append-assoc, append-nil, ℕ, zero, suc, _+_, _*_, _-_, _<_, _≤_, arith, add-mul, suc-mul, zero-mul, length, getD, take, length-append, length-take, length-map, List·getD-append, List·getD-map, getD-take, ext-getD, nth, In, below, Limits, good, Edge, Job, JobHead, jobHeadRule, outgoing, incoming, JobFacts}
 use lib.Seq.{getD-append-add}
 use Rattle.definitions.proofs.Lists.{length-count}
 use Rattle.text.specs.declared.Step.the-variants.{Next}
@@ -10,7 +10,7 @@ use Rattle.jobs.specs.Memory.{numbered, jobCells}
 use Rattle.jobs.specs.Answers.{Loaded}
 use Rattle.jobs.specs.Held.{jobIn, LinksHeld}
 use Rattle.heads.specs.Reading.{fromRuns, closed}
-use Rattle.text.specs.Suited.{suited}
+use Rattle.text.specs.Suited.{Suited}
 use Rattle.edges.proofs.EdgeLaws.{edge-of-cell}
 use Rattle.rows.proofs.RowLaws.{row-ends}
 use Rattle.lists.proofs.Counting.{getD-below}
@@ -61,9 +61,9 @@ place-at mem a b c n e l i h =
     sym (getD-take n mem (length a + i) 0 g) ∙ ap (λ (x : List ℕ). nth x (length a + i)) e ∙ getD-append-add a (b ++ c) i 0 ∙ List·getD-append b c 0 i h
 
 -- Edges from their cells.
-edges-back : (v : ℕ) → v ≤ document01 .tasks → (es : List Edge) → ((e : Edge) → In e es → (e .from < v) × (e .to < v)) → map edgeIn (map edgeCell es) ≡ es
-edges-back v h [] f = refl
-edges-back v h (e ∷ es) f = let (a, b) = f e (inl refl) in rw (edge-of-cell _ suited v e h a b, edges-back v h es (λ d i. f d (inr i)))
+edges-back : (l : Limits) → Suited l → (v : ℕ) → v ≤ l .tasks → (es : List Edge) → ((e : Edge) → In e es → (e .from < v) × (e .to < v)) → map edgeIn (map edgeCell es) ≡ es
+edges-back l u v h [] f = refl
+edges-back l u v h (e ∷ es) f = let (a, b) = f e (inl refl) in rw (edge-of-cell l u v e h a b, edges-back l u v h es (λ d i. f d (inr i)))
 
 -- The memory begins with the cells of the job j.
 module _ (j : Job) (mem : List ℕ) (w : JobShape j) (e : take (length (jobCells j)) mem ≡ jobCells j) where
@@ -130,15 +130,15 @@ module _ (j : Job) (mem : List ℕ) (w : JobShape j) (e : take (length (jobCells
       rw k (omega (arith, add-mul v m (1 + m), runs-size, delays-size, length-append runs delays)) in
       rw n (place-at mem (head ++ runs ++ delays) edges [] (length (jobCells j)) (e ∙ from-edges) (ap length from-edges) i (rw (length-map (j .edges) edgeCell) h))
 
-  pub job-in : JobFacts document01 j → jobIn mem ≡ j
+  pub job-in : {l : Limits} → Suited l → JobFacts l j → jobIn mem ≡ j
   unfolding jobIn
-  job-in f =
+  job-in u f =
       let none : Edge = record { from = 0; to = 0; volume = 0 } in
       let edge : (i : ℕ) → i < length (j .edges) → edgeIn (nth mem (4 + (v + m) * (m + 1) + i)) ≡ getD (j .edges) i none =
       λ i h.
       let k = getD-in (j .edges) i none h in
       ap edgeIn (edge-at i h ∙ List·getD-map edgeCell (j .edges) i none)
-      ∙ edge-of-cell _ suited _ (getD (j .edges) i none) (f .tasks-most) (f .from-task _ k) (f .to-task _ k) in
+      ∙ edge-of-cell _ u _ (getD (j .edges) i none) (f .tasks-most) (f .from-task _ k) (f .to-task _ k) in
       rw (
         head-at 0 (omega arith),
         head-at 1 (omega arith),
@@ -150,10 +150,10 @@ module _ (j : Job) (mem : List ℕ) (w : JobShape j) (e : take (length (jobCells
       )
 
   -- The links of its edges are links of the job in the memory.
-  pub links-in : JobFacts document01 j → {links : List ℕ} → Linked v edges links → LinksHeld mem links
+  pub links-in : {l : Limits} → Suited l → JobFacts l j → {links : List ℕ} → Linked v edges links → LinksHeld mem links
   unfolding outgoing incoming
-  links-in f {links} r =
-      let q : map edgeIn edges ≡ jobIn mem .edges = edges-back v (f .tasks-most) (j .edges) (λ e i. (f .from-task e i, f .to-task e i)) ∙ ap (λ (i : Job). i .edges) (sym (job-in f)) in
+  links-in u f {links} r =
+      let q : map edgeIn edges ≡ jobIn mem .edges = edges-back _ u v (f .tasks-most) (j .edges) (λ e i. (f .from-task e i, f .to-task e i)) ∙ ap (λ (i : Job). i .edges) (sym (job-in u f)) in
       let n : length edges ≡ length (j .edges) = length-map (j .edges) edgeCell in
       let full : 4 + (v + m) * (m + 1) + length (j .edges) ≤ length mem =
       let k : m + 1 ≡ 1 + m = omega arith in
@@ -198,12 +198,12 @@ module _ (j : Job) (mem : List ℕ) (w : JobShape j) (e : take (length (jobCells
       edge-cell a i l = let z : 4 + (v + m) * (m + 1) + a + i ≡ 4 + (v + m) * (m + 1) + (a + i) = omega arith in rw z (edge-at (a + i) l)
 
 -- After a good answer of the reader the memory holds the job of the head and the text, and the links are its links.
-pub loaded-in : (h : JobHead) (s mem links : List ℕ) (n : ℕ) → jobHeadRule document01 h ≡ 0 → Loaded (closed (fromRuns document01 h s)) mem links (Next n)
-    → (closed (fromRuns document01 h s) ≡ good (jobIn mem)) × JobFacts document01 (jobIn mem) × LinksHeld mem links
-loaded-in h s mem links n z a =
-    let (j, g, l, c, r) = loaded-next (closed (fromRuns document01 h s)) mem links n a in
-    let f = closed-facts h s j g z in
-    let w = closed-shape h s j g .0 in
-    let e : jobIn mem ≡ j = job-in j mem w (rw (← l) c) f in
-    let k = links-in j mem w (rw (← l) c) f r in
-    rw e (g, f, k)
+pub loaded-in : {l : Limits} → Suited l → (h : JobHead) (s mem links : List ℕ) (n : ℕ) → jobHeadRule l h ≡ 0 → Loaded (closed (fromRuns l h s)) mem links (Next n)
+    → (closed (fromRuns l h s) ≡ good (jobIn mem)) × JobFacts l (jobIn mem) × LinksHeld mem links
+loaded-in {l} u h s mem links n z a =
+    let (j, g, k, c, r) = loaded-next (closed (fromRuns l h s)) mem links n a in
+    let f = closed-facts l h s j g z in
+    let w = closed-shape l h s j g .0 in
+    let e : jobIn mem ≡ j = job-in j mem w (rw (← k) c) u f in
+    let o = links-in j mem w (rw (← k) c) u f r in
+    rw e (g, f, o)

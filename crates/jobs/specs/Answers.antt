@@ -3,7 +3,7 @@ use Prim.Native.Nat.{ℕ}
 use mathlib.Core.Path.{_≡_}
 use mathlib.Core.List.{List, map}
 use lib.ListN.{length, take}
-use Rattle.definitions.specs.Limits.{document01}
+use Rattle.definitions.specs.Limits.{Limits}
 use Rattle.definitions.specs.Text.{Result, good, bad, andThen}
 use Rattle.definitions.specs.Job.{Job, readJob}
 use Rattle.definitions.specs.Tools.{fitting}
@@ -28,8 +28,8 @@ Answered (good t) d e r = (resultOf r ≡ good (length t)) × (e ≡ over d 0 t)
 Answered (bad n) d e r = (resultOf r ≡ bad n) × (e ≡ d)
 
 -- The reader of jobs: the job's cells, or the number. The job, then 8.
-unfoldable pub jobAnswer : List ℕ → ℕ → Result (List ℕ)
-jobAnswer text room = andThen (readJob document01 text) (λ j. fitting room (jobCells j))
+unfoldable pub jobAnswer : Limits → List ℕ → ℕ → Result (List ℕ)
+jobAnswer l text room = andThen (readJob l text) (λ j. fitting room (jobCells j))
 
 -- The job that was read stands at the front of a memory, and its number of cells is the answer; its edges are linked; or the refusal.
 abbrev pub Loaded : Result Job → List ℕ → List ℕ → Step → Type 0

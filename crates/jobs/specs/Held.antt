@@ -4,13 +4,15 @@ use mathlib.Core.List.{List, map}
 use Prim.Native.Nat.{ℕ, _+_, _*_, _<_, _≤_}
 use lib.ListN.{length, drop}
 use Rattle.definitions.specs.Lists.{nth, below}
-use Rattle.definitions.specs.Limits.{document01}
+use Rattle.definitions.specs.Limits.{Limits}
 use Rattle.definitions.specs.Job.{Job, jobHeadOf, incoming, outgoing}
 use Rattle.definitions.specs.Facts.{JobFacts}
 use Rattle.orders.specs.Edges.{edgeIn}
 use Rattle.orders.specs.Order.{Arranged}
 use Rattle.orders.specs.Links.{Run, outStartAt, inStartAt, orderAt, linksSize}
+use Rattle.text.specs.Suited.{Suited}
 use Rattle.heads.specs.Layout.{memorySize, FitsIn}
+use Rattle.jobs.specs.Tables.{Tabled}
 
 -- The cell of number p of row r, counted over the C lines and then the D lines; a row begins with its own number.
 abbrev pub numberAt : List ℕ → ℕ → ℕ → ℕ
@@ -50,12 +52,14 @@ pub record LinksHeld (mem links : List ℕ) : Type 0 where
       → Run (nth links (inStartAt (nth mem 0) t)) (nth links (inStartAt (nth mem 0) (t + 1))) links (incoming (jobIn mem) t)
   pub order : Arranged (nth mem 0) (jobIn mem .edges) (drop (orderAt (nth mem 0) 0) links) (nth mem 0)
 
--- A job stands in a memory of this capacity, and fits it.
-pub record JobHeld (capacity : ℕ) (mem : List ℕ) : Type 0 where
+-- A job stands in a memory of this capacity, and fits it; its limits are such that the cells and the tables serve.
+pub record JobHeld (l : Limits) (capacity : ℕ) (mem : List ℕ) : Type 0 where
   pub size : length mem ≡ memorySize capacity
   pub fits : FitsIn capacity (jobHeadOf mem)
-  pub facts : JobFacts document01 (jobIn mem)
+  pub facts : JobFacts l (jobIn mem)
+  pub suited : Suited l
+  pub tabled : Tabled l
 
 -- A job stands in a memory of some size.
-abbrev pub SomeJobHeld : List ℕ → Type 0
-SomeJobHeld mem = (capacity : ℕ) × JobHeld capacity mem
+abbrev pub SomeJobHeld : Limits → List ℕ → Type 0
+SomeJobHeld l mem = (capacity : ℕ) × JobHeld l capacity mem

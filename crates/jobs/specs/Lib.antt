@@ -3,3 +3,4 @@ pub mod Held
 pub mod Loading
 pub mod Memory
 pub mod Stages
+pub mod Tables

@@ -5,6 +5,7 @@ use mathlib.Core.List.{List, _++_}
 use mathlib.Core.Bool.{Bool, true, false}
 use lib.ListN.{length, take}
 use Rattle.definitions.specs.Lists.{nth}
+use Rattle.definitions.specs.Limits.{Limits}
 use Rattle.definitions.specs.Job.{JobHead, jobHeadOf}
 use Rattle.text.specs.declared.Step.{Step}
 use Rattle.text.specs.declared.Step.the-variants.{Next, Refused}
@@ -25,11 +26,11 @@ abbrev pub edgesAt : JobHead → ℕ
 edgesAt h = 4 + (h .tasks + h .processors) * (1 + h .processors)
 
 -- A memory with a head within its limits in front, and room for the job, and for its links in so many cells.
-pub record Headed (mem : List ℕ) (links : ℕ) : Type 0 where
+pub record Headed (l : Limits) (mem : List ℕ) (links : ℕ) : Type 0 where
   pub some-task : 1 ≤ nth mem 0
-  pub tasks-most : nth mem 0 ≤ 255
-  pub processors-most : nth mem 1 ≤ 16
-  pub edges-most : nth mem 2 ≤ 1024
+  pub tasks-most : nth mem 0 ≤ l .tasks
+  pub processors-most : nth mem 1 ≤ l .processors
+  pub edges-most : nth mem 2 ≤ l .edges
   pub room : edgesAt (jobHeadOf mem) + nth mem 2 ≤ length mem
   pub links-room : linksSize (nth mem 0) (nth mem 2) ≤ links
 

@@ -39,7 +39,7 @@ fn close(s: &[u8], at: usize, v: usize, edges: &[u64], end: usize, links: &mut [
 
 // The E lines and what follows them, after the C and D lines' cells in `mem`.
 fn load_edges(s: &[u8], at: usize, mem: &mut [u64], links: &mut [u64]) -> Step
-    requires { ⌜ Headed (now mem) (length (now links)) ⌝ }
+    requires { ⌜ Headed document01 (now mem) (length (now links)) ⌝ }
     ensures { λ r. ⌜ ((runs delays : List (List ℕ)) → DelaysIn (now (mem .entry)) runs delays
         → Loaded (closed (fromEdges document01 (jobHeadOf (now (mem .entry))) runs delays (drop at (now (s .entry))))) (now (mem .exit)) (now (links .exit)) r) ⌝ }
 {
@@ -58,7 +58,7 @@ fn load_edges(s: &[u8], at: usize, mem: &mut [u64], links: &mut [u64]) -> Step
 
 // The D lines and what follows them, after the C lines' cells in `mem`.
 fn load_delays(s: &[u8], at: usize, mem: &mut [u64], links: &mut [u64]) -> Step
-    requires { ⌜ Headed (now mem) (length (now links)) ⌝ }
+    requires { ⌜ Headed document01 (now mem) (length (now links)) ⌝ }
     ensures { λ r. ⌜ ((runs : List (List ℕ)) → RunsIn (now (mem .entry)) runs
         → Loaded (closed (fromDelays document01 (jobHeadOf (now (mem .entry))) runs (drop at (now (s .entry))))) (now (mem .exit)) (now (links .exit)) r) ⌝ }
 {
@@ -74,7 +74,7 @@ fn load_delays(s: &[u8], at: usize, mem: &mut [u64], links: &mut [u64]) -> Step
 
 // The C lines and what follows them, after the head in `mem`.
 fn load_runs(s: &[u8], at: usize, mem: &mut [u64], links: &mut [u64]) -> Step
-    requires { ⌜ Headed (now mem) (length (now links)) ⌝ }
+    requires { ⌜ Headed document01 (now mem) (length (now links)) ⌝ }
     ensures { λ r. ⌜ Loaded (closed (fromRuns document01 (jobHeadOf (now (mem .entry))) (drop at (now (s .entry))))) (now (mem .exit)) (now (links .exit)) r ⌝ }
 {
     let v = mem[0] as usize;

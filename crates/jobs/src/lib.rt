@@ -1,5 +1,6 @@
 // A job's text, read into a memory, and the links between its edges, into another.
 ghost use lib.ListN.{length, drop};
+ghost use Rattle.definitions.specs.Limits.{document01};
 ghost use Rattle.heads.specs.Heads.{headOf};
 ghost use Rattle.jobs.specs.Answers.{Answered, jobAnswer};
 ghost use Rattle.jobs.specs.Loading.{jobFrom, JobLoaded};
@@ -23,7 +24,7 @@ pub fn load_job(
     links: &mut [u64],
     capacity: usize,
 ) -> Step
-    ensures { λ r. ⌜ JobLoaded capacity (jobFrom capacity (length (now (mem .entry))) (length (now (links .entry))) (headOf head) (drop at (now (s .entry))))
+    ensures { λ r. ⌜ JobLoaded document01 capacity (jobFrom document01 capacity (length (now (mem .entry))) (length (now (links .entry))) (headOf head) (drop at (now (s .entry))))
         (now (mem .exit)) (now (links .exit)) r ⌝ }
 {
     let x = heads::head_rule(head);
@@ -38,7 +39,7 @@ pub fn load_job(
 
 // Reads a job's text into the lent cells.
 pub fn read_job(text: &[u8], cells: &mut [u64]) -> Answer
-    ensures { λ r. do ⌜ Answered (jobAnswer (now (text .entry)) (← ⟦cells.len()⟧ .entry)) (now (cells .entry)) (now (cells .exit)) r ⌝ }
+    ensures { λ r. do ⌜ Answered (jobAnswer document01 (now (text .entry)) (← ⟦cells.len()⟧ .entry)) (now (cells .entry)) (now (cells .exit)) r ⌝ }
 {
     let mut mem = [0u64; 5664];
     let mut links = [0u64; 2176];

@@ -1,8 +1,9 @@
 -- The numbers that end a line, and lines, at a place of a text.
-use Rattle.lists.proofs.Prelude.{_≡_, refl, ap, sym, _∙_, List, [], _∷_, _++_, append-assoc, append-nil, ℕ, zero, suc, _+_, _-_, _<_, _≤_, arith, add-one, eq-eqb, ne-eqb, lt-ltb, le-ltb, length, getD, take, drop, set, drop-of-length-le, drop-cons, Limits, Reading, Reader, found, refused, next, due, number, exactly, numbers, line, lines, mark}
+use Rattle.lists.proofs.Prelude.{_≡_, refl, ap, sym, _∙_, List, [], _∷_, _++_, append-assoc, append-nil, ℕ, zero, suc, _+_, _-_, _<_, _≤_, arith, add-one, eq-eqb, ne-eqb, lt-ltb, le-ltb, length, getD, take, drop, set, drop-of-length-le, drop-cons, drop-set-lt, length-set, sub-zero, Limits, Reading, Reader, found, refused, next, due, number, exactly, numbers, line, lines, mark}
 use lib.Seq.{take-suc-set}
 use Rattle.text.specs.Meaning.{stepReading, after, lineInto, ruled, PlacedBy}
 use Rattle.text.specs.declared.Step.{Step}
+use Rattle.text.specs.declared.Step.the-variants.{Next, Refused}
 use Rattle.text.specs.declared.Num.{Num}
 use Rattle.text.specs.declared.Num.the-variants.{Value}
 
@@ -33,34 +34,49 @@ after-more xs v (refused n) = refl
 left : (n i : ℕ) → i < n → n - i ≡ suc (n - (i + 1))
 left n i h = omega arith
 
--- Numbers xs were read, i of k, and the rest begins at the place p.
-module _ (l : Limits) (s xs : List ℕ) (k i p : ℕ) where
-  pub numbers-bad : i < k → number l (drop p s) ≡ refused 2 → refused 2 ≡ after xs (numbers l (k - i) (drop p s))
+-- Of the k numbers that end a line, which are G, i were read up to the place p of the text s, into vals, which had been `old`.
+pub record NumbersUpTo (l : Limits) (s : List ℕ) (k : ℕ) (old : List ℕ) (G : Reading (List ℕ)) (i : ℕ) (vals : List ℕ) (p : ℕ) : Type 0 where
+  pub count : i ≤ k
+  pub size : length vals ≡ length old
+  pub rest : after (take i vals) (numbers l (k - i) (drop p s)) ≡ G
+  pub kept : drop k vals ≡ drop k old
+
+module _ {l : Limits} {s : List ℕ} {k : ℕ} {old : List ℕ} {G : Reading (List ℕ)} {i : ℕ} {vals : List ℕ} {p : ℕ} (u : NumbersUpTo l s k old G i vals p) where
+  pub numbers-end : k ≤ i → (found (take k vals) (drop p s) ≡ G) × (drop k vals ≡ drop k old)
   unfolding numbers
-  numbers-bad h e = rw (left k i h, e)
+  numbers-end h =
+      let f : k ≡ i = omega (arith, u .count) in
+      let e : k - i ≡ 0 = omega arith in
+      (rw (f, ← append-nil (take i vals)) (rw e at (u .rest)), u .kept)
 
-  module _ (v n : ℕ) (h : i < k) (e : number l (drop p s) ≡ found v (drop n s)) where
-    pub numbers-no : (x : ℕ) → exactly (mark (k - (i + 1)) ∷ []) (drop n s) ≡ refused x → refused x ≡ after xs (numbers l (k - i) (drop p s))
+  -- The next number.
+  module _ (h : i < k) where
+    pub numbers-bad : number l (drop p s) ≡ refused 2 → (refused 2 ≡ G) × (drop k vals ≡ drop k old)
     unfolding numbers
-    numbers-no x f = rw (left k i h, e, f)
+    numbers-bad e = (rw (left k i h, e) at (u .rest), u .kept)
 
-    pub numbers-next : (q : ℕ) → exactly (mark (k - (i + 1)) ∷ []) (drop n s) ≡ found tt (drop q s)
-        → after (xs ++ v ∷ []) (numbers l (k - (i + 1)) (drop q s)) ≡ after xs (numbers l (k - i) (drop p s))
-    unfolding numbers
-    numbers-next q f = rw (left k i h, e, f) (after-more xs v (numbers l (k - (i + 1)) (drop q s)))
+    module _ (v n : ℕ) (e : number l (drop p s) ≡ found v (drop n s)) where
+      pub numbers-no : (x : ℕ) → exactly (mark (k - (i + 1)) ∷ []) (drop n s) ≡ refused x → (refused x ≡ G) × (drop k (set vals i v) ≡ drop k old)
+      unfolding numbers
+      numbers-no x f = (rw (left k i h, e, f) at (u .rest), drop-set-lt k vals i v h ∙ u .kept)
 
-  pub numbers-end : k ≤ i → found xs (drop p s) ≡ after xs (numbers l (k - i) (drop p s))
-  unfolding numbers
-  numbers-end h = let e : k - i ≡ 0 = omega arith in rw (e, append-nil)
+      pub numbers-next : (q : ℕ) → exactly (mark (k - (i + 1)) ∷ []) (drop n s) ≡ found tt (drop q s) → k ≤ length old
+          → NumbersUpTo l s k old G (i + 1) (set vals i v) q
+      unfolding numbers
+      numbers-next q f g =
+          let m : take (i + 1) (set vals i v) ≡ take i vals ++ v ∷ [] = rw add-one (take-suc-set vals i v (omega (arith, u .size))) in
+          let r = rw (left k i h, e, f) at (u .rest) in
+          record {
+            count = omega arith;
+            size = length-set vals i v ∙ u .size;
+            rest = rw m (after-more (take i vals) v (numbers l (k - (i + 1)) (drop q s)) ∙ r);
+            kept = drop-set-lt k vals i v h ∙ u .kept;
+          }
 
 -- The place after a number well inside a text is in it.
 pub inner-place : (most : ℕ) (s : List ℕ) (p end : ℕ) (r : Num) (v n : ℕ) → end ≡ length s - (most + 1) → p < end → PlacedBy (p + most) r → r ≡ Value v n
     → n < length s
 inner-place most s p end r v n e l h f = omega (arith, e, l, rw f at h)
-
--- One more number was stored.
-pub take-more : (d : List ℕ) (i v : ℕ) → i < length d → take (i + 1) (set d i v) ≡ take i d ++ v ∷ []
-take-more d i v h = rw add-one (take-suc-set d i v h)
 
 module _ (l : Limits) (opening : List ℕ) (k : ℕ) (s : List ℕ) where
   pub line-open : (r : List ℕ) → exactly opening s ≡ found tt r → numbers l k r ≡ line l opening k s
@@ -129,3 +145,24 @@ module _ {A : Type 0} (form : Reader A) (rule : List A → A → ℕ) (n i : ℕ
 
     pub lines-next : (a : A) (r : List ℕ) → ruled form rule seen s ≡ found a r → lines form rule (n - (i + 1)) (seen ++ a ∷ []) r ≡ lines form rule (n - i) seen s
     lines-next a r e = sym (one-line ∙ rw e)
+
+-- Of n lines of one kind in the text s, from `at` on, i were read up to the place p: `seen`.
+pub record LinesUpTo {A : Type 0} (form : Reader A) (rule : List A → A → ℕ) (s : List ℕ) (at n i : ℕ) (seen : List A) (p : ℕ) : Type 0 where
+  pub count : i ≤ n
+  pub rest : lines form rule (n - i) seen (drop p s) ≡ lines form rule n [] (drop at s)
+
+module _ {A : Type 0} {form : Reader A} {rule : List A → A → ℕ} {s : List ℕ} {at n : ℕ} where
+  pub lines-none : LinesUpTo form rule s at n 0 [] at
+  lines-none = record { count = omega arith; rest = rw sub-zero }
+
+  module _ {i : ℕ} {seen : List A} {p : ℕ} (u : LinesUpTo form rule s at n i seen p) where
+    pub lines-read : n ≤ i → found seen (drop p s) ≡ lines form rule n [] (drop at s)
+    lines-read h = lines-end form rule n i seen (drop p s) h ∙ u .rest
+
+    -- The next line was read, with the answer r.
+    module _ (h : i < n) (a : A) {r : Step} (e : stepReading s a r ≡ ruled form rule seen (drop p s)) where
+      pub lines-refused : {x : ℕ} → r ≡ Refused x → refused x ≡ lines form rule n [] (drop at s)
+      lines-refused f = lines-no form rule n i seen (drop p s) h _ (sym e ∙ ap (stepReading s a) f) ∙ u .rest
+
+      pub lines-more : {q : ℕ} → r ≡ Next q → LinesUpTo form rule s at n (i + 1) (seen ++ a ∷ []) q
+      lines-more f = record { count = omega arith; rest = lines-next form rule n i seen (drop p s) h a _ (sym e ∙ ap (stepReading s a) f) ∙ u .rest }

@@ -14,20 +14,6 @@ pub struct Reader<'a> {
     pub at: usize,
 }
 
-// A reader at a text's start.
-pub fn start<'a>(text: &'a [u8]) -> Reader<'a>
-    ensures { λ r. ⌜ (r .text ≡ text .entry) × (r .at ≡ 0) ⌝ }
-{
-    Reader { text, at: 0 }
-}
-
-// A reader at another place of its text.
-pub fn moved<'a>(r: Reader<'a>, at: usize) -> Reader<'a>
-    ensures { λ q. ⌜ (q .text ≡ r .entry .text) × (q .at ≡ at) ⌝ }
-{
-    Reader { text: r.text, at }
-}
-
 // The line at the reader's place: its opening and k numbers, kept at the front of `vals`.
 pub fn line<'a, 'b, 'c>(r: Reader<'a>, opening: &'b [u8], k: usize, vals: &'c mut [u64]) -> Step
     requires { ⌜ k ≤ length (now vals) ⌝ }
@@ -37,11 +23,11 @@ pub fn line<'a, 'b, 'c>(r: Reader<'a>, opening: &'b [u8], k: usize, vals: &'c mu
     lines::line_at(r.text, r.at, opening, k, vals)
 }
 
-// A line of a text, read by a reader at its place.
+// The line at a place of a text, read by a reader that holds both.
 pub fn line_of(s: &[u8], at: usize, opening: &[u8], k: usize, vals: &mut [u64]) -> Step
     requires { ⌜ k ≤ length (now vals) ⌝ }
     ensures { λ r. ⌜ (stepReading (now (s .entry)) (take k (now (vals .exit))) r ≡ line document01 (now (opening .entry)) k (drop at (now (s .entry))))
         × (drop k (now (vals .exit)) ≡ drop k (now (vals .entry))) ⌝ }
 {
-    line(moved(start(s), at), opening, k, vals)
+    line(Reader { text: s, at }, opening, k, vals)
 }

@@ -1,14 +1,5 @@
 -- Numbers below a bound, and lists made of them.
-use mathlib.Core.Path.{_≡_, refl, ap, _∙_}
-use mathlib.Core.Logic.{_⊎_, inl, inr, ⊎-elim}
-use mathlib.Core.List.{map}
-use mathlib.Core.Bool.{Bool, true, false}
-use Prim.Native.Nat.{ℕ, zero, suc, _+_, _-_, _<_}
-use native.Mathlib.Omega.{arith}
-use borrow.Author.Tests.{eqb-true, eqb-false}
-use lib.Dec.{eqb}
-use lib.ListN.{getD}
-use Rattle.definitions.specs.Lists.{countFrom, below}
+use Rattle.lists.proofs.Prelude.{_≡_, refl, ap, _∙_, _⊎_, inl, inr, ⊎-elim, map, Bool, true, false, ℕ, zero, suc, _+_, _<_, _≤_, arith, eqb-true, eqb-false, eqb, getD, countFrom, below}
 use Rattle.definitions.proofs.Lists.{map-same, in-below}
 
 pub equal-or-not : (a b : ℕ) → (a ≡ b) ⊎ (a ≡ b → ⊥)
@@ -20,6 +11,11 @@ equal-or-not a b = by (eqb a b) refl
 
 pub last-or-before : (n k : ℕ) → k < suc n → (k ≡ n) ⊎ (k < n)
 last-or-before n k h = ⊎-elim inl (λ d. inr (omega arith)) (equal-or-not k n)
+
+-- What holds at c, and goes on holding, holds at n.
+pub goes-on : (P : ℕ → Type 0) → ((n : ℕ) → P n → P (suc n)) → (c n : ℕ) → c ≤ n → P c → P n
+goes-on P f c zero l h = let e : c ≡ 0 = omega arith in rw e at h
+goes-on P f c (suc n) l h = ⊎-elim (λ (e : c ≡ suc n). rw e at h) (λ g. f n (goes-on P f c n (omega arith) h)) (last-or-before (suc n) c (omega arith))
 
 -- Member i of what f makes of the n numbers from k on.
 pub getD-count : {A : Type 0} (f : ℕ → A) (k n i : ℕ) (d : A) → i < n → getD (map f (countFrom k n)) i d ≡ f (k + i)

@@ -1,11 +1,5 @@
 -- Cells that are the same in two memories, and what is kept outside some cells.
-use mathlib.Core.Path.{_≡_, refl, _∙_}
-use mathlib.Core.List.{List}
-use Prim.Native.Nat.{ℕ, _-_, _<_, _≤_}
-use native.Mathlib.Omega.{arith}
-use lib.ListN.{set, length-set}
-use lib.Seq.{getD-set-other}
-use Rattle.definitions.specs.Lists.{nth, below}
+use Rattle.lists.proofs.Prelude.{_≡_, refl, _∙_, List, ℕ, _<_, _≤_, arith, set, length-set, getD-set-other, nth}
 use Rattle.lists.specs.Kept.{KeptOutside}
 
 -- The cells from low to below high are the same in both.

@@ -1,16 +1,7 @@
 -- More laws of lists: some member, every member, what is kept, a part.
-use mathlib.Core.Path.{_≡_, refl, sym, _∙_}
-use mathlib.Core.Logic.{inl, inr}
-use mathlib.Core.List.{List, [], _∷_, _++_}
-use mathlib.Core.Bool.{Bool, true, false, _&&_, _||_, or-false, or-assoc}
-use Prim.Native.Nat.{ℕ, _+_, _<_, _≤_}
-use native.Mathlib.Numerals.{add-one}
-use lib.ListN.{length, getD, take, drop, set, length-take, length-drop}
-use lib.Seq.{drop-cons, getD-set-same, getD-set-other, getD-take, getD-drop}
-use Rattle.definitions.specs.Lists.{if_then_else_, nth, In, keep, any, all}
-use native.Mathlib.Omega.{arith}
-use borrow.Author.Tests.{eqb-true, eqb-false}
-use lib.Dec.{eqb}
+use Rattle.lists.proofs.Prelude.{_≡_, refl, sym, _∙_, inl, inr, ⊎-elim, List, [], _∷_, _++_, Bool, true, false, _&&_, _||_, or-false, ℕ, _+_, _<_, _≤_, length, take, drop, set, length-take, length-drop, getD-set-same, getD-set-other, getD-take, getD-drop, if_then_else_, nth, In, keep, any, all, arith, map, drop-cons, drop-of-length-le, add-one, append-nil, append-assoc}
+use mathlib.Core.Bool.{or-assoc}
+use Rattle.lists.proofs.Counting.{last-or-before}
 
 -- Of some member, with one more at the end.
 pub any-last : {A : Type 0} (f : A → Bool) (xs : List A) (x : A) → any f (xs ++ x ∷ []) ≡ (any f xs || f x)
@@ -18,10 +9,31 @@ unfolding any
 any-last f [] x = or-false (f x)
 any-last f (y ∷ xs) x = rw (any-last f xs x) (sym (or-assoc (f y) (any f xs) (f x)))
 
--- Of the members from i on: of the first, and of those after it.
-pub all-drop : {A : Type 0} (f : A → Bool) (xs : List A) (i : ℕ) (d : A) → i < length xs → all f (drop i xs) ≡ (f (getD xs i d) && all f (drop (i + 1) xs))
-unfolding all
-all-drop f xs i d h = rw (drop-cons xs i d h, add-one i)
+-- Of some member of what g makes.
+pub any-map : {A B : Type 0} (f : B → Bool) (g : A → B) (xs : List A) → any f (map g xs) ≡ any (λ x. f (g x)) xs
+unfolding any
+any-map f g [] = refl
+any-map f g (x ∷ xs) = rw (any-map f g xs)
+
+-- Of some number from i on: of that one, or of one after it.
+module _ (f : ℕ → Bool) (xs : List ℕ) (i : ℕ) where
+  pub any-here : i < length xs → f (nth xs i) ≡ true → true ≡ any f (drop i xs)
+  unfolding any
+  any-here h e = rw (drop-cons xs i 0 h, e)
+
+  pub any-next : i < length xs → f (nth xs i) ≡ false → any f (drop (i + 1) xs) ≡ any f (drop i xs)
+  unfolding any
+  any-next h e = rw (drop-cons xs i 0 h, e, add-one)
+
+  pub any-end : length xs ≤ i → false ≡ any f (drop i xs)
+  unfolding any
+  any-end h = rw (drop-of-length-le xs h)
+
+-- What is made of each member, joined, with one member more at the end.
+pub joined-last : {A B : Type 0} (f : List A → List B) (g : A → List B) → f [] ≡ [] → ((x : A) (xs : List A) → f (x ∷ xs) ≡ g x ++ f xs)
+    → (xs : List A) (y : A) → f (xs ++ y ∷ []) ≡ f xs ++ g y
+joined-last f g n c [] y = rw (c y [], n) (append-nil (g y))
+joined-last f g n c (x ∷ xs) y = rw (c x (xs ++ y ∷ []), c x xs, joined-last f g n c xs y) (sym (append-assoc (g x) (f xs) (g y)))
 
 -- Tests that agree on every member keep the same.
 pub keep-same : {A : Type 0} (f g : A → Bool) (xs : List A) → ((x : A) → In x xs → f x ≡ g x) → keep f xs ≡ keep g xs
@@ -48,11 +60,8 @@ all-same f g (x ∷ xs) h = rw (h x (inl refl), all-same f g xs (λ y i. h y (in
 
 -- What holds of the first n places, with one place more.
 pub each-more : (P : ℕ → ℕ → Type 0) (xs : List ℕ) (n x : ℕ) → n < length xs → ((i : ℕ) → i < n → P i (nth xs i)) → P n x → (i : ℕ) → i < n + 1 → P i (nth (set xs n x) i)
-each-more P xs n x h g e i l = by (eqb i n) refl
-  where
-    by : (b : Bool) → eqb i n ≡ b → P i (nth (set xs n x) i)
-    by true t = let q : i ≡ n = eqb-true i n t in rw (q, getD-set-same xs n x 0 h) e
-    by false t = let q = eqb-false i n t in rw (getD-set-other xs n i x 0 q) (g i (omega arith))
+each-more P xs n x h g e i l =
+    ⊎-elim (λ (q : i ≡ n). rw (q, getD-set-same xs n x 0 h) e) (λ b. rw (getD-set-other xs n i x 0 (λ q. omega arith)) (g i b)) (last-or-before n i (omega arith))
 
 -- The n members from a on.
 module _ (xs : List ℕ) (a n : ℕ) where

@@ -1,12 +1,8 @@
 -- A list written over another from a place on, and a part of a `&mut` slice that a callee wrote and gave back. Assumes nothing.
-use mathlib.Core.Path.{_≡_, ap, _∙_, sym}
-use mathlib.Core.List.{List, [], _∷_, _++_, append-assoc, append-nil}
-use Prim.Native.Nat.{ℕ, suc, _+_, _-_, _<_, _≤_}
-use native.Mathlib.Omega.{arith}
-use native.Mathlib.Nat.{add-zero, zero-add, add-assoc}
-use native.Mathlib.Numerals.{add-one}
-use lib.ListN.{length, set, length-set, take, drop, take-append-drop, length-append, length-drop, drop-of-length-le}
-use lib.Seq.{take-set-le, drop-cons, getD-set-same, take-suc-set, drop-set-lt, take-all, drop-drop, length-take-le, take-at, drop-at}
+use Rattle.lists.proofs.Prelude.{_≡_, ap, _∙_, sym, List, [], _∷_, _++_, append-assoc, append-nil, ℕ, suc, _+_, _-_, _<_, _≤_, arith, add-zero, add-one, length, set, length-set, take, drop, length-append, length-drop, drop-of-length-le, drop-cons, getD-set-same, drop-set-lt, take-all, length-take-le, drop-at}
+use native.Mathlib.Nat.{zero-add, add-assoc}
+use lib.ListN.{take-append-drop}
+use lib.Seq.{take-set-le, take-suc-set, drop-drop, take-at}
 use borrow.Rule.Slice.PartMut.{midOf, postOf, putMid}
 use Rattle.lists.specs.Over.{over}
 

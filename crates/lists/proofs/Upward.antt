@@ -1,16 +1,6 @@
 -- Lists over the numbers below n, with one number more: what a loop that goes upwards has passed.
-use mathlib.Core.Path.{_≡_, refl, ap, _∙_}
-use mathlib.Core.Logic.{_⊎_, ⊎-elim}
-use mathlib.Core.List.{List, [], _∷_, _++_, map, map-append, append-nil}
-use mathlib.Core.Bool.{Bool, true, false}
-use Prim.Native.Nat.{ℕ, zero, suc, _+_, _<_, _≤_, max}
-use native.Mathlib.Omega.{arith}
-use native.Mathlib.Numerals.{add-one}
-use lib.Dec.{eqb}
-use lib.ListN.{length, set, length-append}
-use lib.Seq.{getD-set-same, getD-set-other}
-use borrow.Author.Tests.{eqb-true, eqb-false}
-use Rattle.definitions.specs.Lists.{if_then_else_, nth, countFrom, below, keep, sum, greatest}
+use Rattle.lists.proofs.Prelude.{_≡_, refl, ap, _∙_, _⊎_, ⊎-elim, List, [], _∷_, _++_, map, map-append, append-nil, Bool, true, false, ℕ, zero, suc, _+_, _<_, _≤_, max, arith, add-one, length, set, length-append, getD-set-same, getD-set-other, if_then_else_, nth, countFrom, below, keep, sum, greatest}
+use Rattle.lists.proofs.Counting.{last-or-before}
 
 pub count-last : (k n : ℕ) → countFrom k (suc n) ≡ countFrom k n ++ (k + n) ∷ []
 unfolding countFrom
@@ -71,11 +61,11 @@ module _ (f : ℕ → ℕ) (n : ℕ) where
 -- A table whose first n places hold what f says, with one place more.
 pub table-more : (f : ℕ → ℕ) (mem : List ℕ) (at n x : ℕ) → ((i : ℕ) → i < n → nth mem (at + i) ≡ f i) → at + n < length mem → x ≡ f n
     → (i : ℕ) → i < n + 1 → nth (set mem (at + n) x) (at + i) ≡ f i
-table-more f mem at n x h g e i l = by (eqb i n) refl
-  where
-    by : (b : Bool) → eqb i n ≡ b → nth (set mem (at + n) x) (at + i) ≡ f i
-    by true t = let q : i ≡ n = eqb-true i n t in rw q (getD-set-same mem (at + n) x 0 g ∙ e)
-    by false t = let q = eqb-false i n t in getD-set-other mem (at + n) (at + i) x 0 (λ s. q (omega arith)) ∙ h i (omega arith)
+table-more f mem at n x h g e i l =
+    ⊎-elim
+    (λ (q : i ≡ n). rw q (getD-set-same mem (at + n) x 0 g ∙ e))
+    (λ b. getD-set-other mem (at + n) (at + i) x 0 (λ s. omega arith) ∙ h i b)
+    (last-or-before n i (omega arith))
 
 -- A table is as it was after a store outside it.
 pub table-other : (f : ℕ → ℕ) (mem : List ℕ) (at n k x : ℕ) → ((i : ℕ) → i < n → nth mem (at + i) ≡ f i) → (k < at) ⊎ (at + n ≤ k)

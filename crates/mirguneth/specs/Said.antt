@@ -3,6 +3,7 @@ use Prim.Native.Nat.{ℕ}
 use mathlib.Core.Path.{_≡_}
 use mathlib.Core.List.{List, [], _∷_}
 use lib.ListN.{length}
+use Rattle.definitions.specs.Limits.{document01}
 use Rattle.definitions.specs.Text.{Result, good, bad}
 use Rattle.definitions.specs.Job.{Job}
 use Rattle.definitions.specs.Tools.{Says}
@@ -33,6 +34,6 @@ Wrote (bad n) d e r = (doneOf r ≡ bad n) × (e ≡ d)
 
 -- The answer r of a tool to a job, read or refused, and the texts of a plan and of stops.
 abbrev pub Answers : Tool → Result Job → List ℕ → List ℕ → List ℕ → List ℕ → Said → Type 0
-Answers Tool.Plan x plan stops d e r = Wrote (planOf x (length d)) d e r
-Answers Tool.Check x plan stops d e r = Says (verdictBoth (withPlan x plan)) (numbersOf r)
-Answers Tool.Replay x plan stops d e r = Wrote (replayBoth (withPlan x plan) stops (length d)) d e r
+Answers Tool.Plan x plan stops d e r = Wrote (planOf document01 x (length d)) d e r
+Answers Tool.Check x plan stops d e r = Says (verdictBoth document01 (withPlan document01 x plan)) (numbersOf r)
+Answers Tool.Replay x plan stops d e r = Wrote (replayBoth document01 (withPlan document01 x plan) stops (length d)) d e r

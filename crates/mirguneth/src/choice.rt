@@ -85,7 +85,7 @@ fn run(
     capacity: usize,
     out: &mut [u8],
 ) -> Said
-    ensures { λ r. ⌜ Answers tool (jobFrom capacity (length (now (mem .entry))) (length (now (links .entry))) (headOf head) (drop at (now (job .entry)))) (now (plan .entry))
+    ensures { λ r. ⌜ Answers tool (jobFrom document01 capacity (length (now (mem .entry))) (length (now (links .entry))) (headOf head) (drop at (now (job .entry)))) (now (plan .entry))
         (now (stops .entry)) (now (out .entry)) (now (out .exit)) r ⌝ }
 {
     match tool {
@@ -115,7 +115,7 @@ fn in_one(
     stops: &[u8],
     out: &mut [u8],
 ) -> Said
-    ensures { λ r. ⌜ Answers tool (jobFrom 1 (memorySize 1) (linksRoom 1) (headOf head) (drop at (now (job .entry)))) (now (plan .entry)) (now (stops .entry))
+    ensures { λ r. ⌜ Answers tool (jobFrom document01 1 (memorySize 1) (linksRoom 1) (headOf head) (drop at (now (job .entry)))) (now (plan .entry)) (now (stops .entry))
         (now (out .entry)) (now (out .exit)) r ⌝ }
 {
     let mut mem = [0u64; 425];
@@ -144,7 +144,7 @@ fn in_two(
     stops: &[u8],
     out: &mut [u8],
 ) -> Said
-    ensures { λ r. ⌜ Answers tool (jobFrom 2 (memorySize 2) (linksRoom 2) (headOf head) (drop at (now (job .entry)))) (now (plan .entry)) (now (stops .entry))
+    ensures { λ r. ⌜ Answers tool (jobFrom document01 2 (memorySize 2) (linksRoom 2) (headOf head) (drop at (now (job .entry)))) (now (plan .entry)) (now (stops .entry))
         (now (out .entry)) (now (out .exit)) r ⌝ }
 {
     let mut mem = [0u64; 850];
@@ -173,7 +173,7 @@ fn in_eight(
     stops: &[u8],
     out: &mut [u8],
 ) -> Said
-    ensures { λ r. ⌜ Answers tool (jobFrom 8 (memorySize 8) (linksRoom 8) (headOf head) (drop at (now (job .entry)))) (now (plan .entry)) (now (stops .entry))
+    ensures { λ r. ⌜ Answers tool (jobFrom document01 8 (memorySize 8) (linksRoom 8) (headOf head) (drop at (now (job .entry)))) (now (plan .entry)) (now (stops .entry))
         (now (out .entry)) (now (out .exit)) r ⌝ }
 {
     let mut mem = [0u64; 3400];
@@ -202,7 +202,7 @@ fn in_all(
     stops: &[u8],
     out: &mut [u8],
 ) -> Said
-    ensures { λ r. ⌜ Answers tool (jobFrom 32 (memorySize 32) (linksRoom 32) (headOf head) (drop at (now (job .entry)))) (now (plan .entry)) (now (stops .entry))
+    ensures { λ r. ⌜ Answers tool (jobFrom document01 32 (memorySize 32) (linksRoom 32) (headOf head) (drop at (now (job .entry)))) (now (plan .entry)) (now (stops .entry))
         (now (out .entry)) (now (out .exit)) r ⌝ }
 {
     let mut mem = [0u64; 13600];

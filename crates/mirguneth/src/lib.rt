@@ -12,7 +12,7 @@ mod choice;
 
 // Reads a job's text into the lent cells.
 pub fn read_job(text: &[u8], cells: &mut [u64]) -> Answer
-    ensures { λ r. do ⌜ Answered (jobAnswer (now (text .entry)) (← ⟦cells.len()⟧ .entry)) (now (cells .entry)) (now (cells .exit)) r ⌝ }
+    ensures { λ r. do ⌜ Answered (jobAnswer document01 (now (text .entry)) (← ⟦cells.len()⟧ .entry)) (now (cells .entry)) (now (cells .exit)) r ⌝ }
 {
     jobs::read_job(text, cells)
 }

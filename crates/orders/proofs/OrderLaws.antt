@@ -1,8 +1,9 @@
 -- An order of the tasks: the places of its tasks, and that it has every task exactly if the edges form no circle.
-use Rattle.lists.proofs.Prelude.{_≡_, refl, ap, _∙_, sym, _⊎_, inl, inr, List, Bool, true, false, not, ℕ, zero, suc, _<_, _≤_, arith, eqb, ltb, length, eqb-true, eqb-false, eq-eqb, ltb-true, ltb-false, not-true, nth, below, keep, In, has, distinct, Edge, Job, incoming, circular}
+use Rattle.lists.proofs.Prelude.{_≡_, refl, ap, _∙_, sym, _⊎_, inl, inr, ⊎-elim, List, Bool, true, false, not, ℕ, zero, suc, _<_, _≤_, arith, eqb, ltb, length, eq-eqb, ltb-true, ltb-false, not-true, nth, below, keep, In, has, distinct, Edge, Job, incoming, circular}
 use Rattle.definitions.specs.Job.{Path, one, more}
 use Rattle.definitions.proofs.Lists.{in-keep, keep-in, not-has, has-not, apart-head, fits, spare, length-count, in-below, below-in, distinct-count, full}
 use Rattle.definitions.proofs.Circle.{free-task, circle-found}
+use Rattle.lists.proofs.Counting.{last-or-before}
 use Rattle.orders.specs.Order.{listed, Arranged}
 
 -- Places ------------------------------------------------------------------------------------------------------
@@ -21,11 +22,7 @@ listed-place order (suc n) t (inr i) = let (k, h, e) = listed-place order n t i 
 pub place-listed : (order : List ℕ) (n k : ℕ) → k < n → In (nth order k) (listed order n)
 unfolding listed
 place-listed order zero k h = absurd (omega arith)
-place-listed order (suc n) k h = by (eqb n k) refl (place-listed order n k)
-  where
-    by : (b : Bool) → eqb n k ≡ b → (k < n → In (nth order k) (listed order n)) → (nth order n ≡ nth order k) ⊎ In (nth order k) (listed order n)
-    by true e r = inl (ap (nth order) (eqb-true n k e))
-    by false e r = inr (r (omega (arith, eqb-false n k e)))
+place-listed order (suc n) k h = ⊎-elim (λ (q : k ≡ n). inl (rw q)) (λ l. inr (place-listed order n k l)) (last-or-before n k h)
 
 -- Where no task is listed twice two places have two tasks.
 pub places-apart : (order : List ℕ) (n : ℕ) → distinct (listed order n) ≡ true → (m k : ℕ) → m < k → k < n → nth order m ≡ nth order k → ⊥
@@ -33,13 +30,7 @@ unfolding listed
 places-apart order zero d m k l h e = omega arith
 places-apart order (suc n) d m k l h e =
     let (new, d′) = apart-head (nth order n) (listed order n) d in
-    by new (places-apart order n d′ m k l) (eqb k n) refl
-  where
-    by : (In (nth order n) (listed order n) → ⊥) → (k < n → nth order m ≡ nth order k → ⊥) → (b : Bool) → eqb k n ≡ b → ⊥
-    by new r true q =
-        let same : k ≡ n = eqb-true k n q in
-        new (rw (← same, ← e) (place-listed order k m l))
-    by new r false q = r (omega (arith, eqb-false k n q)) e
+    ⊎-elim (λ (q : k ≡ n). new (rw (← q, ← e) (place-listed order k m l))) (λ g. places-apart order n d′ m k l g e) (last-or-before n k h)
 
 -- An order and the circle -------------------------------------------------------------------------------------
 

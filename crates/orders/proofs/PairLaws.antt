@@ -68,24 +68,11 @@ module _ (v : ℕ) where
       (ascending-made (pairIn c + 1) cells (λ e i. w e (inr i)) (a .1)
       (λ d i. omega (arith, ltb-true (pairIn c) (pairIn d) (pair-smaller c d ∙ a .0 (edgeIn d) (map-in edgeIn d cells i))))))
 
-  -- The test goes on behind an edge that passes.
-  module _ (least : ℕ) (cells : List ℕ) (i : ℕ) (h : i < length cells) where
-    ascending-next : ascending v least (drop i cells) ≡ (inner v (nth cells i) && (leb least (pairIn (nth cells i)) && ascending v (pairIn (nth cells i) + 1) (drop (i + 1) cells)))
-    unfolding ascending
-    ascending-next = rw (drop-cons cells i 0 h, add-one i)
-
-    pub ascending-on : edgeIn (nth cells i) .from < v → edgeIn (nth cells i) .to < v → least ≤ pairIn (nth cells i)
-        → ascending v (pairIn (nth cells i) + 1) (drop (i + 1) cells) ≡ ascending v least (drop i cells)
-    ascending-on f t l = sym (ascending-next ∙ rw (lt-ltb _ _ f, lt-ltb _ _ t, le-leb _ _ l))
-
-    pub outside-from : v ≤ edgeIn (nth cells i) .from → ascending v least (drop i cells) ≡ false
-    outside-from f = ascending-next ∙ rw (le-ltb _ _ f)
-
-    pub outside-to : edgeIn (nth cells i) .from < v → v ≤ edgeIn (nth cells i) .to → ascending v least (drop i cells) ≡ false
-    outside-to f t = ascending-next ∙ rw (lt-ltb _ _ f, le-ltb _ _ t)
-
-    pub falling : edgeIn (nth cells i) .from < v → edgeIn (nth cells i) .to < v → pairIn (nth cells i) < least → ascending v least (drop i cells) ≡ false
-    falling f t l = ascending-next ∙ rw (lt-ltb _ _ f, lt-ltb _ _ t, lt-leb _ _ l)
+  -- The test of edge i, then of those behind it.
+  pub ascending-next : (least : ℕ) (cells : List ℕ) (i : ℕ) → i < length cells
+      → ascending v least (drop i cells) ≡ (inner v (nth cells i) && (leb least (pairIn (nth cells i)) && ascending v (pairIn (nth cells i) + 1) (drop (i + 1) cells)))
+  unfolding ascending
+  ascending-next least cells i h = rw (drop-cons cells i 0 h, add-one i)
 
 -- What can be linked -------------------------------------------------------------------------------------------------
 

@@ -5,6 +5,7 @@ use Rattle.definitions.proofs.Lists.{in-keep, keep-in, keep-every, has-in, has-
 use Rattle.lists.proofs.Counting.{last-or-before, equal-or-not}
 use Rattle.lists.proofs.ListLaws.{keep-keep, keep-same}
 use Rattle.orders.proofs.LinkIn.{link-in}
+use Rattle.orders.proofs.RunLaws.{run-other}
 use Rattle.orders.proofs.OrderLaws.{listed-length, listed-place, place-listed, places-apart}
 use Rattle.orders.specs.Edges.{edgeIn}
 use Rattle.orders.specs.Order.{Within, listed, Arranged}
@@ -126,13 +127,8 @@ unfolding listed
 listed-more order k zero t h i = let q : k ≡ 0 = omega arith in rw q at i
 listed-more order k (suc n) t h i = ⊎-elim (λ (q : k ≡ suc n). rw q at i) (λ l. inr (listed-more order k n t (omega arith) i)) (last-or-before (suc n) k (omega arith))
 
-run-set : (a n i x : ℕ) (cells : List ℕ) → i < a → run a n (set cells i x) ≡ run a n cells
-unfolding run
-run-set a zero i x cells h = refl
-run-set a (suc n) i x cells h = rw (getD-set-other cells i (a + n) x 0 (omega arith), run-set a n i x cells h)
-
 -- A store to the tables of order and counts leaves the runs as they are.
-runs-set : {v : ℕ} {edges links : List ℕ} → Runs v edges links → (i x : ℕ) → orderAt v 0 ≤ i → i < inEdgeAt v 0 → Runs v edges (set links i x)
+pub runs-set : {v : ℕ} {edges links : List ℕ} → Runs v edges links → (i x : ℕ) → orderAt v 0 ≤ i → i < inEdgeAt v 0 → Runs v edges (set links i x)
 runs-set {v} {edges} {links} r i x low high = record {
   size = simp length-set (r .size);
   outs = λ t h. rw (same (outStartAt v t) (omega arith), same (outStartAt v (t + 1)) (omega arith)) (r .outs t h);
@@ -140,7 +136,7 @@ runs-set {v} {edges} {links} r i x low high = record {
       let q = r .ins t h in
       let a = r .apart t h in
       rw (same (inStartAt v t) (omega arith), same (inStartAt v (t + 1)) (omega arith))
-      record { rises = q .rises; within = simp length-set (q .within); edges = run-set _ _ i x links (omega arith) ∙ q .edges };
+      record { rises = q .rises; within = simp length-set (q .within); edges = run-other _ _ i x links (inl (omega arith)) ∙ q .edges };
   apart = λ t h. rw (same (inStartAt v t) (omega arith)) (r .apart t h);
 }
   where

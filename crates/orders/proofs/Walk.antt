@@ -1,5 +1,6 @@
 -- The way over a run, edge by edge.
-use Rattle.lists.proofs.Prelude.{_≡_, refl, ap, inl, inr, ⊎-elim, List, [], _∷_, reverse, reverseAux, ℕ, zero, suc, _+_, _-_, _<_, _≤_, arith, length, nth, In, Edge}
+use Rattle.lists.proofs.Prelude.{_≡_, refl, ap, inl, inr, ⊎-elim, List, [], _∷_, reverse, ℕ, zero, suc, _+_, _-_, _<_, _≤_, arith, length, nth, In, Edge}
+use lib.ListN.{length-reverseAux}
 use Rattle.definitions.proofs.Lists.{in-reverse}
 use Rattle.lists.proofs.Counting.{equal-or-not}
 use Rattle.orders.specs.Edges.{edgeIn}
@@ -32,10 +33,6 @@ module _ (a : ℕ) (cells : List ℕ) where
   run-member zero i h = absurd (omega arith)
   run-member (suc n) i h = ⊎-elim (λ (e : i ≡ n). inl (rw e)) (λ e. inr (run-member n i (omega arith))) (equal-or-not i n)
 
-length-reverse : {A : Type 0} (xs ys : List A) → length (reverseAux xs ys) ≡ length xs + length ys
-length-reverse [] ys = omega arith
-length-reverse (x ∷ xs) ys = omega (arith, length-reverse xs (x ∷ ys))
-
 module _ {a b : ℕ} {cells : List ℕ} {es : List Edge} (r : Run a b cells es) where
   -- The edge in each cell is one of the run's.
   pub pass-in : (k : ℕ) → a ≤ k → k < b → In (edgeIn (nth cells k)) es
@@ -49,7 +46,7 @@ module _ {a b : ℕ} {cells : List ℕ} {es : List Edge} (r : Run a b cells es) 
   pass-all k e = rw e (r .edges)
 
   pub pass-length : length es ≡ b - a
-  pass-length = omega (arith, length-reverse es [], ap length (r .edges), run-length a cells (b - a))
+  pass-length = omega (arith, length-reverseAux es [], ap length (r .edges), run-length a cells (b - a))
 
 -- A run is passed up to cell k.
 pub record Passed (a b : ℕ) (cells : List ℕ) (es : List Edge) (k : ℕ) : Type 0 where

@@ -13,6 +13,10 @@ use Rattle.orders.specs.Edges.{edgeIn}
 abbrev pub Within : ℕ → List Edge → Type 0
 Within v es = (e : Edge) → In e es → (e .from < v) × (e .to < v)
 
+-- Every edge leads to a task of a greater number.
+abbrev pub Rising : List Edge → Type 0
+Rising es = (e : Edge) → In e es → e .from < e .to
+
 -- The first n tasks of a table, the last of them first.
 unfoldable pub listed : List ℕ → ℕ → List ℕ
 listed order zero = []

@@ -26,7 +26,10 @@ pub fn link(edges: &[u64], v: usize, links: &mut [u64]) -> Linking
         return Linking::Misfit;
     }
     if runs::ascending(edges, v) {
-        runs::make_runs(edges, v, links);
+        if runs::make_runs(edges, v, links) {
+            sorting::number(edges, v, links);
+            return Linking::Joined;
+        }
         if sorting::arrange(edges, v, links) < v {
             return Linking::Circle;
         }

@@ -4,8 +4,8 @@ ghost use mathlib.Core.List.{[], map};
 ghost use Prim.Native.Nat.{_+_, _≤_, _<_};
 ghost use lib.ListN.{length, drop};
 ghost use Rattle.orders.specs.Edges.{edgeIn};
-ghost use Rattle.orders.specs.Order.{Within, Arranged};
-ghost use Rattle.orders.specs.Links.{orderAt, linksSize, Runs, Counted};
+ghost use Rattle.orders.specs.Order.{Within, Rising, Arranged};
+ghost use Rattle.orders.specs.Links.{orderAt, linksSize, Runs, Counted, Linked};
 ghost use Rattle.orders.specs.Sorting.{pending, released, joined, joinedCount, Sorting};
 use crate::edge_to;
 use crate::leaving;
@@ -78,4 +78,16 @@ pub fn arrange(edges: &[u64], v: usize, links: &mut [u64]) -> usize
         i += 1;
     }
     n
+}
+
+// The tasks by number: an order, where every edge leads to a task of a greater one.
+pub fn number(edges: &[u64], v: usize, links: &mut [u64])
+    requires { ⌜ Runs v (now edges) (now links) × Rising (map edgeIn (now edges)) ⌝ }
+    ensures { λ _. ⌜ Linked v (now (edges .entry)) (now (links .exit)) ⌝ }
+{
+    let mut t = 0;
+    while t < v {
+        links[order_at(v, t)] = t as u64;
+        t += 1;
+    }
 }

@@ -1,111 +1,19 @@
 -- A plan's lines, read into rows.
-use Rattle.lists.proofs.Prelude.{_≡_, refl, ap, sym, subst, _∙_, _⊎_, inl, inr, ⊎-elim, List, [], _∷_, _++_, ℕ, zero, suc, _+_, _-_, _*_, _<_, _≤_, arith, add-zero, sub-zero, add-one, length, set, take, drop, length-drop, List·getD-append, drop-at, length-take-le, take-all, take-add, drop-cons, getD-take, getD-drop, getD-set-same, getD-set-other, bytes, nth, document01, Reading, Reader, found, refused, line, lines, Job, Replica, Line, planLineRule}
+use Rattle.lists.proofs.Prelude.{_≡_, refl, ap, sym, _∙_, List, [], _∷_, _++_, map, countFrom, ℕ, zero, suc, _+_, _-_, _*_, _<_, _≤_, arith, add-zero, sub-zero, add-one, length, set, take, drop, length-drop, List·getD-append, drop-at, length-take-le, take-all, getD-take, getD-drop, bytes, nth, Limits, Reading, Reader, found, refused, line, lines, Job, Replica, Line, planLineRule}
 use borrow.Rule.Slice.PartMut.{midOf, postOf, putMid, take-put, drop-put, same-len-mid, mid-len}
 use Rattle.definitions.specs.Plan.{triples, lineOf, planLine}
-use Rattle.heads.specs.Layout.{levelAt, lineAt, blockedAt, rowAt, largestDelayAt}
+use Rattle.heads.specs.Layout.{lineAt, blockedAt, rowAt, largestDelayAt, processorAt, earlyAt, lateAt}
 use Rattle.jobs.specs.Held.{jobIn, JobHeld, LinksHeld}
-use Rattle.plans.specs.Lines.{lineCells, rowEnd, rowReplicas, linesIn, RowHeld, LinesHeld}
+use Rattle.plans.specs.Lines.{lineCells, rowEnd, replicaIn, linesIn, RowHeld, LinesHeld}
 use Rattle.lists.specs.Kept.{KeptOutside}
 use Rattle.text.specs.declared.Step.{Step}
 use Rattle.text.specs.declared.Step.the-variants.{Next, Refused}
-use Rattle.text.specs.Meaning.{stepReading, ruled}
-use Rattle.plans.specs.Loading.{lineIn, LineRead}
-use Rattle.lines.proofs.LineLaws.{ruled-bad, ruled-no, ruled-yes, lines-end, lines-no, lines-next}
-use Rattle.lists.proofs.Counting.{equal-or-not, last-or-before}
-use Rattle.lists.proofs.Kept.{Same, same-part, same-before, same-behind, kept-all, kept-then, kept-wider, kept-set}
-use Rattle.jobs.proofs.Held.{Sizes, sizes, job-kept, held-kept, links-kept, losses-in}
-use Rattle.plans.proofs.Lines.{lines-same, row-held-same, standing-behind}
-
--- The table of lines, emptied -------------------------------------------------------------------------------------------
-
-pub cleared-more : (capacity : ℕ) (d : List ℕ) (t : ℕ) → lineAt capacity + t < length d → ((u : ℕ) → u < t → nth d (lineAt capacity + u) ≡ 0) → (u : ℕ) → u < t + 1
-    → nth (set d (lineAt capacity + t) 0) (lineAt capacity + u) ≡ 0
-cleared-more capacity d t l h u g =
-    ⊎-elim
-    (λ (e : u ≡ t). rw e (getD-set-same d (lineAt capacity + t) 0 0 l))
-    (λ b. getD-set-other d (lineAt capacity + t) (lineAt capacity + u) 0 0 (λ e. omega arith) ∙ h u b)
-    (last-or-before t u (omega arith))
-
--- No line yet.
-pub standing-none : {capacity : ℕ} {d : List ℕ} → JobHeld capacity d → ((t : ℕ) → t < 8 * capacity → nth d (lineAt capacity + t) ≡ 0) → LinesHeld capacity 0 d
-standing-none h z =
-    let w = sizes h in
-    record {
-      job = h;
-      count = omega arith;
-      task-of = λ i g. absurd (omega arith);
-      line-of = λ i g. absurd (omega arith);
-      placed = λ t g. inl (z t (omega arith));
-      row = λ i g. absurd (omega arith);
-    }
-
--- The line of row k, of a task, gets its place in the table.
-module _ {capacity k : ℕ} {d : List ℕ} (s : LinesHeld capacity k d) (b : k < nth d 0) (task : ℕ) (here : nth d (rowAt capacity k) ≡ task) (t : task < nth d 0)
-    (z : nth d (lineAt capacity + task) ≡ 0) (r : RowHeld (rowAt capacity k) d) where
-  abbrev e : List ℕ
-  e = set d (lineAt capacity + task) (suc k)
-
-  w : Sizes capacity d
-  w = sizes (s .job)
-
-  other : (i : ℕ) → (i ≡ lineAt capacity + task → ⊥) → nth e i ≡ nth d i
-  other i n = getD-set-other d (lineAt capacity + task) i (suc k) 0 n
-
-  new : nth e (lineAt capacity + task) ≡ suc k
-  new = getD-set-same d (lineAt capacity + task) (suc k) 0 (omega (arith, w))
-
-  same-job : Same 0 (levelAt capacity) d e
-  same-job = record { cell = λ i p q. other i (λ f. omega arith) }
-
-  row-cell : (i : ℕ) → nth e (rowAt capacity i) ≡ nth d (rowAt capacity i)
-  row-cell i = other (rowAt capacity i) (λ f. omega (arith, w))
-
-  line-cell : (u : ℕ) → (u ≡ task → ⊥) → nth e (lineAt capacity + u) ≡ nth d (lineAt capacity + u)
-  line-cell u n = other (lineAt capacity + u) (λ f. n (omega arith))
-
-  same-rows : (i : ℕ) → Same (rowAt capacity i) (rowEnd (rowAt capacity i)) d e
-  same-rows i = record { cell = λ x p q. other x (λ f. omega (arith, w)) }
-
-  tasks-same : nth e 0 ≡ nth d 0
-  tasks-same = same-job .cell 0 (omega arith) (omega arith)
-
-  of-task : (i : ℕ) → i < suc k → nth d (rowAt capacity i) < nth d 0
-  of-task i h = ⊎-elim (λ (q : i ≡ k). rw (q, here) t) (λ l. s .task-of i l) (last-or-before k i h)
-
-  of-line : (i : ℕ) → i < suc k → nth e (lineAt capacity + nth d (rowAt capacity i)) ≡ suc i
-  of-line i h =
-      ⊎-elim
-      (λ (q : i ≡ k). rw (q, here) new)
-      (λ l.
-      let n : nth d (rowAt capacity i) ≡ task → ⊥ = λ (q : nth d (rowAt capacity i) ≡ task). let x : nth d (lineAt capacity + task) ≡ suc i = rw q at (s .line-of i l) in omega arith in
-      line-cell (nth d (rowAt capacity i)) n ∙ s .line-of i l)
-      (last-or-before k i h)
-
-  of-place : (u : ℕ) → u < nth d 0 → (nth e (lineAt capacity + u) ≡ 0) ⊎ ((i : ℕ) × (i < suc k) × (nth e (lineAt capacity + u) ≡ suc i) × (nth e (rowAt capacity i) ≡ u))
-  of-place u h =
-      ⊎-elim
-      (λ (q : u ≡ task). inr (k, omega arith, rw q new, row-cell k ∙ here ∙ sym q))
-      (λ n.
-      ⊎-elim
-      (λ x. inl (line-cell u n ∙ x))
-      (λ (x : (i : ℕ) × (i < k) × (nth d (lineAt capacity + u) ≡ suc i) × (nth d (rowAt capacity i) ≡ u)). inr (x .0, omega (arith, x .1), line-cell u n ∙ x .2, row-cell (x .0) ∙ x .3))
-      (s .placed u h))
-      (equal-or-not u task)
-
-  of-row : (i : ℕ) → i < suc k → RowHeld (rowAt capacity i) d
-  of-row i h = ⊎-elim (λ (q : i ≡ k). rw q r) (λ l. s .row i l) (last-or-before k i h)
-
-  pub standing-more : LinesHeld capacity (suc k) (set d (lineAt capacity + task) (suc k))
-  standing-more =
-      let c : KeptOutside (lineAt capacity) (blockedAt capacity) d e = kept-set (lineAt capacity + task) (suc k) kept-all (omega arith) (omega (arith, w)) in
-      record {
-        job = held-kept (s .job) c (omega arith);
-        count = rw tasks-same (omega arith);
-        task-of = λ i h. rw (row-cell i, tasks-same) (of-task i h);
-        line-of = λ i h. rw (row-cell i) (of-line i h);
-        placed = λ u h. of-place u (rw tasks-same at h);
-        row = λ i h. row-held-same (rowAt capacity i) w (same-part 0 4 same-job (omega arith) (omega arith)) (same-rows i) (of-row i h);
-      }
+use Rattle.text.specs.Meaning.{stepReading, ruled, lineInto}
+use Rattle.plans.specs.Loading.{lineIn, RowFilled, LineRead}
+use Rattle.lines.proofs.LineLaws.{line-fits, ruled-bad, ruled-no, ruled-yes, lines-end, lines-no, lines-next}
+use Rattle.lists.proofs.Kept.{same-before, same-behind, kept-all, kept-then, kept-wider, kept-set}
+use Rattle.jobs.proofs.Held.{Sizes, sizes, job-kept, links-kept, losses-in}
+use Rattle.plans.proofs.Lines.{replicas-below, lines-same, standing-behind, standing-more}
 
 -- A row that was read ---------------------------------------------------------------------------------------------------
 
@@ -129,204 +37,176 @@ module _ (a b : ℕ) (d ys : List ℕ) (p : a ≤ b) (q : b ≤ length d) (l : l
       sym (getD-drop a lent i 0) ∙ ap (λ (x : List ℕ). nth x i) (drop-at (take a d) (ys ++ postOf a (b - a) d) a (length-take-le a d (omega arith)))
       ∙ List·getD-append ys (postOf a (b - a) d) 0 i h
 
--- Three numbers are a replica more.
-triples-last : (c : ℕ) (xs : List ℕ) (p e x : ℕ) → length xs ≡ 3 * c → triples (xs ++ p ∷ e ∷ x ∷ []) ≡ triples xs ++ record { processor = p; early = e; late = x } ∷ []
-unfolding triples
-triples-last zero [] p e x h = refl
-triples-last zero (a ∷ xs) p e x h = absurd (omega arith)
-triples-last (suc c) [] p e x h = absurd (omega arith)
-triples-last (suc c) (a ∷ []) p e x h = absurd (omega arith)
-triples-last (suc c) (a ∷ b ∷ []) p e x h = absurd (omega arith)
-triples-last (suc c) (a ∷ b ∷ d ∷ xs) p e x h = ap (λ (rs : List Replica). record { processor = a; early = b; late = d } ∷ rs) (triples-last c xs p e x (omega arith))
+-- The numbers of replicas stand in the line at a, from replica k on.
+row-triples : (mem : List ℕ) (a k c : ℕ) (xs : List ℕ) → length xs ≡ 3 * c → ((i : ℕ) → i < length xs → nth mem (processorAt a k + i) ≡ nth xs i)
+    → triples xs ≡ map (λ i. replicaIn a i mem) (countFrom k c)
+unfolding triples countFrom
+row-triples mem a k zero [] l h = refl
+row-triples mem a k zero (p ∷ xs) l h = absurd (omega arith)
+row-triples mem a k (suc c) [] l h = absurd (omega arith)
+row-triples mem a k (suc c) (p ∷ []) l h = absurd (omega arith)
+row-triples mem a k (suc c) (p ∷ e ∷ []) l h = absurd (omega arith)
+row-triples mem a k (suc c) (p ∷ e ∷ x ∷ xs) l h =
+    rw (cell 0 (processorAt a k) (omega arith) (omega arith), cell 1 (earlyAt a k) (omega arith) (omega arith), cell 2 (lateAt a k) (omega arith) (omega arith))
+    (ap (λ (rs : List Replica). record { processor = p; early = e; late = x } ∷ rs) (row-triples mem a (suc k) c xs (omega arith)
+    (λ i g. cell (suc (suc (suc i))) (processorAt a (suc k) + i) (omega arith) (omega arith))))
+  where
+    cell : (i n : ℕ) → n ≡ processorAt a k + i → i < length (p ∷ e ∷ x ∷ xs) → nth mem n ≡ nth (p ∷ e ∷ x ∷ xs) i
+    cell i n q g = rw q (h i g)
 
 -- The numbers vs of a line stand in the row at a.
-module _ (mem : List ℕ) (a : ℕ) (vs : List ℕ) (h : (i : ℕ) → i < length vs → nth mem (a + i) ≡ nth vs i) where
-  three : (xs : List ℕ) (i : ℕ) → i + 3 ≤ length xs → take 3 (drop i xs) ≡ nth xs i ∷ nth xs (suc i) ∷ nth xs (suc (suc i)) ∷ []
-  three xs i g = rw (drop-cons xs i 0 (omega arith), drop-cons xs (suc i) 0 (omega arith), drop-cons xs (suc (suc i)) 0 (omega arith))
+row-line : (mem : List ℕ) (a : ℕ) (vs : List ℕ) → ((i : ℕ) → i < length vs → nth mem (a + i) ≡ nth vs i) → length vs ≡ lineCells mem → lineOf vs ≡ lineIn a mem
+row-line mem a vs h g =
+    let t : nth vs 0 ≡ nth mem a = sym (h 0 (omega arith)) ∙ ap (nth mem) (add-zero a) in
+    let m : length (drop 1 vs) ≡ 3 * (nth mem 3 + 1) = omega (arith, length-drop 1 vs) in
+    let rs = row-triples mem a 0 (nth mem 3 + 1) (drop 1 vs) m
+    (λ i l. let e : processorAt a 0 + i ≡ a + (1 + i) = omega arith in rw (e, getD-drop 1 vs i 0) (h (1 + i) (omega arith))) in
+    rw (t, rs, ← replicas-below mem a (nth mem 3 + 1))
 
-  -- Number x after the first.
-  cell-of : (x y : ℕ) → y ≡ 1 + x → y < length vs → nth (drop 1 vs) x ≡ nth mem (a + y)
-  cell-of x y e g = getD-drop 1 vs x 0 ∙ ap (λ (z : ℕ). nth vs z) (sym e) ∙ sym (h y g)
+-- The row of one line more ends within the memory.
+pub row-within : {l : Limits} {capacity k : ℕ} {d : List ℕ} → LinesHeld l capacity k d → k < nth d 0 → rowEnd (rowAt capacity k) ≤ length d
+row-within u h = omega (arith, sizes (u .job), h)
 
-  row-triples : (c : ℕ) → 1 + 3 * c ≤ length vs → triples (take (3 * c) (drop 1 vs)) ≡ rowReplicas a c mem
-  unfolding rowReplicas triples
-  row-triples zero g = refl
-  row-triples (suc c) g =
-      let us = drop 1 vs in
-      let m : length us ≡ length vs - 1 = length-drop 1 vs in
-      let n : 3 * suc c ≡ 3 * c + 3 = omega arith in
-      rw (n, take-add (3 * c) 3 us, three us (3 * c) (omega arith))
-      (triples-last c (take (3 * c) us) (nth us (3 * c)) (nth us (suc (3 * c))) (nth us (suc (suc (3 * c)))) (length-take-le (3 * c) us (omega arith))
-      ∙ rw (
-        row-triples c (omega arith),
-        cell-of (3 * c) (1 + 3 * c) refl (omega arith),
-        cell-of (suc (3 * c)) (2 + 3 * c) (omega arith) (omega arith),
-        cell-of (suc (suc (3 * c)))
-            (3 + 3 * c) (omega arith) (omega arith),
-      ))
+pub row-numbers : {l : Limits} {capacity k : ℕ} {d : List ℕ} → LinesHeld l capacity k d → lineCells d ≤ rowEnd 0
+row-numbers u = omega (arith, sizes (u .job) .row-fits)
 
-  pub row-line : length vs ≡ lineCells mem → lineOf vs ≡ lineIn a mem
-  row-line g =
-      let t : nth vs 0 ≡ nth mem a = sym (h 0 (omega arith)) ∙ ap (λ (y : ℕ). nth mem y) (add-zero a) in
-      let m : length (drop 1 vs) ≤ 3 * (nth mem 3 + 1) = omega (arith, length-drop 1 vs) in
-      rw (t, ← row-triples (nth mem 3 + 1) (omega arith), take-all (3 * (nth mem 3 + 1)) (drop 1 vs) m)
+-- k lines stand in d, and the n numbers of one more were read into its row, which is at a.
+module _ {l : Limits} {capacity k : ℕ} {d : List ℕ} (u : LinesHeld l capacity k d) (h : k < nth d 0) (a n : ℕ) (z : a ≡ rowAt capacity k) (q : n ≡ lineCells d) (ys : List ℕ)
+    (o : length ys ≡ length (midOf a (a + n - a) d)) where
+  abbrev lentRow : List ℕ
+  lentRow = putMid a (a + n - a) d ys
+
+  within : a + n ≤ length d
+  within = omega (arith, row-within u h, row-numbers u, q, z)
+
+  width : length ys ≡ n
+  width = omega (arith, o, mid-len a (a + n) d within)
+
+  row-kept : KeptOutside a (a + n) d lentRow
+  row-kept = lent-kept a (a + n) d ys (omega arith) within (omega (arith, width))
+
+  line-filled : lineOf (take n ys) ≡ lineIn (rowAt capacity k) lentRow
+  line-filled =
+      rw (take-all n ys (omega (arith, width)), ← z)
+      (row-line lentRow a ys (lent-cell a (a + n) d ys (omega arith) within (omega (arith, width))) (omega (arith, row-kept .before 3 (omega (arith, z)), width, q)))
+
+  pub row-filled : (s : List ℕ) (at : ℕ) (r : Step)
+      → stepReading s (take n ys) r ≡ lineInto l (length (midOf a (a + n - a) d)) (bytes "T,") n (drop at s) → RowFilled l capacity k s at d lentRow r
+  unfolding planLine
+  row-filled s at r e =
+      record {
+        kept = kept-wider (rowAt capacity k) (rowEnd (rowAt capacity k)) row-kept (omega (arith, z)) (omega (arith, z, q, row-numbers u));
+        answer = by r (e ∙ line-fits l (length (midOf a (a + n - a) d)) (bytes "T,") n (drop at s) (omega (arith, o, width)));
+      }
+    where
+      by : (r : Step) → stepReading s (take n ys) r ≡ line l (bytes "T,") n (drop at s) → stepReading s (lineIn (rowAt capacity k) lentRow) r ≡ planLine l (jobIn d) (drop at s)
+      by (Next p) e = let m : 1 + 3 * (1 + jobIn d .losses) ≡ n = omega (arith, losses-in d, q) in rw (m, ← e, line-filled)
+      by (Refused x) e = let m : 1 + 3 * (1 + jobIn d .losses) ≡ n = omega (arith, losses-in d, q) in rw (m, ← e)
 
 -- One line ----------------------------------------------------------------------------------------------------------------
 
-line-bad : (d s : List ℕ) (n x : ℕ) → n ≡ lineCells d → line document01 (bytes "T,") n s ≡ refused x → planLine document01 (jobIn d) s ≡ refused x
-unfolding planLine
-line-bad d s n x q e = let m : 1 + 3 * (1 + jobIn d .losses) ≡ n = omega (arith, losses-in d) in rw (m, e)
-
-line-read : (d s vs r : List ℕ) (n : ℕ) → n ≡ lineCells d → line document01 (bytes "T,") n s ≡ found vs r → planLine document01 (jobIn d) s ≡ found (lineOf vs) r
-unfolding planLine
-line-read d s vs r n q e = let m : 1 + 3 * (1 + jobIn d .losses) ≡ n = omega (arith, losses-in d) in rw (m, e)
-
--- One line more, after the lines in `seen`.
-lines-more : (capacity : ℕ) (d mem : List ℕ) (k a : ℕ) (seen : List Line) → a ≡ rowAt capacity k → linesIn capacity (nth d 3 + 1) k mem ≡ seen → nth mem 3 ≡ nth d 3
-    → linesIn capacity (nth d 3 + 1) (suc k) mem ≡ seen ++ lineIn a mem ∷ []
-unfolding linesIn
-lines-more capacity d mem k a seen z e l = rw (e, l, z)
-
 -- What a T line of the job in d has to be.
-abbrev formOf : List ℕ → Reader Line
-formOf d = planLine document01 (jobIn d)
+abbrev formOf : Limits → List ℕ → Reader Line
+formOf l d = planLine l (jobIn d)
 
-abbrev ruleOf : List ℕ → List Line → Line → ℕ
-ruleOf d = planLineRule document01 (jobIn d)
+abbrev ruleOf : Limits → List ℕ → List Line → Line → ℕ
+ruleOf l d = planLineRule l (jobIn d)
 
 -- A refusal is no place.
 refused-no : {A : Type 0} (x n : ℕ) → Refused x ≡ Next n → A
 refused-no x n e = let z : _≡_ {A = ℕ} 0 1 = cc in absurd (omega (arith, z))
 
--- The row of one line more ends within the memory.
-pub row-within : {capacity k : ℕ} {d : List ℕ} → LinesHeld capacity k d → k < nth d 0 → rowEnd (rowAt capacity k) ≤ length d
-row-within u h = omega (arith, sizes (u .job), h)
+-- One line more, after the lines in `seen`.
+lines-more : (capacity : ℕ) (d mem : List ℕ) (k : ℕ) (seen : List Line) → linesIn capacity (nth d 3 + 1) k mem ≡ seen → nth mem 3 ≡ nth d 3
+    → linesIn capacity (nth d 3 + 1) (suc k) mem ≡ seen ++ lineIn (rowAt capacity k) mem ∷ []
+unfolding linesIn
+lines-more capacity d mem k seen e l = rw (e, l)
 
-pub row-numbers : {capacity k : ℕ} {d : List ℕ} → LinesHeld capacity k d → lineCells d ≤ rowEnd 0
-row-numbers u = omega (arith, sizes (u .job) .losses-most)
-
--- k lines stand in d, and the numbers of one more, n, were read from the text s into its row, at a.
-module _ {capacity k : ℕ} {d : List ℕ} (u : LinesHeld capacity k d) (h : k < nth d 0) (a n : ℕ) (z : a ≡ rowAt capacity k) (q : n ≡ lineCells d) (ys : List ℕ)
-    (l : length ys ≡ length (midOf a (a + n - a) d)) where
+-- k lines stand in d, and one more was read into its row, with the answer r.
+module _ {l : Limits} {capacity k at : ℕ} {d s mem : List ℕ} {r : Step} (u : LinesHeld l capacity k d) (h : k < nth d 0) (f : RowFilled l capacity k s at d mem r) where
   abbrev seen : List Line
   seen = linesIn capacity (nth d 3 + 1) k d
 
-  abbrev filled : List ℕ
-  filled = putMid a (a + n - a) d ys
+  abbrev latest : Line
+  latest = lineIn (rowAt capacity k) mem
 
-  limits : Sizes capacity d
+  limits : Sizes l capacity d
   limits = sizes (u .job)
 
-  fits : a + n ≤ rowEnd a
-  fits = omega (arith, row-numbers u, q)
+  all-kept : KeptOutside (lineAt capacity) (largestDelayAt capacity) d mem
+  all-kept = kept-wider (lineAt capacity) (largestDelayAt capacity) (f .kept) (omega arith) (omega (arith, limits, h))
 
-  within : a + n ≤ length d
-  within = omega (arith, row-within u h, fits, z)
+  pub filled-standing : LinesHeld l capacity k mem
+  filled-standing = standing-behind (f .kept) u (omega arith)
 
-  width : length ys ≡ a + n - a
-  width = l ∙ mid-len a (a + n) d within
+  pub filled-asked : {links : List ℕ} → LinksHeld d links → JobHeld l capacity mem × LinksHeld mem links × (rowEnd (rowAt capacity k) ≤ length mem)
+  filled-asked i = (filled-standing .job, links-kept (u .job) (f .kept) (omega arith) i, omega (arith, row-within u h, f .kept .size))
 
-  pub line-room : n ≤ length (midOf a (a + n - a) d)
-  line-room = omega (arith, l, width)
+  -- Its task, if the job has it, has its place in the table.
+  pub line-place : nth mem (rowAt capacity k) < nth mem 0 → lineAt capacity + nth mem (rowAt capacity k) < length mem
+  line-place t = omega (arith, sizes (filled-standing .job), t)
 
-  row-kept : KeptOutside a (a + n) d filled
-  row-kept = lent-kept a (a + n) d ys (omega arith) within width
-
-  all-kept : KeptOutside (lineAt capacity) (largestDelayAt capacity) d filled
-  all-kept = kept-wider (lineAt capacity) (largestDelayAt capacity) row-kept (omega (arith, z)) (omega (arith, limits, fits, h, z))
-
-  pub line-standing : LinesHeld capacity k (putMid a (a + n - a) d ys)
-  line-standing = standing-behind row-kept u (omega (arith, z))
-
-  pub line-links : {links : List ℕ} → LinksHeld d links → LinksHeld (putMid a (a + n - a) d ys) links
-  line-links = links-kept (u .job) row-kept (omega (arith, z))
-
-  -- The task that stands in the row, if the job has it, has its place in the memory.
-  pub line-place : nth filled a < nth filled 0 → lineAt capacity + nth filled a < length filled
-  line-place t = omega (arith, sizes (line-standing .job), t)
-
-  job-filled : jobIn filled ≡ jobIn d
-  job-filled = job-kept (u .job) all-kept (omega arith)
-
-  losses-filled : nth filled 3 ≡ nth d 3
+  losses-filled : nth mem 3 ≡ nth d 3
   losses-filled = all-kept .before 3 (omega arith)
 
-  lines-filled : linesIn capacity (nth d 3 + 1) k filled ≡ seen
-  lines-filled = lines-same d filled capacity (nth d 3 + 1) k (omega (arith, limits)) (same-before (rowAt capacity 0) (rowAt capacity k) row-kept (omega (arith, z)))
+  lines-filled : linesIn capacity (nth d 3 + 1) k mem ≡ seen
+  lines-filled = lines-same d mem capacity (nth d 3 + 1) k (omega (arith, limits)) (same-before (rowAt capacity 0) (rowAt capacity k) (f .kept) (omega arith))
 
-  module _ (s : List ℕ) (at : ℕ) where
-    pub read-bad : (x : ℕ) → line document01 (bytes "T,") n (drop at s) ≡ refused x → LineRead capacity k s at d filled (Refused x)
-    read-bad x e =
-        record {
-          kept = all-kept;
-          latest = lineIn a filled;
-          answer = ruled-bad (formOf d) (ruleOf d) seen (drop at s) x (line-bad d (drop at s) n x q e);
-          standing = λ m f. refused-no x m f;
-          more = λ m f. refused-no x m f;
-        }
+  refused-line : (x : ℕ) → refused x ≡ ruled (formOf l d) (ruleOf l d) seen (drop at s) → LineRead l capacity k s at d mem (Refused x)
+  refused-line x e = record { kept = all-kept; latest = latest; answer = e; standing = λ m f. refused-no x m f; more = λ m f. refused-no x m f }
 
-    -- The line was read, and r is the place after it; x is what its rule says.
-    module _ (r : ℕ) (e : line document01 (bytes "T,") n (drop at s) ≡ found (take n ys) (drop r s)) (x : ℕ)
-        (f : x ≡ planLineRule document01 (jobIn filled) (linesIn capacity (nth filled 3 + 1) k filled) (lineIn a filled)) where
-      read-line : formOf d (drop at s) ≡ found (lineIn a filled) (drop r s)
-      read-line =
-          let m : length ys ≡ n = omega (arith, width) in
-          let g : lineOf ys ≡ lineIn a filled = row-line filled a ys (lent-cell a (a + n) d ys (omega arith) within width) (omega (arith, losses-filled, m, q)) in
-          line-read d (drop at s) (take n ys) (drop r s) n q e ∙ rw (take-all n ys (omega (arith, m)), g)
+  pub read-bad : (x : ℕ) → r ≡ Refused x → LineRead l capacity k s at d mem (Refused x)
+  read-bad x e = refused-line x (ruled-bad (formOf l d) (ruleOf l d) seen (drop at s) x (sym (f .answer) ∙ ap (stepReading s latest) e))
 
-      by-rule : x ≡ ruleOf d seen (lineIn a filled)
-      by-rule =
-          f ∙ ap (λ (j : Job). planLineRule document01 j (linesIn capacity (nth filled 3 + 1) k filled) (lineIn a filled)) job-filled
-          ∙ ap (λ (z : ℕ). ruleOf d (linesIn capacity (z + 1) k filled) (lineIn a filled)) losses-filled
-          ∙ ap (λ (ns : List Line). ruleOf d ns (lineIn a filled)) lines-filled
+  -- The place after it is p; x is what its rule says.
+  module _ (p : ℕ) (e : r ≡ Next p) (x : ℕ) (g : x ≡ planLineRule l (jobIn mem) (linesIn capacity (nth mem 3 + 1) k mem) latest) where
+    by-rule : x ≡ ruleOf l d seen latest
+    by-rule =
+        g ∙ ap (λ (j : Job). planLineRule l j (linesIn capacity (nth mem 3 + 1) k mem) latest) (job-kept (u .job) all-kept (omega arith))
+        ∙ ap (λ (z : ℕ). ruleOf l d (linesIn capacity (z + 1) k mem) latest) losses-filled
+        ∙ ap (λ (ns : List Line). ruleOf l d ns latest) lines-filled
 
-      pub read-no : 0 < x → LineRead capacity k s at d filled (Refused x)
-      read-no g =
-          record {
-            kept = all-kept;
-            latest = lineIn a filled;
-            answer = ruled-no (formOf d) (ruleOf d) seen (drop at s) (lineIn a filled) (drop r s) read-line x by-rule g;
-            standing = λ m f. refused-no x m f;
-            more = λ m f. refused-no x m f;
-          }
+    pub read-no : 0 < x → LineRead l capacity k s at d mem (Refused x)
+    read-no o = refused-line x (ruled-no (formOf l d) (ruleOf l d) seen (drop at s) latest (drop p s) (sym (f .answer) ∙ ap (stepReading s latest) e) x by-rule o)
 
-      pub read-yes : x ≤ 0 → (nth filled a < nth filled 0) × (nth filled (lineAt capacity + nth filled a) ≡ 0) × RowHeld a filled
-          → LineRead capacity k s at d (set filled (lineAt capacity + nth filled a) (k + 1)) (Next r)
-      read-yes g (b, v, t) =
-          let last = set filled (lineAt capacity + nth filled a) (suc k) in
-          let c : KeptOutside (lineAt capacity) (blockedAt capacity) filled last = kept-set (lineAt capacity + nth filled a)
-          (suc k) kept-all (omega arith) (omega (arith, sizes (line-standing .job), b)) in
-          let w : nth d 3 + 1 ≤ 8 = omega (arith, limits) in
+    -- It gets its place in the table.
+    module _ (t : (nth mem (rowAt capacity k) < nth mem 0) × (nth mem (lineAt capacity + nth mem (rowAt capacity k)) ≡ 0) × RowHeld l (rowAt capacity k) mem) where
+      abbrev last : List ℕ
+      last = set mem (lineAt capacity + nth mem (rowAt capacity k)) (suc k)
+
+      pub read-yes : x ≤ 0 → LineRead l capacity k s at d (set mem (lineAt capacity + nth mem (rowAt capacity k)) (k + 1)) (Next p)
+      read-yes o =
+          let c : KeptOutside (lineAt capacity) (blockedAt capacity) mem last =
+          kept-set (lineAt capacity + nth mem (rowAt capacity k)) (suc k) kept-all (omega arith) (omega (arith, sizes (filled-standing .job), t .0)) in
           rw (add-one k)
           (record {
             kept = kept-then all-kept (kept-wider (lineAt capacity) (largestDelayAt capacity) c (omega arith) (omega arith));
-            latest = lineIn a filled;
-            answer = ruled-yes (formOf d) (ruleOf d) seen (drop at s) (lineIn a filled) (drop r s) read-line x by-rule g;
-            standing = λ m f. standing-more line-standing (omega (arith, all-kept .before 0 (omega arith), h)) (nth filled a) (ap (nth filled) (sym z)) b v
-                (subst (λ (i : ℕ). RowHeld i filled) z t);
+            latest = latest;
+            answer = ruled-yes (formOf l d) (ruleOf l d) seen (drop at s) latest (drop p s) (sym (f .answer) ∙ ap (stepReading s latest) e) x by-rule o;
+            standing = λ m f. standing-more filled-standing (omega (arith, all-kept .before 0 (omega arith), h)) (t .0) (t .1) refl (t .2);
             more = λ m f.
-                lines-same filled last capacity (nth d 3 + 1) (suc k) w (same-behind (rowAt capacity 0) (rowAt capacity (suc k)) c (omega arith))
-                ∙ lines-more capacity d filled k a seen z lines-filled losses-filled;
+                lines-same mem last capacity (nth d 3 + 1) (suc k) (omega (arith, limits)) (same-behind (rowAt capacity 0) (rowAt capacity (suc k)) c (omega arith))
+                ∙ lines-more capacity d mem k seen lines-filled losses-filled;
           })
 
 -- Line by line ----------------------------------------------------------------------------------------------------------
 
 -- All T lines of the job in d, from a place of the text on.
-abbrev pub allLines : List ℕ → List ℕ → ℕ → Reading (List Line)
-allLines d s at = lines (planLine document01 (jobIn d)) (planLineRule document01 (jobIn d)) (nth d 0) [] (drop at s)
+abbrev pub allLines : Limits → List ℕ → List ℕ → ℕ → Reading (List Line)
+allLines l d s at = lines (planLine l (jobIn d)) (planLineRule l (jobIn d)) (nth d 0) [] (drop at s)
 
 -- k lines were read, up to the place p of the text s, into the memory d.
-pub record LinesUpTo (capacity : ℕ) (s : List ℕ) (at : ℕ) (d : List ℕ) (k p : ℕ) (mem : List ℕ) : Type 0 where
-  pub job : JobHeld capacity d
+pub record LinesUpTo (l : Limits) (capacity : ℕ) (s : List ℕ) (at : ℕ) (d : List ℕ) (k p : ℕ) (mem : List ℕ) : Type 0 where
+  pub job : JobHeld l capacity d
   pub kept : KeptOutside (lineAt capacity) (largestDelayAt capacity) d mem
-  pub standing : LinesHeld capacity k mem
-  pub rest : lines (planLine document01 (jobIn d)) (planLineRule document01 (jobIn d)) (nth d 0 - k) (linesIn capacity (nth d 3 + 1) k mem) (drop p s) ≡ allLines d s at
+  pub standing : LinesHeld l capacity k mem
+  pub rest : lines (planLine l (jobIn d)) (planLineRule l (jobIn d)) (nth d 0 - k) (linesIn capacity (nth d 3 + 1) k mem) (drop p s) ≡ allLines l d s at
 
-pub upto-none : {capacity : ℕ} (s : List ℕ) (at : ℕ) (d : List ℕ) → LinesHeld capacity 0 d → LinesUpTo capacity s at d 0 at d
+pub upto-none : {l : Limits} {capacity : ℕ} (s : List ℕ) (at : ℕ) (d : List ℕ) → LinesHeld l capacity 0 d → LinesUpTo l capacity s at d 0 at d
 unfolding linesIn
 upto-none s at d h = record { job = h .job; kept = kept-all; standing = h; rest = rw sub-zero }
 
-module _ {capacity : ℕ} {s : List ℕ} {at : ℕ} {d : List ℕ} {k p : ℕ} {mem : List ℕ} (u : LinesUpTo capacity s at d k p mem) where
+module _ {l : Limits} {capacity : ℕ} {s : List ℕ} {at : ℕ} {d : List ℕ} {k p : ℕ} {mem : List ℕ} (u : LinesUpTo l capacity s at d k p mem) where
   pub tasks-kept : nth mem 0 ≡ nth d 0
   tasks-kept = u .kept .before 0 (omega arith)
 
@@ -334,26 +214,26 @@ module _ {capacity : ℕ} {s : List ℕ} {at : ℕ} {d : List ℕ} {k p : ℕ} {
   losses-kept = u .kept .before 3 (omega arith)
 
   -- All lines were read.
-  pub upto-end : nth d 0 ≤ k → (found (linesIn capacity (nth mem 3 + 1) (nth mem 0) mem) (drop p s) ≡ allLines d s at) × LinesHeld capacity (nth mem 0) mem
+  pub upto-end : nth d 0 ≤ k → (found (linesIn capacity (nth mem 3 + 1) (nth mem 0) mem) (drop p s) ≡ allLines l d s at) × LinesHeld l capacity (nth mem 0) mem
   upto-end h =
       let e : nth mem 0 ≡ k = omega (arith, u .standing .count, tasks-kept, h) in
-      (rw (e, losses-kept) (lines-end (formOf d) (ruleOf d) (nth d 0) k (linesIn capacity (nth d 3 + 1) k mem) (drop p s) h ∙ u .rest), rw e (u .standing))
+      (rw (e, losses-kept) (lines-end (formOf l d) (ruleOf l d) (nth d 0) k (linesIn capacity (nth d 3 + 1) k mem) (drop p s) h ∙ u .rest), rw e (u .standing))
 
   -- One line more was read, with the answer r.
-  module _ (h : k < nth d 0) (new : List ℕ) (r : Step) (v : LineRead capacity k s p mem new r) where
-    answer-is : stepReading s (v .latest) r ≡ ruled (formOf d) (ruleOf d) (linesIn capacity (nth d 3 + 1) k mem) (drop p s)
+  module _ (h : k < nth d 0) (new : List ℕ) (r : Step) (v : LineRead l capacity k s p mem new r) where
+    answer-is : stepReading s (v .latest) r ≡ ruled (formOf l d) (ruleOf l d) (linesIn capacity (nth d 3 + 1) k mem) (drop p s)
     answer-is =
         v .answer
-        ∙ ap (λ (j : Job). ruled (planLine document01 j) (planLineRule document01 j) (linesIn capacity (nth mem 3 + 1) k mem) (drop p s)) (job-kept (u .job) (u .kept) (omega arith))
-        ∙ ap (λ (z : ℕ). ruled (formOf d) (ruleOf d) (linesIn capacity (z + 1) k mem) (drop p s)) losses-kept
+        ∙ ap (λ (j : Job). ruled (planLine l j) (planLineRule l j) (linesIn capacity (nth mem 3 + 1) k mem) (drop p s)) (job-kept (u .job) (u .kept) (omega arith))
+        ∙ ap (λ (z : ℕ). ruled (formOf l d) (ruleOf l d) (linesIn capacity (z + 1) k mem) (drop p s)) losses-kept
 
     pub upto-kept : KeptOutside (lineAt capacity) (largestDelayAt capacity) d new
     upto-kept = kept-then (u .kept) (v .kept)
 
-    pub upto-no : (x : ℕ) → r ≡ Refused x → refused x ≡ allLines d s at
-    upto-no x e = lines-no (formOf d) (ruleOf d) (nth d 0) k (linesIn capacity (nth d 3 + 1) k mem) (drop p s) h x (sym answer-is ∙ ap (stepReading s (v .latest)) e) ∙ u .rest
+    pub upto-no : (x : ℕ) → r ≡ Refused x → refused x ≡ allLines l d s at
+    upto-no x e = lines-no (formOf l d) (ruleOf l d) (nth d 0) k (linesIn capacity (nth d 3 + 1) k mem) (drop p s) h x (sym answer-is ∙ ap (stepReading s (v .latest)) e) ∙ u .rest
 
-    pub upto-next : (n : ℕ) → r ≡ Next n → LinesUpTo capacity s at d (k + 1) n new
+    pub upto-next : (n : ℕ) → r ≡ Next n → LinesUpTo l capacity s at d (k + 1) n new
     upto-next n e =
         let more : linesIn capacity (nth d 3 + 1) (k + 1) new ≡ linesIn capacity (nth d 3 + 1) k mem ++ v .latest ∷ [] =
         rw (add-one k, ← losses-kept) (v .more n e) in
@@ -361,6 +241,7 @@ module _ {capacity : ℕ} {s : List ℕ} {at : ℕ} {d : List ℕ} {k p : ℕ} {
           job = u .job;
           kept = upto-kept;
           standing = rw (add-one k) (v .standing n e);
-          rest = rw more (lines-next (formOf d) (ruleOf d) (nth d 0) k (linesIn capacity (nth d 3 + 1) k mem) (drop p s) h (v .latest) (drop n s) (sym answer-is ∙ ap (stepReading s (v .latest)) e)
+          rest = rw more
+              (lines-next (formOf l d) (ruleOf l d) (nth d 0) k (linesIn capacity (nth d 3 + 1) k mem) (drop p s) h (v .latest) (drop n s) (sym answer-is ∙ ap (stepReading s (v .latest)) e)
               ∙ u .rest);
         }

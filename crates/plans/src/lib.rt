@@ -1,5 +1,6 @@
 // The texts of a job and of a plan for it, read into a memory.
 ghost use lib.ListN.{length, drop};
+ghost use Rattle.definitions.specs.Limits.{document01};
 ghost use Rattle.heads.specs.Heads.{headOf};
 ghost use Rattle.plans.specs.Loading.{bothFrom, BothLoaded};
 use heads::Head;
@@ -19,8 +20,9 @@ pub fn load_both(
     links: &mut [u64],
     capacity: usize,
 ) -> Step
-    ensures { λ r. ⌜ (BothLoaded capacity
-        (bothFrom capacity (length (now (mem .entry))) (length (now (links .entry))) (headOf head) (drop at (now (job .entry))) (now (plan .entry))) (now (mem .exit)) (now (links .exit)) r) ⌝ }
+    ensures { λ r. ⌜ (BothLoaded document01 capacity
+        (bothFrom document01 capacity (length (now (mem .entry))) (length (now (links .entry))) (headOf head) (drop at (now (job .entry))) (now (plan .entry)))
+        (now (mem .exit)) (now (links .exit)) r) ⌝ }
 {
     match jobs::load_job(job, at, head, mem, links, capacity) {
         Step::Next(_) => plans::load_plan(plan, mem, links, capacity),

@@ -1,15 +1,15 @@
 // A plan's text, read into a memory that holds its job.
 ghost use mathlib.Core.Path.{_≡_};
 ghost use mathlib.Core.List.{[]};
-ghost use mathlib.Core.Bool.{not, _||_};
+ghost use mathlib.Core.Bool.{not};
 ghost use Prim.Native.Nat.{ℕ, _+_, _*_, _≤_, _<_};
 ghost use lib.Dec.{eqb};
 ghost use lib.ListN.{length, drop};
 ghost use Rattle.definitions.specs.Lists.{nth, all};
 ghost use Rattle.definitions.specs.Limits.{document01};
 ghost use Rattle.definitions.specs.Text.{lines};
-ghost use Rattle.definitions.specs.Job.{outside, incoming};
-ghost use Rattle.definitions.specs.Plan.{processorsOf, planHeadOf, planHeadRule, planLine, planLineRule, readPlan};
+ghost use Rattle.definitions.specs.Job.{incoming};
+ghost use Rattle.definitions.specs.Plan.{strays, processorsOf, planHeadOf, planHeadRule, planLine, planLineRule, readPlan};
 ghost use Rattle.definitions.specs.Plan as Plan;
 ghost use Rattle.text.specs.Meaning.{stepReading};
 ghost use Rattle.text.specs.declared.Step.the-variants.{Next};
@@ -17,82 +17,52 @@ ghost use Rattle.heads.specs.Layout.{memorySize, lineAt, blockedAt, largestDela
 ghost use Rattle.jobs.specs.Held.{jobIn, JobHeld, SomeJobHeld, LinksHeld};
 ghost use Rattle.plans.specs.Lines.{rowEnd, replicaStrays, linesIn, RowHeld, LinesHeld};
 ghost use Rattle.lists.specs.Kept.{KeptOutside};
-ghost use Rattle.plans.specs.Loading.{lineIn, LineRead, planFrom, PlanLoaded};
+ghost use Rattle.plans.specs.Loading.{lineIn, RowFilled, LineRead, planFrom, PlanLoaded};
 use crate::row;
 use heads::layout::LINE;
 use heads::layout::LOWER;
 use heads::layout::UPPER;
 use text::Step;
-
-const LAST_TICK: u64 = 4294967295;
-
-// Some number of a plan's head is outside its range.
-fn head_strays(tasks: u64, processors: u64, losses: u64, lower: u64, upper: u64) -> bool
-    ensures { λ r. ⌜ r ≡ (outside 1 255 tasks || outside 1 16 processors || outside 0 7 losses || outside 0 4294967295 lower || outside 0 4294967295 upper) ⌝ }
-{
-    if tasks < 1 {
-        return true;
-    }
-    if tasks > 255 {
-        return true;
-    }
-    if processors < 1 {
-        return true;
-    }
-    if processors > 16 {
-        return true;
-    }
-    if losses > 7 {
-        return true;
-    }
-    if lower > LAST_TICK {
-        return true;
-    }
-    upper > LAST_TICK
-}
+use text::limits::LOSSES;
+use text::limits::PROCESSORS;
+use text::limits::TASKS;
+use text::limits::TEXT_LENGTH;
+use text::limits::TICK;
 
 // The number of the refusal of a plan's head, or 0. Its five numbers stand at the front of `head`.
-fn check_head(mem: &[u64], head: &[u64]) -> u64
+fn head_refusal(mem: &[u64], head: &[u64]) -> u64
     requires { ⌜ (4 ≤ length (now mem)) × (5 ≤ length (now head)) ⌝ }
     ensures { λ r. ⌜ r ≡ planHeadRule document01 (jobIn (now (mem .entry))) (planHeadOf (now (head .entry))) ⌝ }
 {
-    let tasks = head[0];
-    let processors = head[1];
-    let losses = head[2];
-    if head_strays(tasks, processors, losses, head[3], head[4]) {
+    let tasks = text::outside(1, TASKS, head[0]);
+    let processors = text::outside(1, PROCESSORS, head[1]);
+    let losses = text::outside(0, LOSSES, head[2]);
+    let lower = text::outside(0, TICK, head[3]);
+    let upper = text::outside(0, TICK, head[4]);
+    if tasks | processors | losses | lower | upper {
         return 3;
     }
-    if tasks != mem[0] {
-        return 9;
-    }
-    if processors != mem[1] {
-        return 9;
-    }
-    if losses != mem[3] {
+    if !((head[0] == mem[0]) & (head[1] == mem[1]) & (head[2] == mem[3])) {
         return 9;
     }
     0
 }
 
 // Replica c of the line at `a` is on no processor of the job, or has a tick outside its range.
-fn replica_strays(mem: &[u64], a: usize, c: usize) -> bool
+fn replica_outside(mem: &[u64], a: usize, c: usize) -> bool
     requires { ⌜ (4 ≤ length (now mem)) × (replicaEnd a c ≤ length (now mem)) ⌝ }
-    ensures { λ r. ⌜ r ≡ replicaStrays a c (now (mem .entry)) ⌝ }
+    ensures { λ r. ⌜ r ≡ replicaStrays document01 a c (now (mem .entry)) ⌝ }
 {
     let x = row::replica_at(mem, a, c);
-    if x.processor >= mem[1] {
-        return true;
-    }
-    if x.early > LAST_TICK {
-        return true;
-    }
-    x.late > LAST_TICK
+    let early = text::outside(0, TICK, x.early);
+    let late = text::outside(0, TICK, x.late);
+    !(x.processor < mem[1]) | early | late
 }
 
 // The task, a processor or a tick of the line at `a` is outside its range.
-fn strays(mem: &[u64], a: usize) -> bool
-    requires { ⌜ SomeJobHeld (now mem) × (rowEnd a ≤ length (now mem)) ⌝ }
-    ensures { λ r. ⌜ r ≡ Plan.strays document01 (jobIn (now (mem .entry))) (lineIn a (now (mem .entry))) ⌝ }
+fn outside_ranges(mem: &[u64], a: usize) -> bool
+    requires { ⌜ SomeJobHeld document01 (now mem) × (rowEnd a ≤ length (now mem)) ⌝ }
+    ensures { λ r. ⌜ r ≡ strays document01 (jobIn (now (mem .entry))) (lineIn a (now (mem .entry))) ⌝ }
 {
     if mem[a] >= mem[0] {
         return true;
@@ -100,7 +70,7 @@ fn strays(mem: &[u64], a: usize) -> bool
     let mut c = mem[3] as usize + 1;
     while c > 0 {
         c -= 1;
-        if replica_strays(mem, a, c) {
+        if replica_outside(mem, a, c) {
             return true;
         }
     }
@@ -109,7 +79,7 @@ fn strays(mem: &[u64], a: usize) -> bool
 
 // In the line at `a` a processor is less than the one before.
 fn descends(mem: &[u64], a: usize) -> bool
-    requires { ⌜ SomeJobHeld (now mem) × (rowEnd a ≤ length (now mem)) ⌝ }
+    requires { ⌜ SomeJobHeld document01 (now mem) × (rowEnd a ≤ length (now mem)) ⌝ }
     ensures { λ r. ⌜ r ≡ Plan.descends (processorsOf (lineIn a (now (mem .entry)))) ⌝ }
 {
     let mut c = mem[3] as usize;
@@ -126,31 +96,31 @@ fn descends(mem: &[u64], a: usize) -> bool
 
 // Every predecessor of t has a line.
 fn predecessors_placed(mem: &[u64], links: &[u64], capacity: usize, t: usize) -> bool
-    requires { ⌜ JobHeld capacity (now mem) × LinksHeld (now mem) (now links) × (t < nth (now mem) 0) ⌝ }
+    requires { ⌜ JobHeld document01 capacity (now mem) × LinksHeld (now mem) (now links) × (t < nth (now mem) 0) ⌝ }
     ensures { λ r. ⌜ r ≡ all (λ e. not (eqb (nth (now (mem .entry)) (lineAt capacity + e .from)) 0)) (incoming (jobIn (now (mem .entry))) t) ⌝ }
 {
-    let line = LINE * capacity;
     let run = orders::entering(links, mem[0] as usize, t);
-    let start = run.start;
-    let mut k = run.end;
-    while k > start {
-        k -= 1;
+    let end = run.end;
+    let mut k = run.start;
+    while k < end {
         let from = orders::edge_from(links[k]);
-        if mem[line + from] == 0 {
+        if row::line_of(mem, capacity, from) == 0 {
             return false;
         }
+        k += 1;
     }
     true
 }
 
 // The number of the refusal of the line at `a`, after the lines that have a place in the table, or 0.
 fn check_line(mem: &[u64], links: &[u64], capacity: usize, a: usize) -> u64
-    requires { ⌜ JobHeld capacity (now mem) × LinksHeld (now mem) (now links) × (rowEnd a ≤ length (now mem)) ⌝ }
-    ensures { λ r. ⌜ ((k : ℕ) → LinesHeld capacity k (now (mem .entry)) → r ≡ planLineRule document01 (jobIn (now (mem .entry)))
+    requires { ⌜ JobHeld document01 capacity (now mem) × LinksHeld (now mem) (now links) × (rowEnd a ≤ length (now mem)) ⌝ }
+    ensures { λ r. ⌜ ((k : ℕ) → LinesHeld document01 capacity k (now (mem .entry)) → r ≡ planLineRule document01 (jobIn (now (mem .entry)))
         (linesIn capacity (nth (now (mem .entry)) 3 + 1) k (now (mem .entry))) (lineIn a (now (mem .entry))))
-        × (r ≡ 0 → (nth (now (mem .entry)) a < nth (now (mem .entry)) 0) × (nth (now (mem .entry)) (lineAt capacity + nth (now (mem .entry)) a) ≡ 0) × RowHeld a (now (mem .entry))) ⌝ }
+        × (r ≡ 0 → (nth (now (mem .entry)) a < nth (now (mem .entry)) 0) × (nth (now (mem .entry)) (lineAt capacity + nth (now (mem .entry)) a) ≡ 0)
+        × RowHeld document01 a (now (mem .entry))) ⌝ }
 {
-    if strays(mem, a) {
+    if outside_ranges(mem, a) {
         return 3;
     }
     if descends(mem, a) {
@@ -180,6 +150,17 @@ fn clear_lines(mem: &mut [u64], capacity: usize)
     }
 }
 
+// The T line at `at`, read into row k.
+fn fill_row(s: &[u8], at: usize, mem: &mut [u64], capacity: usize, k: usize) -> Step
+    requires { ⌜ LinesHeld document01 capacity k (now mem) × (k < nth (now mem) 0) ⌝ }
+    ensures { λ r. ⌜ RowFilled document01 capacity k (now (s .entry)) at (now (mem .entry)) (now (mem .exit)) r ⌝ }
+{
+    let n = row::line_cells(&mem[..]);
+    let a = row::row_at(capacity, k);
+    let b = a + n;
+    lines::read_line(s, at, b"T,", n, &mut mem[a..b])
+}
+
 // The T line at `at`, kept as row k, after the k lines before it.
 fn read_plan_line(
     s: &[u8],
@@ -189,14 +170,12 @@ fn read_plan_line(
     capacity: usize,
     k: usize,
 ) -> Step
-    requires { ⌜ LinesHeld capacity k (now mem) × LinksHeld (now mem) (now links) × (k < nth (now mem) 0) ⌝ }
-    ensures { λ r. ⌜ LineRead capacity k (now (s .entry)) at (now (mem .entry)) (now (mem .exit)) r ⌝ }
+    requires { ⌜ LinesHeld document01 capacity k (now mem) × LinksHeld (now mem) (now links) × (k < nth (now mem) 0) ⌝ }
+    ensures { λ r. ⌜ LineRead document01 capacity k (now (s .entry)) at (now (mem .entry)) (now (mem .exit)) r ⌝ }
 {
-    let n = row::line_cells(&mem[..]);
-    let a = row::row_at(capacity, k);
-    let b = a + n;
-    match lines::read_line(s, at, b"T,", n, &mut mem[a..b]) {
+    match fill_row(s, at, mem, capacity, k) {
         Step::Next(p) => {
+            let a = row::row_at(capacity, k);
             let x = check_line(&mem[..], links, capacity, a);
             if x > 0 {
                 return Step::Refused(x);
@@ -211,11 +190,11 @@ fn read_plan_line(
 
 // The T lines, kept as rows.
 fn read_plan_lines(s: &[u8], at: usize, mem: &mut [u64], links: &[u64], capacity: usize) -> Step
-    requires { ⌜ LinesHeld capacity 0 (now mem) × LinksHeld (now mem) (now links) ⌝ }
+    requires { ⌜ LinesHeld document01 capacity 0 (now mem) × LinksHeld (now mem) (now links) ⌝ }
     ensures { λ r. ⌜ KeptOutside (lineAt capacity) (largestDelayAt capacity) (now (mem .entry)) (now (mem .exit))
         × (stepReading (now (s .entry)) (linesIn capacity (nth (now (mem .exit)) 3 + 1) (nth (now (mem .exit)) 0) (now (mem .exit))) r ≡ lines
         (planLine document01 (jobIn (now (mem .entry)))) (planLineRule document01 (jobIn (now (mem .entry)))) (nth (now (mem .entry)) 0) [] (drop at (now (s .entry))))
-        × ((n : ℕ) → r ≡ Next n → LinesHeld capacity (nth (now (mem .exit)) 0) (now (mem .exit))) ⌝ }
+        × ((n : ℕ) → r ≡ Next n → LinesHeld document01 capacity (nth (now (mem .exit)) 0) (now (mem .exit))) ⌝ }
 {
     let v = mem[0] as usize;
     let mut p = at;
@@ -240,9 +219,9 @@ fn load_lines(
     links: &[u64],
     capacity: usize,
 ) -> Step
-    requires { ⌜ JobHeld capacity (now mem) × LinksHeld (now mem) (now links) ⌝ }
+    requires { ⌜ JobHeld document01 capacity (now mem) × LinksHeld (now mem) (now links) ⌝ }
     ensures { λ r. ⌜ KeptOutside (lineAt capacity) (largestDelayAt capacity) (now (mem .entry)) (now (mem .exit))
-        × PlanLoaded capacity (planFrom (jobIn (now (mem .entry))) lower upper (drop at (now (s .entry)))) (now (mem .exit)) r ⌝ }
+        × PlanLoaded document01 capacity (planFrom document01 (jobIn (now (mem .entry))) lower upper (drop at (now (s .entry)))) (now (mem .exit)) r ⌝ }
 {
     clear_lines(mem, capacity);
     match read_plan_lines(s, at, mem, links, capacity) {
@@ -260,17 +239,17 @@ fn load_lines(
 
 // A plan's text for the job in memory, whose links are in theirs.
 pub fn load_plan(s: &[u8], mem: &mut [u64], links: &[u64], capacity: usize) -> Step
-    requires { ⌜ JobHeld capacity (now mem) × LinksHeld (now mem) (now links) ⌝ }
+    requires { ⌜ JobHeld document01 capacity (now mem) × LinksHeld (now mem) (now links) ⌝ }
     ensures { λ r. ⌜ KeptOutside (lineAt capacity) (largestDelayAt capacity) (now (mem .entry)) (now (mem .exit))
-        × PlanLoaded capacity (readPlan document01 (jobIn (now (mem .entry))) (now (s .entry))) (now (mem .exit)) r ⌝ }
+        × PlanLoaded document01 capacity (readPlan document01 (jobIn (now (mem .entry))) (now (s .entry))) (now (mem .exit)) r ⌝ }
 {
-    if s.len() > 65536 {
+    if s.len() > TEXT_LENGTH {
         return Step::Refused(1);
     }
     let mut head = [0u64; 5];
     match lines::read_line(s, 0, b"PLAN,", 5, &mut head) {
         Step::Next(p) => {
-            let x = check_head(&mem[..], &head);
+            let x = head_refusal(&mem[..], &head);
             if x > 0 {
                 return Step::Refused(x);
             }

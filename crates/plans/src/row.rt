@@ -3,9 +3,11 @@ ghost use mathlib.Core.Path.{_≡_};
 ghost use Prim.Native.Nat.{_+_, _≤_, _<_};
 ghost use lib.ListN.{length, set};
 ghost use Rattle.definitions.specs.Lists.{nth};
+ghost use Rattle.definitions.specs.Limits.{document01};
 ghost use Rattle.heads.specs.Layout.{lineAt, rowAt, processorAt, earlyAt, lateAt, replicaEnd};
 ghost use Rattle.plans.specs.Lines.{lineCells};
 use heads::layout::LINE;
+use heads::layout::ROW;
 use heads::layout::ROWS;
 
 // A replica of a line.
@@ -36,12 +38,12 @@ pub fn row_at(capacity: usize, k: usize) -> usize
     requires { ⌜ rowAt capacity k < 18446744073709551616 ⌝ }
     ensures { λ r. ⌜ r ≡ rowAt capacity k ⌝ }
 {
-    ROWS * capacity + k * 25
+    ROWS * capacity + k * ROW
 }
 
 // The cells that a line of the job in memory takes.
 pub fn line_cells(mem: &[u64]) -> usize
-    requires { ⌜ (4 ≤ length (now mem)) × (nth (now mem) 3 ≤ 7) ⌝ }
+    requires { ⌜ (4 ≤ length (now mem)) × (nth (now mem) 3 ≤ document01 .losses) ⌝ }
     ensures { λ r. ⌜ r ≡ lineCells (now (mem .entry)) ⌝ }
 {
     4 + 3 * mem[3] as usize

@@ -25,12 +25,7 @@ module _ (l : Limits) where
   module _ (vals : List ℕ) (i : ℕ) (h : i < length vals) (d : List ℕ) (p : ℕ) (r : p + length (numbersText l (drop i vals)) ≤ length d) (x : List ℕ) (q : ℕ)
       (e : x ≡ written d p (decimal l (nth vals i))) (f : q ≡ placeAfter d p (decimal l (nth vals i))) where
     size : length (decimal l (nth vals i)) + 1 + length (numbersText l (drop (i + 1) vals)) ≡ length (numbersText l (drop i vals))
-    size =
-        omega (
-          arith,
-          ap length (text-next vals i h),
-          length-append (decimal l (nth vals i)) (mark (length vals - (i + 1)) ∷ numbersText l (drop (i + 1) vals)),
-        )
+    size = omega (arith, simp length-append at (ap length (text-next vals i h)))
 
     over-number : x ≡ over d p (decimal l (nth vals i))
     over-number = e ∙ written-fits d p (decimal l (nth vals i)) (omega (arith, size))
@@ -38,19 +33,19 @@ module _ (l : Limits) where
     place-number : q ≡ p + length (decimal l (nth vals i))
     place-number = f ∙ place-fits d p (decimal l (nth vals i)) (omega (arith, size))
 
-    pub place-turn : q + 1 + length (numbersText l (drop (i + 1) vals)) ≡ p + length (numbersText l (drop i vals))
-    place-turn = omega (arith, size, place-number)
-
-    pub length-turn : length x ≡ length d
-    length-turn = ap length over-number ∙ length-over d p (decimal l (nth vals i)) (omega (arith, size))
-
-    pub write-turn : (b : ℕ) → b ≡ mark (length vals - (i + 1)) → over (set x q b) (q + 1) (numbersText l (drop (i + 1) vals)) ≡ over d p (numbersText l (drop i vals))
-    write-turn b g =
+    -- The place after the mark, the output's length, and what the mark and the other numbers give.
+    pub turn : (q + 1 + length (numbersText l (drop (i + 1) vals)) ≡ p + length (numbersText l (drop i vals))) × (length x ≡ length d)
+        × ((b : ℕ) → b ≡ mark (length vals - (i + 1)) → over (set x q b) (q + 1) (numbersText l (drop (i + 1) vals)) ≡ over d p (numbersText l (drop i vals)))
+    turn =
         let u = numbersText l (drop (i + 1) vals) in
-        over-put x q b u (q + 1) refl (omega (arith, size, place-number, length-turn))
-        ∙ ap (λ (l : List ℕ). over l q (b ∷ u)) over-number
-        ∙ over-over d p (decimal l (nth vals i)) (b ∷ u) q place-number (omega (arith, size))
-        ∙ ap (over d p) (ap (λ (y : ℕ). decimal l (nth vals i) ++ y ∷ u) g ∙ sym (text-next vals i h))
+        let same = ap length over-number ∙ length-over d p (decimal l (nth vals i)) (omega (arith, size)) in (
+          omega (arith, size, place-number),
+          same,
+          λ b g. over-put x q b u (q + 1) refl (omega (arith, size, place-number, same))
+              ∙ ap (λ (l : List ℕ). over l q (b ∷ u)) over-number
+              ∙ over-over d p (decimal l (nth vals i)) (b ∷ u) q place-number (omega (arith, size))
+              ∙ ap (over d p) (ap (λ (y : ℕ). decimal l (nth vals i) ++ y ∷ u) g ∙ sym (text-next vals i h)),
+        )
 
   -- A line is to be written at the front of d; its opening was written.
   module _ (d opening vals : List ℕ) (h : length (lineText l opening vals) ≤ length d) (x : List ℕ) (p : ℕ)
@@ -62,14 +57,7 @@ module _ (l : Limits) where
     place-opening = f ∙ place-fits d 0 opening (omega (arith, length-line l opening vals))
 
     pub numbers-room : p + length (numbersText l vals) ≤ length x
-    numbers-room =
-        omega (
-          arith,
-          length-line l opening vals,
-          place-opening,
-          ap length over-opening,
-          length-over d 0 opening (omega (arith, length-line l opening vals)),
-        )
+    numbers-room = let f = length-line l opening vals in omega (arith, place-opening, ap length over-opening, length-over d 0 opening (omega arith))
 
     pub line-written : length d < 2 ^ 64 → (q : ℕ) (y : List ℕ) → q ≡ p + length (numbersText l vals) → y ≡ over x p (numbersText l vals)
         → (q ≡ length (lineText l opening vals) % 2 ^ 64) × (y ≡ written d 0 (lineText l opening vals))
@@ -104,7 +92,5 @@ module _ (l : Limits) (opening vals : List ℕ) (n : ℕ) where
     line-counted = by (leb (length (numbersText l vals)) (n - length opening)) refl
       where
         by : (b : Bool) → leb (length (numbersText l vals)) (n - length opening) ≡ b → b ≡ leb (length (lineText l opening vals)) n
-        by true e =
-            sym (le-leb (length (lineText l opening vals)) n (omega (arith, length-line l opening vals, h, leb-true (length (numbersText l vals)) (n - length opening) e)))
-        by false e =
-            sym (lt-leb (length (lineText l opening vals)) n (omega (arith, length-line l opening vals, h, leb-false (length (numbersText l vals)) (n - length opening) e)))
+        by true e = sym (le-leb (length (lineText l opening vals)) n (omega (arith, leb-true, length-line l opening vals)))
+        by false e = sym (lt-leb (length (lineText l opening vals)) n (omega (arith, leb-false, length-line l opening vals)))

@@ -3,7 +3,7 @@ use Rattle.lists.proofs.Prelude.{_≡_, refl, ap, inl, inr, ⊎-elim, List, [],
 use Rattle.definitions.proofs.Lists.{in-append, in-map}
 use Rattle.definitions.proofs.Reading.{andThen-good, job-facts, plan-facts}
 use Rattle.console.proofs.Shown.{refusal-most}
-use Rattle.rounds.proofs.Longest.{text-most}
+use Rattle.rounds.proofs.Longest.{text-most, longest}
 
 -- Boxes ---------------------------------------------------------------------------------------------------------------
 
@@ -38,7 +38,7 @@ module _ (job plan stops : List ℕ) where
       let (c, k, q) = walk-on j ss [] (placements j (p .lines)) d i in
       omega (arith, placements-on j [] (p .lines) (pf .ordered) c k, jf .processors-most) in
       let s : replayText document01 j (replay j ss (p .lines)) ≡ t = cc in
-      rw s at (text-most (replay j ss (p .lines)) on j (jf .tasks-most))
+      omega (arith, text-most document01 (omega arith) (replay j ss (p .lines)) on j (jf .tasks-most), longest, ap length s)
 
   -- An output of that length is never too short.
   pub all-fits : (room : ℕ) → room ≡ 5113 → replayAnswer document01 job plan stops room ≡ replayed document01 job plan stops

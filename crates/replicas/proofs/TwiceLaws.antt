@@ -1,7 +1,7 @@
 -- Lines with two replicas on one processor, and first finishes, replica by replica.
-use Rattle.lists.proofs.Prelude.{_≡_, refl, ap, _∙_, sym, ⊎-elim, List, [], _∷_, Bool, true, false, _&&_, _||_, true≢false, ℕ, zero, suc, _+_, _-_, _<_, _≤_, arith, add-one, eqb-true, eq-eqb, ne-eqb, lt-ltb, le-ltb, eqb, length, take, drop, if_then_else_, nth, empty}
-use Rattle.definitions.proofs.Lists.{either-right}
-use Rattle.lists.proofs.Counting.{last-or-before}
+use Rattle.lists.proofs.Prelude.{_≡_, refl, ap, _∙_, sym, ⊎-elim, List, [], _∷_, Bool, true, false, _&&_, true≢false, ℕ, zero, suc, _+_, _-_, _<_, _≤_, arith, add-one, eqb-true, eq-eqb, ne-eqb, lt-ltb, le-ltb, length, take, drop, if_then_else_, nth, empty}
+use Rattle.definitions.proofs.Lists.{either, either-right, refuted}
+use Rattle.lists.proofs.Counting.{last-or-before, goes-on}
 use Rattle.lists.proofs.ListLaws.{part-length, part-nth}
 use Rattle.ticks.specs.Cells.{neverCell}
 use Rattle.replicas.specs.Cells.{onCell, nextCell, earlyCell, lineCell, replicasOf, twins, twice, cellsOf, firstTwice, leastEarly, leastOn}
@@ -19,12 +19,7 @@ module _ (cells : List ℕ) where
 
   twins-more : (c n : ℕ) → c ≤ n → twins c cells ≡ true → twins n cells ≡ true
   unfolding twins
-  twins-more c zero l h = let e : c ≡ 0 = omega arith in rw e at h
-  twins-more c (suc n) l h =
-      ⊎-elim
-      (λ (e : c ≡ suc n). rw e at h)
-      (λ (g : c < suc n). rw (twins-more c n (omega arith) h))
-      (last-or-before (suc n) c (omega arith))
+  twins-more = goes-on (λ n. twins n cells ≡ true) (λ n h. rw h)
 
   -- Two neighbours on one processor, among n replicas.
   pub twins-here : (c n : ℕ) → c + 1 < n → nth cells (onCell c) ≡ nth cells (nextCell c) → true ≡ twins (n - 1) cells
@@ -35,21 +30,10 @@ module _ (cells : List ℕ) where
   pub twins-place : (n : ℕ) → twins n cells ≡ true → (c : ℕ) × (c < n) × (nth cells (onCell c) ≡ nth cells (nextCell c))
   unfolding twins
   twins-place zero h = absurd (true≢false (sym h))
-  twins-place (suc n) h = by (twins-place n) (twins n cells) refl (eqb (nth cells (onCell n)) (nth cells (nextCell n))) refl h
-    where
-      by : (twins n cells ≡ true → (c : ℕ) × (c < n) × (nth cells (onCell c) ≡ nth cells (nextCell c))) → (a : Bool) → twins n cells ≡ a → (b : Bool)
-          → eqb (nth cells (onCell n)) (nth cells (nextCell n)) ≡ b → (a || b) ≡ true
-          → (c : ℕ) × (c < suc n) × (nth cells (onCell c) ≡ nth cells (nextCell c))
-      by r true f b g e = let (c, l, q) = r f in (c, omega arith, q)
-      by r false f true g e = (n, omega arith, eqb-true _ _ g)
-      by r false f false g e = absurd (true≢false (sym e))
+  twins-place (suc n) h = ⊎-elim (λ f. let (c, l, q) = twins-place n f in (c, omega arith, q)) (λ g. (n, omega arith, eqb-true _ _ g)) (either _ _ h)
 
   pub twins-before : (c n : ℕ) → c ≤ n → twins n cells ≡ false → twins c cells ≡ false
-  twins-before c n l h = by (twins c cells) refl
-    where
-      by : (b : Bool) → twins c cells ≡ b → b ≡ false
-      by true e = absurd (true≢false (sym (twins-more c n l e) ∙ h))
-      by false e = refl
+  twins-before c n l h = refuted (twins c cells) (λ e. true≢false (sym (twins-more c n l e) ∙ h))
 
   pub twins-apart : (c : ℕ) → twins (suc c) cells ≡ false → nth cells (onCell c) ≡ nth cells (nextCell c) → ⊥
   unfolding twins
@@ -72,12 +56,7 @@ module _ (w : ℕ) (lines : List ℕ) where
 
   first-stays : (t c n : ℕ) → c ≤ n → firstTwice w c lines ≡ t ∷ [] → firstTwice w n lines ≡ t ∷ []
   unfolding firstTwice
-  first-stays t c zero l h = let e : c ≡ 0 = omega arith in rw e at h
-  first-stays t c (suc n) l h =
-      ⊎-elim
-      (λ (e : c ≡ suc n). rw e at h)
-      (λ (g : c < suc n). rw (first-stays t c n (omega arith) h))
-      (last-or-before (suc n) c (omega arith))
+  first-stays t = goes-on (λ n. firstTwice w n lines ≡ t ∷ []) (λ n h. rw h)
 
   first-yes : (k : ℕ) → firstTwice w k lines ≡ [] → true ≡ twice (cellsOf w k lines) → firstTwice w (suc k) lines ≡ nth lines (lineCell k) ∷ []
   unfolding firstTwice
@@ -144,9 +123,7 @@ module _ (mem : List ℕ) (a w : ℕ) (h : a + (1 + onCell w) ≤ length mem) wh
 
   -- The processor of replica c, and its early time.
   pub cells-on : (c : ℕ) → c < w → nth (cellsAt a w mem) (onCell c) ≡ nth mem (a + (1 + onCell c))
-  cells-on c l =
-      let e : onCell c + 0 ≡ onCell c = omega arith in
-      ap (nth (cellsAt a w mem)) (sym e) ∙ cells-nth c 0 (omega arith)
+  cells-on c l = let e : onCell c + 0 ≡ onCell c = omega arith in rw e at (cells-nth c 0 (omega arith))
 
   pub cells-early : (c : ℕ) → c < w → nth (cellsAt a w mem) (earlyCell c) ≡ nth mem (a + (2 + onCell c))
   cells-early c l = cells-nth c 1 (omega arith)

@@ -1,20 +1,38 @@
 -- One turn of the planner: the free tasks, the critical one, its line, and what waits after it.
-use Rattle.lists.proofs.Prelude.{_≡_, refl, ap, ap₂, _∙_, sym, inl, inr, List, [], _∷_, map, map-map, reverseAux, Bool, true, false, not, _&&_, ℕ, zero, suc, _+_, _-_, _<_, _≤_, arith, ne-eqb, eqb, ltb, length, if_then_else_, In, nth, keep, all, countFrom, below, Job, after, least, largest, Placement, Outcome, finish, walk, placementsOf, placementOf, tickOf, Waiting, waitingFrom, freeTasks, ranked, trial, goesBefore, replicas, place}
+use Rattle.lists.proofs.Prelude.{_≡_, refl, ap, ap₂, _∙_, sym, inl, inr, List, [], _∷_, _++_, map, map-map, reverseAux, Bool, true, false, not, _&&_, ℕ, zero, suc, _+_, _-_, _<_, _≤_, arith, ne-eqb, eqb, ltb, length, if_then_else_, In, nth, keep, all, countFrom, below, Job, least, largest, Placement, Outcome, finish, walk, placementsOf, placementOf, tickOf, Waiting, waitingFrom, freeTasks, ranked, trial, goesBefore, replicas, place, length-append}
+use mathlib.Core.Bool.{and-comm}
 use Rattle.definitions.specs.Planner.{criticalTask, chosen}
 use Rattle.definitions.proofs.Lists.{in-below, nth-below}
 use Rattle.definitions.proofs.Chosen.{chosen-count}
 use Rattle.definitions.proofs.Placing.{greatest-in}
 use Rattle.rounds.specs.Planning.{criticalOf}
 use Rattle.lists.proofs.ListLaws.{keep-same, keep-keep}
-use Rattle.lists.proofs.Upward.{count-yes, count-no}
 
 -- Lists -----------------------------------------------------------------------------------------------------------
 
-and-comm : (a b : Bool) → (a && b) ≡ (b && a)
-and-comm true true = refl
-and-comm true false = refl
-and-comm false true = refl
-and-comm false false = refl
+keep-append : {A : Type 0} (f : A → Bool) (xs ys : List A) → keep f (xs ++ ys) ≡ keep f xs ++ keep f ys
+unfolding keep
+keep-append f [] ys = refl
+keep-append f (x ∷ xs) ys = by (f x) (keep-append f xs ys)
+  where
+    by : (b : Bool) → keep f (xs ++ ys) ≡ keep f xs ++ keep f ys
+        → (if b then x ∷ keep f (xs ++ ys) else keep f (xs ++ ys)) ≡ (if b then x ∷ keep f xs else keep f xs) ++ keep f ys
+    by true e = ap (x ∷_) e
+    by false e = e
+
+-- The numbers below n + m + 1, parted at n.
+below-at : (k n m : ℕ) → countFrom k (n + suc m) ≡ countFrom k n ++ (k + n) ∷ countFrom (suc (k + n)) m
+unfolding countFrom
+below-at k zero m = let e : k + 0 ≡ k = omega arith in let z : 0 + suc m ≡ suc m = omega arith in rw (e, z)
+below-at k (suc n) m = let e : suc k + n ≡ k + suc n = omega arith in let z : suc n + suc m ≡ suc (n + suc m) = omega arith in rw (z, ← e) (ap (k ∷_) (below-at (suc k) n m))
+
+-- A number that is kept, and those before and behind it.
+pub keep-at : (f : ℕ → Bool) (t v : ℕ) → t < v → f t ≡ true → keep f (below v) ≡ keep f (below t) ++ t ∷ keep f (countFrom (suc t) (v - suc t))
+unfolding keep
+keep-at f t v h e =
+    let whole : v ≡ t + suc (v - suc t) = omega arith in
+    let none : 0 + t ≡ t = omega arith in
+    ap (λ (k : ℕ). keep f (below k)) whole ∙ rw (below-at 0 t (v - suc t), none, keep-append f (below t) (t ∷ countFrom (suc t) (v - suc t)), e)
 
 pub keep-swap : {A : Type 0} (f g : A → Bool) (xs : List A) → keep f (keep g xs) ≡ keep g (keep f xs)
 keep-swap f g xs = keep-keep f g xs ∙ keep-same (λ x. g x && f x) (λ x. f x && g x) xs (λ x i. and-comm (g x) (f x)) ∙ sym (keep-keep g f xs)
@@ -128,21 +146,11 @@ trial-nth j placed t p h =
     let f : Placement → ℕ = λ c. tickOf (finish j least [] placed c) in
     ap (λ (xs : List ℕ). nth xs p) (map-map f (placementOf j t) (below (j .processors))) ∙ nth-below (λ p. f (placementOf j t p)) (j .processors) p h
 
-count-most : (f : ℕ → Bool) (n k : ℕ) → length (keep f (below n)) ≤ length (keep f (below (n + k)))
-count-most f n zero = let e : n + 0 ≡ n = omega arith in rw e (omega arith)
-count-most f n (suc k) = let e : n + suc k ≡ n + k + 1 = omega arith in rw e (by (f (n + k)) refl (count-most f n k))
-  where
-    by : (b : Bool) → f (n + k) ≡ b → length (keep f (below n)) ≤ length (keep f (below (n + k))) → length (keep f (below n)) ≤ length (keep f (below (n + k + 1)))
-    by true e h = omega (arith, count-yes f (n + k) e)
-    by false e h = omega (arith, count-no f (n + k) e)
-
 -- While one more is chosen, fewer than w were.
 pub chosen-room : (j : Job) (xs : List ℕ) (w p : ℕ) → w ≤ j .processors → p < j .processors → isChosen xs (j .processors) w p ≡ true
     → length (keep (isChosen xs (j .processors) w) (below p)) < w
 unfolding chosen
 chosen-room j xs w p h l e =
     let f = isChosen xs (j .processors) w in
-    let n : p + 1 + (j .processors - (p + 1)) ≡ j .processors = omega arith in
-    let m = count-most f (p + 1) (j .processors - (p + 1)) in
     let c : length (keep f (below (j .processors))) ≡ w = chosen-count j xs w h in
-    omega (arith, count-yes f p e, rw n at m)
+    omega (arith, ap length (keep-at f p (j .processors) l e), length-append (keep f (below p)) (p ∷ keep f (countFrom (suc p) (j .processors - suc p))))

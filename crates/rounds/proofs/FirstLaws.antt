@@ -1,16 +1,16 @@
 -- The first finish of a task, and the lowest processor that has it.
-use Rattle.lists.proofs.Prelude.{_≡_, refl, ap, _∙_, sym, _⊎_, inl, inr, ⊎-elim, List, [], _∷_, map, Bool, true, false, false≢true, ℕ, zero, suc, _+_, _*_, _-_, _<_, _≤_, min, arith, add-one, eqb-true, ltb-true, ltb-false, eqb, ltb, if_then_else_, nth, In, keep, Time, tick, never, sooner, same, least, Outcome, ofTask, times, firstFinish, lowest, firstProcessor}
+use Rattle.lists.proofs.Prelude.{_≡_, if_then_else_, never, refl, ap, _∙_, sym, _⊎_, inl, inr, ⊎-elim, List, [], _∷_, map, Bool, true, false, false≢true, ℕ, zero, suc, _+_, _-_, _<_, _≤_, min, arith, add-one, eqb-true, ltb-true, ltb-false, eqb, ltb, nth, In, keep, Time, tick, sooner, same, least, Outcome, times, firstFinish, lowest, firstProcessor, Limits}
 use Rattle.definitions.proofs.Lists.{in-map, map-in, in-keep, keep-in}
 use Rattle.definitions.proofs.Guarantee.{time-same}
-use Rattle.heads.specs.Layout.{lineAt, rowAt, processorAt, earlyAt}
+use Rattle.heads.specs.Layout.{lineAt, processorAt, earlyAt}
 use Rattle.ticks.specs.Cells.{neverCell, timeIn}
 use Rattle.plans.specs.Lines.{rowOutcomes, rowOf, LinesHeld}
-use Rattle.replicas.specs.Cells.{leastEarly, leastOn}
+use Rattle.replicas.specs.Cells.{onCell, earlyCell, leastEarly, leastOn}
 use Rattle.replicas.proofs.TwiceLaws.{least-none, least-sooner, least-stays}
-use Rattle.rounds.specs.Replaying.{outcomesIn, RisingIn, FirstIn}
-use Rattle.lists.proofs.Counting.{equal-or-not}
-use Rattle.rounds.proofs.TimeLaws.{time-tick, sooner-left, sooner-right}
-use Rattle.rounds.proofs.Placed.{placed-rowOf}
+use Rattle.rounds.specs.Replaying.{RisingIn, FirstIn}
+use Rattle.lists.proofs.Counting.{equal-or-not, last-or-before}
+use Rattle.rounds.proofs.TimeLaws.{time-tick, sooner-cells}
+use Rattle.rounds.proofs.Placed.{rowOutcome, in-row, row-in, placed-rowOf}
 use Rattle.rounds.proofs.MakespanLaws.{all-placed, row-of-task}
 
 -- Least times ---------------------------------------------------------------------------------------------------------
@@ -79,136 +79,110 @@ lowest-same [] [] f g = refl
 lowest-same [] (q ∷ qs) f g = absurd (g q (inl refl))
 lowest-same (p ∷ ps) qs f g = lowest-is (lowest (p ∷ ps)) qs (f (lowest (p ∷ ps)) (lowest-in p ps)) (λ q i. lowest-most q (p ∷ ps) (g q i))
 
--- The first of some outcomes --------------------------------------------------------------------------------------------
+-- Cells that hold the same tick.
+cell-same : (x y : ℕ) → (y ≡ neverCell → ⊥) → same (timeIn x) (timeIn y) ≡ true → x ≡ y
+cell-same x y n e = by (eqb x neverCell) (rw (time-tick y n) at e)
+  where
+    by : (b : Bool) → same (if b then never else tick x) (tick y) ≡ true → x ≡ y
+    by true e = absurd (false≢true e)
+    by false e = eqb-true x y e
 
-same-is : (x y : Time) → same x y ≡ true → x ≡ y
-same-is (tick x) (tick y) e = ap tick (eqb-true x y e)
-same-is (tick x) never e = absurd (false≢true e)
-same-is never (tick y) e = absurd (false≢true e)
-same-is never never e = refl
+-- The replicas of a line --------------------------------------------------------------------------------------------------
 
--- x is the least time of some outcomes, and p the lowest processor that has it.
-pub record FirstOf (ds : List Outcome) (x p : ℕ) : Type 0 where
-  pub finish : timeIn x ≡ least (times ds)
-  pub found : (x ≡ neverCell → ⊥) → (d : Outcome) × In d ds × (d .time ≡ timeIn x) × (d .processor ≡ p)
-  pub lowest-of : (x ≡ neverCell → ⊥) → (d : Outcome) → In d ds → d .time ≡ timeIn x → p ≤ d .processor
+-- x is the least early time of the first c replicas of the line at a, and if one of them finishes, p is the lowest processor that has it.
+record FirstAt (mem : List ℕ) (a c x p : ℕ) : Type 0 where
+  pub least-time : timeIn x ≡ least (times (rowOutcomes false a c mem))
+  pub most : (x ≤ neverCell) × ((i : ℕ) → i < c → x ≤ nth mem (earlyAt a i))
+  pub found : (x ≡ neverCell → ⊥) → (i : ℕ) × (i < c) × (nth mem (earlyAt a i) ≡ x) × (nth mem (processorAt a i) ≡ p)
+  pub lowest-of : (x ≡ neverCell → ⊥) → (i : ℕ) → i < c → nth mem (earlyAt a i) ≡ x → p ≤ nth mem (processorAt a i)
 
-first-none : (p : ℕ) → FirstOf [] neverCell p
-unfolding least
-first-none p = record { finish = refl; found = λ n. absurd (n refl); lowest-of = λ n d i. absurd i }
+first-none : (mem : List ℕ) (a p : ℕ) → FirstAt mem a 0 neverCell p
+unfolding rowOutcomes least
+first-none mem a p =
+    record { least-time = refl; most = (omega arith, λ i h. absurd (omega arith)); found = λ n. absurd (n refl); lowest-of = λ n i h. absurd (omega arith) }
 
-module _ (ds : List Outcome) (x p : ℕ) (f : FirstOf ds x p) (h : x ≤ neverCell) (t q y : ℕ) where
-  abbrev next : Outcome
-  next = record { task = t; processor = q; time = timeIn y }
-
-  -- One more outcome, on a processor that is not lower, is sooner, or it is not.
-  first-sooner : y < x → FirstOf (next ∷ ds) y q
-  unfolding least
+module _ {mem : List ℕ} {a c x p : ℕ} (f : FirstAt mem a c x p) where
+  -- One more replica, on a processor that is not lower, finishes sooner, or it does not.
+  first-sooner : nth mem (earlyAt a c) < x → FirstAt mem a (c + 1) (nth mem (earlyAt a c)) (nth mem (processorAt a c))
+  unfolding rowOutcomes least
   first-sooner l =
+      let y = nth mem (earlyAt a c) in
+      let m = f .most .0 in
       record {
-        finish = sooner-left y x (omega arith) h (omega arith) ∙ ap (sooner (timeIn y)) (f .finish);
-        found = λ n. (next, inl refl, refl, refl);
-        lowest-of = λ n d. ⊎-elim
-            (λ e. let g : q ≡ d .processor = ap (λ (d : Outcome). d .processor) e in omega arith)
-            (λ i e.
-            let b : NotBefore x (least (times ds)) = rw (← f .finish) (cell-itself (eqb x neverCell)) in
-            let c : NotBefore x (timeIn y) = rw (← e) (least-most x (times ds) b (d .time) (map-in (λ d. d .time) d ds i)) in
-            let z : x ≤ y = rw (time-tick y n) at c in
-            absurd (omega arith));
+        least-time = sooner-cells neverCell y x y (omega arith) m (omega arith) ∙ rw (f .least-time, add-one c);
+        most = (omega arith, λ i h. ⊎-elim (λ (e : i ≡ c). rw e (omega arith)) (λ h. omega (arith, f .most .1 i h)) (last-or-before c i (omega arith)));
+        found = λ n. (c, omega arith, refl, refl);
+        lowest-of = λ n i h e. ⊎-elim (λ (q : i ≡ c). rw q (omega arith)) (λ h. absurd (omega (arith, f .most .1 i h))) (last-or-before c i (omega arith));
       }
-    where
-      cell-itself : (b : Bool) → NotBefore x (if b then never else tick x)
-      cell-itself true = tt
-      cell-itself false = omega arith
 
-  first-stays : x ≤ y → y ≤ neverCell → ((d : Outcome) → In d ds → d .processor ≤ q) → FirstOf (next ∷ ds) x p
-  unfolding least
-  first-stays l m up =
+  first-stays : x ≤ nth mem (earlyAt a c) → nth mem (earlyAt a c) ≤ neverCell → ((i : ℕ) → i < c → nth mem (processorAt a i) ≤ nth mem (processorAt a c))
+      → FirstAt mem a (c + 1) x p
+  unfolding rowOutcomes least
+  first-stays l n up =
       record {
-        finish = sooner-right y x m h l ∙ ap (sooner (timeIn y)) (f .finish);
-        found = λ n. let (d, i, e, g) = f .found n in (d, inr i, e, g);
-        lowest-of = λ n d. ⊎-elim
-            (λ e _.
-            let g : q ≡ d .processor = ap (λ (d : Outcome). d .processor) e in
-            let (b, i, _, k) = f .found n in
-            omega (arith, up b i))
-            (λ i. f .lowest-of n d i);
+        least-time = sooner-cells neverCell (nth mem (earlyAt a c)) x x n (f .most .0) (omega arith) ∙ rw (f .least-time, add-one c);
+        most = (f .most .0, λ i h. ⊎-elim (λ (e : i ≡ c). rw e l) (f .most .1 i) (last-or-before c i (omega arith)));
+        found = λ n. let (i, h, q, o) = f .found n in (i, omega arith, q, o);
+        lowest-of = λ n i h e. ⊎-elim (λ (q : i ≡ c). let (k, b, _, o) = f .found n in rw q (omega (arith, up k b))) (λ b. f .lowest-of n i b e) (last-or-before c i (omega arith));
       }
 
 -- The first of a task ---------------------------------------------------------------------------------------------------
 
-module _ (capacity : ℕ) (mem : List ℕ) (r : RisingIn capacity mem) (i : ℕ) (h : i < nth mem 0) where
+module _ {lim : Limits} {capacity : ℕ} {mem : List ℕ} (s : LinesHeld lim capacity (nth mem 0) mem) (r : RisingIn capacity mem) (t : ℕ) (h : t < nth mem 0) where
+  abbrev line : ℕ
+  line = nth mem (lineAt capacity + t) - 1
+
+  abbrev own : ℕ
+  own = rowOf capacity t mem
+
+  line-below : line < nth mem 0
+  line-below = omega (arith, all-placed s t h, row-of-task s t h .1)
+
   -- A line's processors before a place are not higher than the one at it.
-  rising-row : (c : ℕ) → c < nth mem 3 + 1 → (d : Outcome) → In d (rowOutcomes false (rowAt capacity i) c mem) → d .processor ≤ nth mem (processorAt (rowAt capacity i) c)
-  unfolding rowOutcomes
-  rising-row (suc c) g d m =
-      let up : nth mem (processorAt (rowAt capacity i) c) ≤ nth mem (processorAt (rowAt capacity i) (suc c)) = rw (add-one c) at (r i c h (omega arith)) in
-      ⊎-elim
-      (λ e. let q : nth mem (processorAt (rowAt capacity i) c) ≡ d .processor = ap (λ (d : Outcome). d .processor) e in omega arith)
-      (λ k. omega (arith, rising-row c (omega arith) d k))
-      m
+  rising-row : (c i : ℕ) → c < nth mem 3 + 1 → i < c → nth mem (processorAt own i) ≤ nth mem (processorAt own c)
+  rising-row (suc c) i g l =
+      let up : nth mem (processorAt own c) ≤ nth mem (processorAt own (suc c)) = rw (add-one c) at (r line c line-below (omega arith)) in
+      ⊎-elim (λ (e : i ≡ c). rw e up) (λ b. omega (arith, rising-row c i (omega arith) b)) (last-or-before c i l)
 
--- x is the first finish, on p, of the first c replicas of a task's line.
-abbrev Seen : ℕ → List ℕ → ℕ → ℕ → ℕ → ℕ → Type 0
-Seen capacity mem t c x p = FirstOf (rowOutcomes false (rowOf capacity t mem) c mem) x p
-
-seen-none : (capacity : ℕ) (mem : List ℕ) (t p : ℕ) → Seen capacity mem t 0 neverCell p
-unfolding rowOutcomes
-seen-none capacity mem t p = first-none p
-
-module _ {capacity : ℕ} {mem : List ℕ} (s : LinesHeld capacity (nth mem 0) mem) (r : RisingIn capacity mem) (t : ℕ) (h : t < nth mem 0) where
-  module _ (c x p : ℕ) (f : Seen capacity mem t c x p) (g : c < nth mem 3 + 1) (m : x ≤ neverCell) where
-    seen-sooner : nth mem (earlyAt (rowOf capacity t mem) c) < x → Seen capacity mem t (c + 1) (nth mem (earlyAt (rowOf capacity t mem) c)) (nth mem (processorAt (rowOf capacity t mem) c))
-    unfolding rowOutcomes
-    seen-sooner l = rw (add-one c) (first-sooner _ x p f m _ _ _ l)
-
-    seen-stays : x ≤ nth mem (earlyAt (rowOf capacity t mem) c) → nth mem (earlyAt (rowOf capacity t mem) c) ≤ neverCell → Seen capacity mem t (c + 1) x p
-    unfolding rowOutcomes
-    seen-stays l n =
-        rw (add-one c)
-        (first-stays (rowOutcomes false (rowOf capacity t mem) c mem) x p f m _ _ _ l n
-        (rising-row capacity mem r (nth mem (lineAt capacity + t) - 1) (omega (arith, all-placed s t h, row-of-task s t h .1)) c g))
-
-  seen-all : (c x p : ℕ) → c ≡ nth mem 3 + 1 → Seen capacity mem t c x p → FirstIn capacity t x p mem
+  first-all : (x p : ℕ) → FirstAt mem own (nth mem 3 + 1) x p → FirstIn capacity t x p mem
   unfolding firstFinish firstProcessor
-  seen-all c x p e f₀ =
-      let own : ofTask t (outcomesIn capacity mem) ≡ rowOutcomes false (rowOf capacity t mem) (nth mem 3 + 1) mem = placed-rowOf s false (nth mem 3 + 1) (nth mem 0) (omega arith) t h
-      (all-placed s t h) (row-of-task s t h .1) in
-      let f : FirstOf (ofTask t (outcomesIn capacity mem)) x p = rw (own, ← e) f₀ in
-      let ds = ofTask t (outcomesIn capacity mem) in
+  first-all x p f =
+      let w = nth mem 3 + 1 in
       let same-time : Outcome → Bool = λ d. same (d .time) (timeIn x) in
+      let on : Outcome → ℕ = λ d. d .processor in
+      let ds = rowOutcomes false own w mem in
+      let of-line = placed-rowOf s false w (nth mem 0) (omega arith) t h (all-placed s t h) (row-of-task s t h .1) in
       record {
-        finish = f .finish;
+        finish = rw of-line (f .least-time);
         box = λ n.
-            let (d, i, q, g) = f .found n in
-            let here : In p (map (λ d. d .processor) (keep same-time ds)) = rw g at (map-in (λ d. d .processor) d (keep same-time ds) (keep-in same-time d ds i (rw q (time-same (timeIn x))))) in
-            lowest-is p (map (λ d. d .processor) (keep same-time ds)) here (λ b k.
-            let (d, m, q) = in-map (λ d. d .processor) b (keep same-time ds) k in
-            let (i, z) = in-keep same-time d ds m in
-            rw (← q) (f .lowest-of n d i (same-is (d .time) (timeIn x) z)));
+            let (i, l, e, q) = f .found n in
+            let here : In (nth mem (processorAt own i)) (map on (keep same-time ds)) =
+            map-in on (rowOutcome false own i mem) (keep same-time ds) (keep-in same-time _ ds (row-in false mem own w i l) (rw e (time-same (timeIn x)))) in
+            rw of-line
+            (lowest-is p (map on (keep same-time ds)) (rw q at here) (λ b k.
+            let (d, m, z) = in-map on b (keep same-time ds) k in
+            let (m, z′) = in-keep same-time d ds m in
+            let (c, l, g) = in-row false mem own w d m in
+            rw (← z, g) (f .lowest-of n c l (cell-same (nth mem (earlyAt own c)) x n (rw g at z′)))));
       }
 
   -- The cells of the task's replicas, and what is seen in them.
-  module _ (small : (i : ℕ) → nth mem i ≤ neverCell) (cells : List ℕ) (on : (c : ℕ) → c < nth mem 3 + 1 → nth cells (3 * c) ≡ nth mem (processorAt (rowOf capacity t mem) c))
-      (early : (c : ℕ) → c < nth mem 3 + 1 → nth cells (3 * c + 1) ≡ nth mem (earlyAt (rowOf capacity t mem) c)) where
-    seen-more : (c : ℕ) → c < nth mem 3 + 1 → Seen capacity mem t c (leastEarly c cells) (leastOn c cells) → leastEarly c cells ≤ neverCell
-        → Seen capacity mem t (c + 1) (leastEarly (c + 1) cells) (leastOn (c + 1) cells) × (leastEarly (c + 1) cells ≤ neverCell)
-    seen-more c l f m = by (ltb (nth cells (3 * c + 1)) (leastEarly c cells)) refl
+  module _ (small : (i : ℕ) → nth mem i ≤ neverCell) (cells : List ℕ) (on : (c : ℕ) → c < nth mem 3 + 1 → nth cells (onCell c) ≡ nth mem (processorAt own c))
+      (early : (c : ℕ) → c < nth mem 3 + 1 → nth cells (earlyCell c) ≡ nth mem (earlyAt own c)) where
+    first-to : (c : ℕ) → c ≤ nth mem 3 + 1 → FirstAt mem own c (leastEarly c cells) (leastOn c cells)
+    first-to zero l = let (e, f) = least-none cells in rw (e, f) (first-none mem own 0)
+    first-to (suc c) l = rw (← add-one c) (by (ltb (nth cells (earlyCell c)) (leastEarly c cells)) refl (first-to c (omega arith)))
       where
-        by : (b : Bool) → ltb (nth cells (3 * c + 1)) (leastEarly c cells) ≡ b
-            → Seen capacity mem t (c + 1) (leastEarly (c + 1) cells) (leastOn (c + 1) cells) × (leastEarly (c + 1) cells ≤ neverCell)
-        by true e =
+        by : (b : Bool) → ltb (nth cells (earlyCell c)) (leastEarly c cells) ≡ b → FirstAt mem own c (leastEarly c cells) (leastOn c cells)
+            → FirstAt mem own (c + 1) (leastEarly (c + 1) cells) (leastOn (c + 1) cells)
+        by true e f =
             let g = ltb-true _ _ e in
             let (p, q) = least-sooner cells c g in
-            rw (← p, ← q, early c l, on c l) (seen-sooner c _ _ f l m (rw (early c l) at g), small (earlyAt (rowOf capacity t mem) c))
-        by false e =
+            rw (← p, ← q, early c l, on c l) (first-sooner f (rw (early c l) at g))
+        by false e f =
             let g = ltb-false _ _ e in
             let (p, q) = least-stays cells c g in
-            rw (← p, ← q) (seen-stays c _ _ f l m (rw (early c l) at g) (small (earlyAt (rowOf capacity t mem) c)), m)
-
-    seen-to : (c : ℕ) → c ≤ nth mem 3 + 1 → Seen capacity mem t c (leastEarly c cells) (leastOn c cells) × (leastEarly c cells ≤ neverCell)
-    seen-to zero l = let (e, f) = least-none cells in rw (e, f) (seen-none capacity mem t 0, omega arith)
-    seen-to (suc c) l = let (f, m) = seen-to c (omega arith) in rw (← add-one c) (seen-more c (omega arith) f m)
+            rw (← p, ← q) (first-stays f (rw (early c l) at g) (small (earlyAt own c)) (λ i b. rising-row c i l b))
 
     pub first-seen : (w : ℕ) → w ≡ nth mem 3 + 1 → FirstIn capacity t (leastEarly w cells) (leastOn w cells) mem
-    first-seen w e = seen-all w _ _ e (seen-to w (omega arith) .0)
+    first-seen w e = rw e (first-all (leastEarly (nth mem 3 + 1) cells) (leastOn (nth mem 3 + 1) cells) (first-to (nth mem 3 + 1) (omega arith)))

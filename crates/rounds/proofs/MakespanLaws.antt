@@ -1,5 +1,5 @@
 -- The end of a plan, from the lines in memory.
-use Rattle.lists.proofs.Prelude.{_≡_, refl, ap, _∙_, sym, List, [], _∷_, map, Bool, true, false, ℕ, suc, _+_, _-_, _<_, _≤_, arith, sub-zero, add-one, length, length-map, if_then_else_, nth, countFrom, below, keep, empty, In, Edge, outgoing, Time, tick, later, sooner, least, largest, ofTask, times, exits, makespan}
+use Rattle.lists.proofs.Prelude.{_≡_, refl, ap, _∙_, sym, List, [], _∷_, map, Bool, true, false, ℕ, suc, _+_, _-_, _<_, _≤_, arith, sub-zero, add-one, length, length-map, if_then_else_, nth, countFrom, below, keep, empty, In, Edge, outgoing, Limits, Time, tick, later, sooner, least, largest, ofTask, times, exits, makespan}
 use Rattle.orders.specs.Links.{Run}
 use Rattle.orders.proofs.Walk.{pass-length}
 use Rattle.definitions.proofs.Lists.{distinct-map, full, in-map, in-below, distinct-count, length-count}
@@ -15,20 +15,14 @@ use Rattle.rounds.proofs.TimeLaws.{later-comm, later-assoc, later-zero}
 -- Exit tasks --------------------------------------------------------------------------------------------------------
 
 -- The run of the edges that leave an exit task is empty.
-module _ {a b : ℕ} {cells : List ℕ} {es : List Edge} (r : Run a b cells es) where
-  pub exit-yes : b ≤ a → empty es ≡ true
-  exit-yes h = by es (pass-length r)
-    where
-      by : (es : List Edge) → length es ≡ b - a → empty es ≡ true
-      by [] e = refl
-      by (x ∷ es) e = absurd (omega arith)
+module _ {a b : ℕ} {cells : List ℕ} where
+  exit-yes : (es : List Edge) → Run a b cells es → b ≤ a → empty es ≡ true
+  exit-yes [] r h = refl
+  exit-yes (x ∷ es) r h = absurd (let n = pass-length r in omega arith)
 
-  pub exit-no : a < b → empty es ≡ false
-  exit-no h = by es (pass-length r)
-    where
-      by : (es : List Edge) → length es ≡ b - a → empty es ≡ false
-      by [] e = absurd (omega arith)
-      by (x ∷ es) e = refl
+  exit-no : (es : List Edge) → Run a b cells es → a < b → empty es ≡ false
+  exit-no [] r h = absurd (let n = pass-length r in omega arith)
+  exit-no (x ∷ es) r h = refl
 
 -- The choice in a line ----------------------------------------------------------------------------------------------
 
@@ -50,7 +44,7 @@ chosen-next false a mem c x acc r e f g = g ∙ rw (f, e, add-one c)
 
 -- Where all tasks are placed ----------------------------------------------------------------------------------------
 
-module _ {capacity : ℕ} {mem : List ℕ} (s : LinesHeld capacity (nth mem 0) mem) where
+module _ {lim : Limits} {capacity : ℕ} {mem : List ℕ} (s : LinesHeld lim capacity (nth mem 0) mem) where
   -- As many lines as tasks: every task has its line.
   pub all-placed : (t : ℕ) → t < nth mem 0 → 0 < nth mem (lineAt capacity + t)
   all-placed t h =
@@ -69,14 +63,14 @@ module _ {capacity : ℕ} {mem : List ℕ} (s : LinesHeld capacity (nth mem 0) m
       let f : nth mem (lineAt capacity + t) ≡ suc (r .0) = rw (r .2) at l in
       omega arith
 
-  pub row-of-task : (t : ℕ) → t < nth mem 0 → RowHeld (rowOf capacity t mem) mem × (nth mem (lineAt capacity + t) ≤ nth mem 0)
+  pub row-of-task : (t : ℕ) → t < nth mem 0 → RowHeld lim (rowOf capacity t mem) mem × (nth mem (lineAt capacity + t) ≤ nth mem 0)
   row-of-task t h =
       let l = all-placed t h in
       let (b, _) = line-in s t (nth mem (lineAt capacity + t) - 1) h (omega arith) in
       (s .row (nth mem (lineAt capacity + t) - 1) b, omega arith)
 
   -- Where the cells of its line are.
-  pub cells-of-task : (t : ℕ) → t < nth mem 0 → (0 < nth mem (lineAt capacity + t)) × (rowEnd (rowOf capacity t mem) ≤ length mem) × (nth mem 3 ≤ 7)
+  pub cells-of-task : (t : ℕ) → t < nth mem 0 → (0 < nth mem (lineAt capacity + t)) × (rowEnd (rowOf capacity t mem) ≤ length mem) × (nth mem 3 ≤ lim .losses)
   cells-of-task t h =
       let l = all-placed t h in
       let m = row-of-task t h .1 in
@@ -87,12 +81,12 @@ module _ {capacity : ℕ} {mem : List ℕ} (s : LinesHeld capacity (nth mem 0) m
 abbrev pub exitTime : ℕ → Bool → List ℕ → ℕ → Time
 exitTime capacity late mem t = if empty (outgoing (jobIn mem) t) then choiceOf late (times (ofTask t (placedIn capacity late (nth mem 3 + 1) (nth mem 0) mem))) else tick 0
 
-module _ {capacity : ℕ} (late : Bool) {mem : List ℕ} (s : LinesHeld capacity (nth mem 0) mem) (t : ℕ) (h : t < nth mem 0) {a b : ℕ} (r : Run a b mem (outgoing (jobIn mem) t)) where
+module _ {lim : Limits} {capacity : ℕ} (late : Bool) {mem : List ℕ} (s : LinesHeld lim capacity (nth mem 0) mem) (t : ℕ) (h : t < nth mem 0) {a b : ℕ} (r : Run a b mem (outgoing (jobIn mem) t)) where
   pub exit-makespan : (x : ℕ) → b ≤ a → timeIn x ≡ chosenIn late (rowOf capacity t mem) (nth mem 3 + 1) mem → timeIn x ≡ exitTime capacity late mem t
-  exit-makespan x e f = rw (exit-yes r e, placed-rowOf s late (nth mem 3 + 1) (nth mem 0) (omega arith) t h (all-placed s t h) (row-of-task s t h .1)) f
+  exit-makespan x e f = rw (exit-yes (outgoing (jobIn mem) t) r e, placed-rowOf s late (nth mem 3 + 1) (nth mem 0) (omega arith) t h (all-placed s t h) (row-of-task s t h .1)) f
 
   pub exit-other : a < b → timeIn 0 ≡ exitTime capacity late mem t
-  exit-other l = rw (exit-no r l)
+  exit-other l = rw (exit-no (outgoing (jobIn mem) t) r l)
 
 -- The largest end ---------------------------------------------------------------------------------------------------
 

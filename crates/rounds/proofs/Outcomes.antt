@@ -1,27 +1,28 @@
 -- The replicas of a line in memory: their outcomes, the ticks by which they come, and the finishes after them.
-use Rattle.lists.proofs.Prelude.{_≡_, refl, ap, _∙_, sym, inl, inr, ⊎-elim, List, [], _∷_, _++_, map, map-append, reverse, append-nil, append-assoc, Bool, true, false, ℕ, zero, suc, _+_, _*_, _-_, _<_, _≤_, max, min, arith, eqb-true, eqb-false, ne-eqb, eqb, length, if_then_else_, In, nth, keep, distinct, Edge, Job, runTime, incoming, Replica, Line, processorsOf, tick, later, after, Outcome, ready, arrival, dataReady, start, stopTime, finish, Time, sooner, least, largest, outcome, ofTask, walk, placementsOf, placements, placementOf, tickOf}
+use Rattle.lists.proofs.Prelude.{_≡_, refl, ap, _∙_, inl, inr, List, [], _∷_, _++_, map, map-append, reverse, Bool, true, false, ℕ, zero, suc, _+_, _*_, _-_, _<_, _≤_, max, min, arith, ne-eqb, eqb, length, if_then_else_, In, nth, keep, distinct, Edge, Job, runTime, incoming, Replica, Line, processorsOf, tick, later, after, Outcome, ready, arrival, dataReady, start, stopTime, finish, Time, sooner, least, largest, outcome, ofTask, walk, placementsOf, placements, placementOf, tickOf, Limits}
 use mathlib.Core.List.{reverseAux-append}
 use Rattle.definitions.proofs.Ready.{first-ready}
-use Rattle.definitions.proofs.Lists.{map-same, in-append, append-left, append-right, apart-head}
-use Rattle.heads.specs.Layout.{lineAt, rowAt, processorAt, timeAt}
+use Rattle.definitions.proofs.Lists.{map-same, apart-head}
+use Rattle.heads.specs.Layout.{lineAt, rowAt, processorAt, earlyAt, lateAt, timeAt}
 use Rattle.jobs.specs.Held.{jobIn}
+use Rattle.jobs.specs.Tables.{lineTicks, lastShort}
 use Rattle.ticks.specs.Cells.{neverCell, timeIn}
 use Rattle.plans.specs.Lines.{replicaIn, rowOutcomes, placedIn, rowReplicas, LinesHeld}
-use Rattle.rounds.specs.Schedule.{choiceOf, dataIn, lineTicks, ShortTo}
-use Rattle.rounds.specs.Arrivals.{lastShort, BothSupplied, ShortClocks}
+use Rattle.rounds.specs.Schedule.{choiceOf, dataIn, ShortTo}
+use Rattle.rounds.specs.Arrivals.{BothSupplied, ShortClocks}
 use Rattle.ticks.specs.declared.clocks.Clocks.{Clocks}
 use Rattle.rounds.specs.Clocks.{earliesIn, latesIn, finishOn, ClocksHeld}
+use Rattle.lists.proofs.ListLaws.{joined-last}
 use Rattle.jobs.proofs.Held.{processors-in, sizes}
-use Rattle.rounds.proofs.TimeLaws.{time-tick}
-use Rattle.rounds.proofs.Placed.{start-placed, PredecessorsPlacedBy}
+pub use Rattle.plans.proofs.Lines.{in-replicas}
+use Rattle.rounds.proofs.TimeLaws.{time-tick, round-most}
+use Rattle.rounds.proofs.Placed.{in-row, in-placed, start-placed, PredecessorsPlacedBy}
 
 -- Replicas and their outcomes ---------------------------------------------------------------------------------------
 
 pub placements-more : (j : Job) (ns : List Line) (n : Line) → placements j (ns ++ n ∷ []) ≡ placements j ns ++ placementsOf j (n .task) (processorsOf n)
 unfolding placements
-placements-more j [] n = append-nil (placementsOf j (n .task) (processorsOf n))
-placements-more j (m ∷ ns) n =
-    rw (placements-more j ns n) (sym (append-assoc (placementsOf j (m .task) (processorsOf m)) (placements j ns) (placementsOf j (n .task) (processorsOf n))))
+placements-more j = joined-last (placements j) (λ n. placementsOf j (n .task) (processorsOf n)) refl (λ n ns. refl)
 
 other-task : (u : ℕ) (d : Outcome) (ds : List Outcome) → (d .task ≡ u → ⊥) → ofTask u (d ∷ ds) ≡ ofTask u ds
 unfolding ofTask keep
@@ -92,15 +93,6 @@ tick-back (y, e, l) = rw e
 pub tick-most : {b : ℕ} {x : Time} → Comes b x → tickOf x ≤ b
 tick-most (y, e, l) = rw e l
 
-pub in-replicas : (a n c : ℕ) (mem : List ℕ) → c < n → In (replicaIn a c mem) (rowReplicas a n mem)
-unfolding rowReplicas
-in-replicas a zero c mem h = absurd (omega arith)
-in-replicas a (suc n) c mem h = by (eqb c n) refl (in-replicas a n c mem)
-  where
-    by : (b : Bool) → eqb c n ≡ b → (c < n → In (replicaIn a c mem) (rowReplicas a n mem)) → In (replicaIn a c mem) (rowReplicas a n mem ++ replicaIn a n mem ∷ [])
-    by true e r = append-right (replicaIn a c mem) (rowReplicas a n mem) (replicaIn a n mem ∷ []) (rw (eqb-true c n e) (inl refl))
-    by false e r = let q = eqb-false c n e in append-left (replicaIn a c mem) (rowReplicas a n mem) (replicaIn a n mem ∷ []) (r (omega arith))
-
 -- The outcome of a line's replica, early or late.
 abbrev pub outcomeOf : Bool → ℕ → Replica → Outcome
 outcomeOf late t r = record { task = t; processor = r .processor; time = timeIn (if late then r .late else r .early) }
@@ -113,14 +105,11 @@ outcomes-row late a (suc c) mem =
     let xs = rowReplicas a c mem in
     let r = replicaIn a c mem in
     let back : reverse (map f (xs ++ r ∷ [])) ≡ f r ∷ reverse (map f xs) = rw (map-append f xs (r ∷ [])) (reverseAux-append (map f xs) (f r ∷ []) []) in
-    rw (back, outcomes-row late a c mem) (by late)
+    rw (back, outcomes-row late a c mem, time-of late)
   where
-    by : (late : Bool)
-        → _≡_ {A = List Outcome} (record { task = nth mem a; processor = nth mem (processorAt a c); time = timeIn (nth mem (timeAt late a c)) }
-        ∷ reverse (map (outcomeOf late (nth mem a)) (rowReplicas a c mem)))
-        (outcomeOf late (nth mem a) (replicaIn a c mem) ∷ reverse (map (outcomeOf late (nth mem a)) (rowReplicas a c mem)))
-    by true = refl
-    by false = refl
+    time-of : (late : Bool) → nth mem (timeAt late a c) ≡ (if late then nth mem (lateAt a c) else nth mem (earlyAt a c))
+    time-of true = refl
+    time-of false = refl
 
 -- The ticks of lines ------------------------------------------------------------------------------------------------
 
@@ -128,20 +117,8 @@ outcomes-row late a (suc c) mem =
 abbrev pub AllCome : ℕ → List Outcome → Type 0
 AllCome b ds = (d : Outcome) → In d ds → Comes b (d .time)
 
-time-back : (x b : ℕ) → x ≤ b → b < neverCell → Comes b (timeIn x)
-time-back x b h g = (x, time-tick x (λ e. omega arith), h)
-
 pub row-come : (late : Bool) (a c b : ℕ) (mem : List ℕ) → b < neverCell → ((i : ℕ) → i < c → nth mem (timeAt late a i) ≤ b) → AllCome b (rowOutcomes late a c mem)
-unfolding rowOutcomes
-row-come late a (suc c) b mem g h d (inl e) = rw (← e) (time-back (nth mem (timeAt late a c)) b (h c (omega arith)) g)
-row-come late a (suc c) b mem g h d (inr i) = row-come late a c b mem g (λ i l. h i (omega arith)) d i
-
-pub placed-come : (capacity : ℕ) (late : Bool) (w k b : ℕ) (mem : List ℕ) → b < neverCell → ((i c : ℕ) → i < k → c < w → nth mem (timeAt late (rowAt capacity i) c) ≤ b)
-    → AllCome b (placedIn capacity late w k mem)
-unfolding placedIn
-placed-come capacity late w (suc k) b mem g h d i =
-    ⊎-elim (row-come late (rowAt capacity k) w b mem g (λ c l. h k c (omega arith) l) d) (placed-come capacity late w k b mem g (λ i c l m. h i c (omega arith) m) d)
-    (in-append d (rowOutcomes late (rowAt capacity k) w mem) (placedIn capacity late w k mem) i)
+row-come late a c b mem g h d i = let (k, l, e) = in-row late mem a c d i in rw e (nth mem (timeAt late a k), time-tick _ (λ q. omega (arith, q, h k l)), h k l)
 
 pub ready-comes : (j : Job) (p b : ℕ) (ds : List Outcome) → AllCome b ds → Comes b (ready j p ds)
 unfolding ready
@@ -158,46 +135,44 @@ row-length late a zero mem = refl
 row-length late a (suc c) mem = ap suc (row-length late a c mem)
 
 pub row-on : (late : Bool) (a c m : ℕ) (mem : List ℕ) → ((i : ℕ) → i < c → nth mem (processorAt a i) < m) → (d : Outcome) → In d (rowOutcomes late a c mem) → d .processor < m
-unfolding rowOutcomes
-row-on late a (suc c) m mem h d (inl e) = rw (← e) (h c (omega arith))
-row-on late a (suc c) m mem h d (inr i) = row-on late a c m mem (λ i l. h i (omega arith)) d i
+row-on late a c m mem h d i = let (k, l, e) = in-row late mem a c d i in rw e (h k l)
 
 -- From the tick at which p is ready: the finish of t on p is that of the definition.
-pub finish-at : {capacity n k : ℕ} {mem : List ℕ} → LinesHeld capacity n mem → k ≤ n → (late : Bool) (t p x : ℕ) → PredecessorsPlacedBy capacity k t mem
+pub finish-at : {lim : Limits} {capacity n k : ℕ} {mem : List ℕ} → LinesHeld lim capacity n mem → k ≤ n → (late : Bool) (t p x : ℕ) → PredecessorsPlacedBy capacity k t mem
     → tick x ≡ ready (jobIn mem) p (placedIn capacity late (nth mem 3 + 1) k mem)
     → after (runTime (jobIn mem) t p) (later (tick x) (dataIn capacity late t p mem)) ≡ finishOn capacity late k mem t p
 unfolding finishOn finish stopTime
 finish-at {k = k} s l late t p x f e = rw (e, start-placed s k t l f late p)
 
 -- The first k lines have ticks that do not pass k times those of a line.
-module _ {capacity n k : ℕ} {mem : List ℕ} (s : LinesHeld capacity n mem) (l : k ≤ n) (h : ShortTo capacity k mem) where
+module _ {lim : Limits} {capacity n k : ℕ} {mem : List ℕ} (s : LinesHeld lim capacity n mem) (l : k ≤ n) (h : ShortTo lim capacity k mem) where
   -- So they are short.
-  pub short-most : k * lineTicks ≤ lastShort
-  short-most = let w = sizes (s .job) in let c = s .count in omega arith
+  pub short-most : k * lineTicks lim ≤ lastShort
+  short-most = round-most (s .job .tabled) k (omega (arith, l, s .count, sizes (s .job) .tasks-most)) .0
 
-  pub cells-most : (late : Bool) (i c : ℕ) → i < k → c < nth mem 3 + 1 → nth mem (timeAt late (rowAt capacity i) c) ≤ k * lineTicks
+  pub cells-most : (late : Bool) (i c : ℕ) → i < k → c < nth mem 3 + 1 → nth mem (timeAt late (rowAt capacity i) c) ≤ k * lineTicks lim
   cells-most true i c g m = h i c g m .1
   cells-most false i c g m = h i c g m .0
 
-  pub all-come : (late : Bool) → AllCome (k * lineTicks) (placedIn capacity late (nth mem 3 + 1) k mem)
-  all-come late = let f = short-most in placed-come capacity late (nth mem 3 + 1) k (k * lineTicks) mem (omega arith) (cells-most late)
+  pub all-come : (late : Bool) → AllCome (k * lineTicks lim) (placedIn capacity late (nth mem 3 + 1) k mem)
+  all-come late d i =
+      let f = short-most in
+      let (n, b, j) = in-placed late mem capacity (nth mem 3 + 1) k d i in
+      row-come late (rowAt capacity n) (nth mem 3 + 1) (k * lineTicks lim) mem (omega arith) (λ c. cells-most late n c b) d j
 
   -- A processor's ready tick.
   clock-most : (late : Bool) (p x : ℕ) → tick x ≡ ready (jobIn mem) p (placedIn capacity late (nth mem 3 + 1) k mem) → x ≤ lastShort
   clock-most late p x e =
-      let (y, f, m) = ready-comes (jobIn mem) p (k * lineTicks) (placedIn capacity late (nth mem 3 + 1) k mem) (all-come late) in
+      let (y, f, m) = ready-comes (jobIn mem) p (k * lineTicks lim) (placedIn capacity late (nth mem 3 + 1) k mem) (all-come late) in
       let q : x ≡ y = ap tickOf (e ∙ f) in
       omega (arith, short-most)
 
   -- The clocks have short ticks.
   pub clocks-short : {clocks : Clocks} → ClocksHeld clocks (jobIn mem) (earliesIn capacity k mem) (latesIn capacity k mem) → ShortClocks clocks mem
-  clocks-short {clocks} c =
-      record {
-        early-size = c .early-size;
-        late-size = c .late-size;
-        early-short = λ p l. clock-most false p (nth (clocks .early) p) (c .early-ready p (rw (processors-in mem) l));
-        late-short = λ p l. clock-most true p (nth (clocks .late) p) (c .late-ready p (rw (processors-in mem) l));
-      }
+  clocks-short {clocks} c = (
+    record { size = c .early-size; time = λ p o. refl; most = λ p o. clock-most false p (nth (clocks .early) p) (c .early-ready p (rw (processors-in mem) o)) },
+    record { size = c .late-size; time = λ p o. refl; most = λ p o. clock-most true p (nth (clocks .late) p) (c .late-ready p (rw (processors-in mem) o)) },
+  )
 
   -- The lines of a task's predecessors have short ticks.
   pub predecessors-short : (t : ℕ) → PredecessorsPlacedBy capacity k t mem → BothSupplied capacity t mem

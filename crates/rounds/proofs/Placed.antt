@@ -1,14 +1,47 @@
 -- What the lines in memory are to the definitions: the placed replicas, the data they send and the levels they give.
-use Rattle.lists.proofs.Prelude.{_≡_, refl, ap, _∙_, sym, _⊎_, inl, inr, ⊎-elim, List, [], _∷_, _++_, map, append-nil, map-append, Bool, true, false, ℕ, zero, suc, _+_, _*_, _-_, _<_, _≤_, arith, eq-eqb, ne-eqb, lt-ltb, le-ltb, eqb, ltb, if_then_else_, nth, keep, has, In, Edge, Job, incoming, later, after, least, largest, Outcome, ofTask, ready, arrival, dataReady, start, tickOf, largestDelay, scale, topLevel}
+use Rattle.lists.proofs.Prelude.{_≡_, refl, ap, _∙_, sym, inl, inr, ⊎-elim, List, [], _∷_, _++_, map, append-nil, Bool, true, false, ℕ, zero, suc, _+_, _*_, _-_, _<_, _≤_, arith, eq-eqb, ne-eqb, lt-ltb, le-ltb, eqb, ltb, if_then_else_, nth, keep, has, In, below, greatest, Edge, Job, incoming, Time, later, after, least, largest, Outcome, ofTask, ready, arrival, dataReady, start, tickOf, largestDelay, scale, topLevel, Limits}
 use Rattle.definitions.specs.Times.{feeding}
-use Rattle.definitions.proofs.Lists.{map-same, in-append, append-left, append-right, in-has, has-not}
+use Rattle.definitions.proofs.Lists.{map-same, map-in, in-map, in-append, append-left, append-right, in-has, has-not, keep-every, keep-none, in-below, below-in, greatest-most}
 use Rattle.definitions.proofs.Tasks.{in-incoming}
-use Rattle.heads.specs.Layout.{lineAt, largestDelayAt, rowAt, processorAt}
+use Rattle.heads.specs.Layout.{lineAt, rowAt, processorAt, timeAt}
 use Rattle.jobs.specs.Held.{jobIn}
-use Rattle.rounds.specs.Schedule.{choiceOf, arrivalIn, dataIn, PredecessorsPlaced, topIn, LargestDelaysFilled}
+use Rattle.ticks.specs.Cells.{timeIn}
+use Rattle.rounds.specs.Schedule.{choiceOf, arrivalIn, lineCount, dataIn, PredecessorsPlaced, topIn, LargestDelaysFilled}
 use Rattle.plans.specs.Lines.{rowOutcomes, placedIn, rowOf, LinesHeld}
 use Rattle.lists.proofs.Counting.{last-or-before, zero-or-more}
 use Rattle.jobs.proofs.Held.{tasks-in}
+
+-- The replicas of lines ---------------------------------------------------------------------------------------------
+
+-- Replica i of the line at a.
+abbrev pub rowOutcome : Bool → ℕ → ℕ → List ℕ → Outcome
+rowOutcome late a i mem = record { task = nth mem a; processor = nth mem (processorAt a i); time = timeIn (nth mem (timeAt late a i)) }
+
+module _ (late : Bool) (mem : List ℕ) where
+  pub in-row : (a c : ℕ) (d : Outcome) → In d (rowOutcomes late a c mem) → (i : ℕ) × (i < c) × (d ≡ rowOutcome late a i mem)
+  unfolding rowOutcomes
+  in-row a (suc c) d (inl e) = (c, omega arith, sym e)
+  in-row a (suc c) d (inr i) = let (k, l, e) = in-row a c d i in (k, omega arith, e)
+
+  pub row-in : (a c i : ℕ) → i < c → In (rowOutcome late a i mem) (rowOutcomes late a c mem)
+  unfolding rowOutcomes
+  row-in a zero i h = absurd (omega arith)
+  row-in a (suc c) i h = ⊎-elim (λ (e : i ≡ c). inl (rw e)) (λ l. inr (row-in a c i l)) (last-or-before c i h)
+
+  pub in-placed : (capacity w k : ℕ) (d : Outcome) → In d (placedIn capacity late w k mem) → (n : ℕ) × (n < k) × In d (rowOutcomes late (rowAt capacity n) w mem)
+  unfolding placedIn
+  in-placed capacity w (suc k) d i =
+      ⊎-elim (λ j. (k, omega arith, j)) (λ j. let (n, l, m) = in-placed capacity w k d j in (n, omega arith, m))
+      (in-append d (rowOutcomes late (rowAt capacity k) w mem) (placedIn capacity late w k mem) i)
+
+  placed-in : (capacity w k n : ℕ) (d : Outcome) → n < k → In d (rowOutcomes late (rowAt capacity n) w mem) → In d (placedIn capacity late w k mem)
+  unfolding placedIn
+  placed-in capacity w zero n d h i = absurd (omega arith)
+  placed-in capacity w (suc k) n d h i =
+      ⊎-elim
+      (λ (e : n ≡ k). append-left d (rowOutcomes late (rowAt capacity k) w mem) (placedIn capacity late w k mem) (rw (← e) i))
+      (λ l. append-right d (rowOutcomes late (rowAt capacity k) w mem) (placedIn capacity late w k mem) (placed-in capacity w k n d l i))
+      (last-or-before k n h)
 
 -- The outcomes of a task ------------------------------------------------------------------------------------------
 
@@ -25,28 +58,27 @@ ofTask-append u (x ∷ xs) ys = by (eqb (x .task) u) (ofTask-append u xs ys)
 module _ (late : Bool) (mem : List ℕ) (u : ℕ) where
   -- A line is of one task.
   row-all : (a c : ℕ) → nth mem a ≡ u → ofTask u (rowOutcomes late a c mem) ≡ rowOutcomes late a c mem
-  unfolding ofTask keep rowOutcomes
-  row-all a zero e = refl
-  row-all a (suc c) e = rw (eq-eqb (nth mem a) u e, row-all a c e)
+  unfolding ofTask
+  row-all a c e = keep-every (λ d. eqb (d .task) u) (rowOutcomes late a c mem) (λ d i. let (_, _, q) = in-row late mem a c d i in rw q (eq-eqb (nth mem a) u e))
 
   -- All replicas of its line feed a successor.
   pub feeding-row : (j : Job) (p a c : ℕ) → nth mem a ≡ u → feeding j u p (rowOutcomes late a c mem) ≡ rowOutcomes late a c mem
   feeding-row j p = row-all
 
   pub row-none : (a c : ℕ) → (nth mem a ≡ u → ⊥) → ofTask u (rowOutcomes late a c mem) ≡ []
-  unfolding ofTask keep rowOutcomes
-  row-none a zero e = refl
-  row-none a (suc c) e = rw (ne-eqb (nth mem a) u e, row-none a c e)
+  unfolding ofTask
+  row-none a c n = keep-none (λ d. eqb (d .task) u) (rowOutcomes late a c mem) (λ d i. let (_, _, q) = in-row late mem a c d i in rw q (ne-eqb (nth mem a) u n))
 
-  pub placed-none : (capacity : ℕ) (w k : ℕ) → ((i : ℕ) → i < k → nth mem (rowAt capacity i) ≡ u → ⊥) → ofTask u (placedIn capacity late w k mem) ≡ []
-  unfolding placedIn ofTask keep
-  placed-none capacity w zero h = refl
-  placed-none capacity w (suc k) h =
-      ofTask-append u (rowOutcomes late (rowAt capacity k) w mem) (placedIn capacity late w k mem)
-      ∙ rw (row-none (rowAt capacity k) w (h k (omega arith)), placed-none capacity w k (λ i g. h i (omega arith)))
+  placed-none : (capacity w k : ℕ) → ((i : ℕ) → i < k → nth mem (rowAt capacity i) ≡ u → ⊥) → ofTask u (placedIn capacity late w k mem) ≡ []
+  unfolding ofTask
+  placed-none capacity w k h =
+      keep-none (λ d. eqb (d .task) u) (placedIn capacity late w k mem) (λ d i.
+      let (n, l, j) = in-placed late mem capacity w k d i in
+      let (_, _, q) = in-row late mem (rowAt capacity n) w d j in
+      rw q (ne-eqb (nth mem (rowAt capacity n)) u (h n l)))
 
   -- The line of a task has its outcomes.
-  pub placed-row : (capacity : ℕ) (w k i : ℕ) → i < k → nth mem (rowAt capacity i) ≡ u → ((n : ℕ) → n < k → nth mem (rowAt capacity n) ≡ u → n ≡ i)
+  placed-row : (capacity w k i : ℕ) → i < k → nth mem (rowAt capacity i) ≡ u → ((n : ℕ) → n < k → nth mem (rowAt capacity n) ≡ u → n ≡ i)
       → ofTask u (placedIn capacity late w k mem) ≡ rowOutcomes late (rowAt capacity i) w mem
   unfolding placedIn
   placed-row capacity w zero i h e o = absurd (omega arith)
@@ -55,42 +87,8 @@ module _ (late : Bool) (mem : List ℕ) (u : ℕ) where
       ∙ ⊎-elim
       (λ (q : i ≡ k).
       rw (← q, row-all (rowAt capacity i) w e, placed-none capacity w i (λ n g f. let z = o n (omega arith) f in omega arith)) (append-nil (rowOutcomes late (rowAt capacity i) w mem)))
-      (λ (l : i < k).
-      rw (row-none (rowAt capacity k) w (λ f. let z = o k (omega arith) f in omega arith)) (placed-row capacity w k i l e (λ n g. o n (omega arith))))
+      (λ l. rw (row-none (rowAt capacity k) w (λ f. let z = o k (omega arith) f in omega arith)) (placed-row capacity w k i l e (λ n g. o n (omega arith))))
       (last-or-before k i h)
-
--- The tasks of the first k lines.
-module _ (late : Bool) (mem : List ℕ) (w : ℕ) where
-  row-task : (a c : ℕ) → 0 < c → In (nth mem a) (map (λ d. d .task) (rowOutcomes late a c mem))
-  unfolding rowOutcomes
-  row-task a zero h = absurd (omega arith)
-  row-task a (suc c) h = inl refl
-
-  in-row : (u a c : ℕ) → In u (map (λ d. d .task) (rowOutcomes late a c mem)) → nth mem a ≡ u
-  unfolding rowOutcomes
-  in-row u a (suc c) (inl e) = e
-  in-row u a (suc c) (inr i) = in-row u a c i
-
-  task-in : (capacity : ℕ) → 0 < w → (k i : ℕ) → i < k → In (nth mem (rowAt capacity i)) (map (λ d. d .task) (placedIn capacity late w k mem))
-  unfolding placedIn
-  task-in capacity b zero i h = absurd (omega arith)
-  task-in capacity b (suc k) i h =
-      rw (map-append (λ d. d .task) (rowOutcomes late (rowAt capacity k) w mem) (placedIn capacity late w k mem))
-      (⊎-elim
-      (λ (e : i ≡ k). append-left (nth mem (rowAt capacity i)) (map (λ d. d .task) (rowOutcomes late (rowAt capacity k) w mem)) (map (λ d. d .task) (placedIn capacity late w k mem))
-      (rw e (row-task (rowAt capacity k) w b)))
-      (λ (l : i < k). append-right (nth mem (rowAt capacity i)) (map (λ d. d .task) (rowOutcomes late (rowAt capacity k) w mem))
-      (map (λ d. d .task) (placedIn capacity late w k mem)) (task-in capacity b k i l))
-      (last-or-before k i h))
-
-  in-task : (capacity : ℕ) (u k : ℕ) → In u (map (λ d. d .task) (placedIn capacity late w k mem)) → (i : ℕ) × (i < k) × (nth mem (rowAt capacity i) ≡ u)
-  unfolding placedIn
-  in-task capacity u (suc k) h =
-      ⊎-elim
-      (λ i. (k, omega arith, in-row u (rowAt capacity k) w i))
-      (λ i. let r = in-task capacity u k i in (r .0, omega (arith, r .1), r .2))
-      (in-append u (map (λ d. d .task) (rowOutcomes late (rowAt capacity k) w mem)) (map (λ d. d .task) (placedIn capacity late w k mem))
-      (rw (map-append (λ d. d .task) (rowOutcomes late (rowAt capacity k) w mem) (placedIn capacity late w k mem)) at h))
 
 -- Lines that stand in a memory --------------------------------------------------------------------------------------
 
@@ -98,7 +96,19 @@ module _ (late : Bool) (mem : List ℕ) (w : ℕ) where
 abbrev pub PredecessorsPlacedBy : ℕ → ℕ → ℕ → List ℕ → Type 0
 PredecessorsPlacedBy capacity k t mem = (e : Edge) → In e (incoming (jobIn mem) t) → (0 < nth mem (lineAt capacity + e .from)) × (nth mem (lineAt capacity + e .from) ≤ k)
 
-module _ {capacity n : ℕ} {mem : List ℕ} (s : LinesHeld capacity n mem) where
+-- When the data of an edge is on p, from the line of its first task.
+abbrev pub arrivalOf : ℕ → Bool → ℕ → List ℕ → Edge → Time
+arrivalOf capacity late p mem e = arrivalIn late (e .volume) p (rowOf capacity (e .from) mem) mem
+
+greatest-least : {A : Type 0} (f : A → ℕ) (x : A) (xs : List A) → In x xs → f x ≤ greatest (map f xs)
+unfolding greatest
+greatest-least f x (y ∷ xs) (inl e) = rw e (omega arith)
+greatest-least f x (y ∷ xs) (inr i) = omega (arith, greatest-least f x xs i)
+
+module _ {lim : Limits} {capacity n : ℕ} {mem : List ℕ} (s : LinesHeld lim capacity n mem) where
+  abbrev lineOf : ℕ → ℕ
+  lineOf u = nth mem (lineAt capacity + u)
+
   -- The line of a task that is placed.
   pub line-in : (u i : ℕ) → u < nth mem 0 → nth mem (lineAt capacity + u) ≡ suc i → (i < n) × (nth mem (rowAt capacity i) ≡ u)
   line-in u i h e =
@@ -110,101 +120,87 @@ module _ {capacity n : ℕ} {mem : List ℕ} (s : LinesHeld capacity n mem) wher
       (omega (arith, r .1), rw q at t))
       (s .placed u h)
 
-  pub line-alone : (u i m : ℕ) → nth mem (lineAt capacity + u) ≡ suc i → m < n → nth mem (rowAt capacity m) ≡ u → m ≡ i
-  line-alone u i m e h f = let l = s .line-of m h in let g : nth mem (lineAt capacity + u) ≡ suc m = rw f at l in omega arith
-
-  module _ (late : Bool) (w k : ℕ) (a : k ≤ n) where
-    pub placed-line : (u i : ℕ) → u < nth mem 0 → nth mem (lineAt capacity + u) ≡ suc i → i < k → ofTask u (placedIn capacity late w k mem) ≡ rowOutcomes late (rowAt capacity i) w mem
-    placed-line u i h e l = placed-row late mem u capacity w k i l (line-in u i h e .1) (λ m g f. line-alone u i m e (omega arith) f)
-
-    pub placed-rowOf : (u : ℕ) → u < nth mem 0 → 0 < nth mem (lineAt capacity + u) → nth mem (lineAt capacity + u) ≤ k
-        → ofTask u (placedIn capacity late w k mem) ≡ rowOutcomes late (rowOf capacity u mem) w mem
-    placed-rowOf u h l g = placed-line u (nth mem (lineAt capacity + u) - 1) h (omega arith) (omega arith)
-
-    -- Exactly the tasks of the first k lines are placed.
-    pub placed-task : (u i : ℕ) → u < nth mem 0 → nth mem (lineAt capacity + u) ≡ suc i → i < k → 0 < w → In u (map (λ d. d .task) (placedIn capacity late w k mem))
-    placed-task u i h e l b =
-        let t = line-in u i h e .1 in
-        rw t at (task-in late mem w capacity b k i l)
-
-    pub task-placed : (u : ℕ) → In u (map (λ d. d .task) (placedIn capacity late w k mem)) → (u < nth mem 0) × (0 < nth mem (lineAt capacity + u)) × (nth mem (lineAt capacity + u) ≤ k)
-    task-placed u i =
-        let (m, l, e) = in-task late mem w capacity u k i in
-        let t = s .task-of m (omega arith) in
-        let q = s .line-of m (omega arith) in
-        let b : u < nth mem 0 = rw e at t in
-        let f : nth mem (lineAt capacity + u) ≡ suc m = rw e at q in
-        omega arith
-
-    pub placed-not : (u : ℕ) → nth mem (lineAt capacity + u) ≡ 0 → In u (map (λ d. d .task) (placedIn capacity late w k mem)) → ⊥
-    placed-not u e i = let (_, l, _) = task-placed u i in omega arith
+  line-alone : (u m : ℕ) → m < n → nth mem (rowAt capacity m) ≡ u → nth mem (lineAt capacity + u) ≡ suc m
+  line-alone u m h e = rw e at (s .line-of m h)
 
   line-most : (u : ℕ) → u < nth mem 0 → nth mem (lineAt capacity + u) ≤ n
-  line-most u h =
-      ⊎-elim
-      (λ z. omega arith)
-      (λ (r : (i : ℕ) × (i < n) × (nth mem (lineAt capacity + u) ≡ suc i) × (nth mem (rowAt capacity i) ≡ u)). omega (arith, r .1, r .2))
-      (s .placed u h)
+  line-most u h = ⊎-elim (λ z. omega arith) (λ l. omega (arith, line-in u (lineOf u - 1) h (omega arith) .0)) (zero-or-more (lineOf u))
+
+  pub placed-rowOf : (late : Bool) (w k : ℕ) → k ≤ n → (u : ℕ) → u < nth mem 0 → 0 < nth mem (lineAt capacity + u) → nth mem (lineAt capacity + u) ≤ k
+      → ofTask u (placedIn capacity late w k mem) ≡ rowOutcomes late (rowOf capacity u mem) w mem
+  placed-rowOf late w k a u h l g =
+      let i = lineOf u - 1 in
+      placed-row late mem u capacity w k i (omega arith) (line-in u i h (omega arith) .1) (λ m b f. let z = line-alone u m (omega arith) f in omega arith)
 
   -- A task of the job is placed if it has a line.
   pub has-placed : (late : Bool) (w u : ℕ) → 0 < w → u < nth mem 0 → has u (map (λ d. d .task) (placedIn capacity late w n mem)) ≡ ltb 0 (nth mem (lineAt capacity + u))
   has-placed late w u b h =
+      let task : Outcome → ℕ = λ d. d .task in
+      let ds = placedIn capacity late w n mem in
       ⊎-elim
-      (λ (e : nth mem (lineAt capacity + u) ≡ 0). has-not u (map (λ d. d .task) (placedIn capacity late w n mem)) (placed-not late w n (omega arith) u e) ∙ sym
-      (le-ltb 0 (nth mem (lineAt capacity + u)) (omega arith)))
-      (λ (l : 0 < nth mem (lineAt capacity + u)).
-      in-has u (map (λ d. d .task) (placedIn capacity late w n mem)) (placed-task late w n (omega arith) u (nth mem (lineAt capacity + u) - 1) h (omega arith) (omega (arith, line-most u h)) b)
-      ∙ sym (lt-ltb 0 (nth mem (lineAt capacity + u)) l))
-      (zero-or-more (nth mem (lineAt capacity + u)))
+      (λ (e : lineOf u ≡ 0).
+      has-not u (map task ds) (λ i.
+      let (d, j, q) = in-map task u ds i in
+      let (m, l, k) = in-placed late mem capacity w n d j in
+      let (_, _, z) = in-row late mem (rowAt capacity m) w d k in
+      let y = line-alone u m l (sym (ap task z) ∙ q) in
+      omega arith)
+      ∙ sym (le-ltb 0 (lineOf u) (omega arith)))
+      (λ (l : 0 < lineOf u).
+      let i = lineOf u - 1 in
+      let (m, e) = line-in u i h (omega arith) in
+      let first = rowOutcome late (rowAt capacity i) 0 mem in
+      in-has u (map task ds) (rw e at (map-in task first ds (placed-in late mem capacity w n i first m (row-in late mem (rowAt capacity i) w 0 b)))) ∙ sym (lt-ltb 0 (lineOf u) l))
+      (zero-or-more (lineOf u))
+
+  sender-below : (t : ℕ) (e : Edge) → In e (incoming (jobIn mem) t) → e .from < nth mem 0
+  sender-below t e i = rw (tasks-in mem) at (s .job .facts .from-task e (in-incoming (jobIn mem) t e i .0))
 
   pub predecessors-all : (t : ℕ) → PredecessorsPlaced capacity t mem → PredecessorsPlacedBy capacity n t mem
-  predecessors-all t f e i =
-      let (m, _) = in-incoming (jobIn mem) t e i in
-      let b : e .from < nth mem 0 = rw (tasks-in mem) at (s .job .facts .from-task e m) in
-      (f e i, line-most (e .from) b)
+  predecessors-all t f e i = (f e i, line-most (e .from) (sender-below t e i))
 
   -- Data and levels -----------------------------------------------------------------------------------------------
 
   module _ (k t : ℕ) (a : k ≤ n) (f : PredecessorsPlacedBy capacity k t mem) where
-    below-tasks : (e : Edge) → In e (incoming (jobIn mem) t) → e .from < nth mem 0
-    below-tasks e i = rw (tasks-in mem) at (s .job .facts .from-task e (in-incoming (jobIn mem) t e i .0))
-
     -- The outcomes of a predecessor are those of its line, and all of them feed t.
     pub feeding-line : (late : Bool) (e : Edge) → In e (incoming (jobIn mem) t)
         → ofTask (e .from) (placedIn capacity late (nth mem 3 + 1) k mem) ≡ rowOutcomes late (rowOf capacity (e .from) mem) (nth mem 3 + 1) mem
-    feeding-line late e i = let (l, g) = f e i in placed-rowOf late (nth mem 3 + 1) k a (e .from) (below-tasks e i) l g
+    feeding-line late e i = let (l, g) = f e i in placed-rowOf late (nth mem 3 + 1) k a (e .from) (sender-below t e i) l g
 
-    pub data-placed : (late : Bool) (p : ℕ) → dataIn capacity late t p mem ≡ dataReady (jobIn mem) (choiceOf late) (placedIn capacity late (nth mem 3 + 1) k mem) t p
-    unfolding dataIn dataReady arrivalIn arrival
-    data-placed late p =
+    data-lines : (late : Bool) (p : ℕ)
+        → largest (map (arrivalOf capacity late p mem) (incoming (jobIn mem) t)) ≡ dataReady (jobIn mem) (choiceOf late) (placedIn capacity late (nth mem 3 + 1) k mem) t p
+    unfolding dataReady arrivalIn arrival
+    data-lines late p =
         ap largest
-        (map-same (λ e. arrivalIn late (e .volume) p (rowOf capacity (e .from) mem) mem) (arrival (jobIn mem) (choiceOf late) (placedIn capacity late (nth mem 3 + 1) k mem) p)
-        (incoming (jobIn mem) t) (λ e i. rw (feeding-line late e i, feeding-row late mem _ (jobIn mem) p (rowOf capacity (e .from) mem) (nth mem 3 + 1) refl)))
-
-    pub start-placed : (late : Bool) (p : ℕ) → start (jobIn mem) (choiceOf late) (placedIn capacity late (nth mem 3 + 1) k mem) t p ≡ later
-        (ready (jobIn mem) p (placedIn capacity late (nth mem 3 + 1) k mem)) (dataIn capacity late t p mem)
-    unfolding start
-    start-placed late p = rw (data-placed late p)
-
-    row-far : LargestDelaysFilled capacity mem → (volume b c : ℕ) → ((i : ℕ) → i < c → nth mem (processorAt b i) < nth mem 1)
-        → map (λ d. after (volume * nth mem (largestDelayAt capacity + d .processor)) (d .time)) (rowOutcomes false b c mem)
-        ≡ map (λ d. after (volume * largestDelay (jobIn mem) (d .processor)) (d .time)) (rowOutcomes false b c mem)
-    unfolding rowOutcomes
-    row-far g volume b zero h = refl
-    row-far g volume b (suc c) h = rw (g (nth mem (processorAt b c)) (h c (omega arith)), row-far g volume b c (λ i l. h i (omega arith)))
-
-    pub top-placed : LargestDelaysFilled capacity mem
-        → topIn capacity t mem ≡ largest (map (λ e. least (map (λ d. after (e .volume * largestDelay (jobIn mem) (d .processor)) (d .time))
-        (ofTask (e .from) (placedIn capacity false (nth mem 3 + 1) k mem)))) (incoming (jobIn mem) t))
-    unfolding topIn
-    top-placed g =
-        ap largest
-        (map-same (λ e. least (map (λ d. after (e .volume * nth mem (largestDelayAt capacity + d .processor)) (d .time)) (rowOutcomes false (rowOf capacity (e .from) mem) (nth mem 3 + 1) mem)))
-        (λ e. least (map (λ d. after (e .volume * largestDelay (jobIn mem) (d .processor)) (d .time)) (ofTask (e .from) (placedIn capacity false (nth mem 3 + 1) k mem)))) (incoming (jobIn mem) t)
-        (λ e i.
-        let (l, m) = f e i in
-        rw (feeding-line false e i) (ap least (row-far g (e .volume) (rowOf capacity (e .from) mem) (nth mem 3 + 1) (s .row (nth mem (lineAt capacity + e .from) - 1) (omega arith) .processor-of)))))
+        (map-same (arrivalOf capacity late p mem) (arrival (jobIn mem) (choiceOf late) (placedIn capacity late (nth mem 3 + 1) k mem) p) (incoming (jobIn mem) t)
+        (λ e i. rw (feeding-line late e i, feeding-row late mem _ (jobIn mem) p (rowOf capacity (e .from) mem) (nth mem 3 + 1) refl)))
 
     pub level-placed : LargestDelaysFilled capacity mem → topLevel (jobIn mem) (placedIn capacity false (nth mem 3 + 1) k mem) t ≡ tickOf (topIn capacity t mem) * scale (jobIn mem)
-    unfolding topLevel
-    level-placed g = rw (top-placed g)
+    unfolding topLevel topIn
+    level-placed g =
+        let everywhere : Edge → List Outcome → Time = λ e ds. least (map (λ d. after (e .volume * largestDelay (jobIn mem) (d .processor)) (d .time)) ds) in
+        ap (λ (xs : List Time). tickOf (largest xs) * scale (jobIn mem))
+        (map-same (λ e. everywhere e (ofTask (e .from) (placedIn capacity false (nth mem 3 + 1) k mem))) _ (incoming (jobIn mem) t)
+        (λ e i.
+        let (l, m) = f e i in
+        let b = rowOf capacity (e .from) mem in
+        rw (feeding-line false e i)
+        (ap least (map-same _ _ (rowOutcomes false b (nth mem 3 + 1) mem) (λ d j.
+        let (c, h, q) = in-row false mem b (nth mem 3 + 1) d j in
+        rw (q, g _ (s .row (lineOf (e .from) - 1) (omega arith) .processor-of c h)))))))
+
+  -- The data by the walk over the edges.
+  pub data-walked : (t : ℕ) → PredecessorsPlaced capacity t mem → (late : Bool) (p : ℕ) → largest (map (arrivalOf capacity late p mem) (incoming (jobIn mem) t)) ≡ dataIn capacity late t p mem
+  unfolding dataIn
+  data-walked t f =
+      data-lines (lineCount capacity mem) t (greatest-most lineOf (below (nth mem 0)) (λ u i. line-most u (in-below (nth mem 0) u i)))
+      (λ e i. (f e i, greatest-least lineOf (e .from) (below (nth mem 0)) (below-in (nth mem 0) (e .from) (sender-below t e i))))
+
+  module _ (k t : ℕ) (a : k ≤ n) (f : PredecessorsPlacedBy capacity k t mem) (late : Bool) (p : ℕ) where
+    pub data-placed : dataIn capacity late t p mem ≡ dataReady (jobIn mem) (choiceOf late) (placedIn capacity late (nth mem 3 + 1) k mem) t p
+    data-placed = sym (data-walked t (λ e i. f e i .0) late p) ∙ data-lines k t a f late p
+
+    pub start-placed : start (jobIn mem) (choiceOf late) (placedIn capacity late (nth mem 3 + 1) k mem) t p ≡ later
+        (ready (jobIn mem) p (placedIn capacity late (nth mem 3 + 1) k mem)) (dataIn capacity late t p mem)
+    unfolding start
+    start-placed = rw data-placed

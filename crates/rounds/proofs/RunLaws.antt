@@ -1,23 +1,26 @@
 -- The replay of a plan in memory, replica by replica and line by line.
-use Rattle.lists.proofs.Prelude.{_≡_, refl, ap, _∙_, sym, inl, inr, ⊎-elim, List, [], _∷_, _++_, map, map-append, Bool, true, false, ℕ, zero, suc, _+_, _*_, _<_, _≤_, arith, add-one, eq-eqb, ne-eqb, lt-leb, le-leb, eqb, length, set, length-set, getD-set-same, getD-set-other, if_then_else_, nth, below, In, document01, Job, runTime, incoming, Stop, tick, never, later, after, least, largest, Placement, Outcome, outcome, ofTask, ready, arrival, dataReady, start, stopTime, finish, walk, placementsOf, placementOf, tickOf, trial, PlacedWithin}
+use Rattle.lists.proofs.Prelude.{_≡_, refl, ap, _∙_, sym, inl, inr, ⊎-elim, List, [], _∷_, _++_, map, map-append, false, ℕ, zero, suc, _+_, _*_, _<_, _≤_, mul-le-mul, arith, add-one, eq-eqb, ne-eqb, lt-leb, le-leb, eqb, set, length-set, getD-set-same, getD-set-other, if_then_else_, nth, below, In, Limits, Job, runTime, incoming, Stop, tick, later, after, least, largest, Placement, Outcome, outcome, ofTask, ready, arrival, dataReady, start, stopTime, finish, walk, placementsOf, placementOf, tickOf, trial, PlacedWithin}
 use Rattle.definitions.specs.Times.{unlessStopped}
 use Rattle.definitions.specs.Claims.{Within}
 use Rattle.definitions.proofs.Lists.{map-same, map-in, in-keep, below-in}
 use Rattle.definitions.proofs.Tasks.{in-incoming}
 use Rattle.definitions.proofs.Bounds.{weaker, trial-most}
-use Rattle.heads.specs.Layout.{lineAt, rowAt, processorAt, earlyAt, lateAt}
-use Rattle.jobs.specs.Held.{jobIn, JobHeld}
+use Rattle.heads.specs.Layout.{lineAt, replicasMost, rowAt, processorAt, earlyAt, lateAt, lanesMost}
+use Rattle.orders.proofs.RunLaws.{set-cell}
+use Rattle.jobs.specs.Held.{jobIn, JobHeld, SomeJobHeld}
+use Rattle.jobs.specs.Tables.{lineTicks, lastShort}
 use Rattle.ticks.specs.Cells.{neverCell, timeIn, Small}
+use Rattle.ticks.specs.Lanes.{shortNever}
 use Rattle.plans.specs.Lines.{rowOutcomes, placedIn, rowReplicas, rowOf, LinesHeld}
-use Rattle.rounds.specs.Schedule.{dataIn, lineTicks}
+use Rattle.rounds.specs.Schedule.{dataIn}
 use Rattle.lists.specs.Kept.{KeptOutside}
-use Rattle.rounds.specs.Arrivals.{lastShort, FirstSupplied}
+use Rattle.rounds.specs.Arrivals.{FirstSupplied}
 use Rattle.rounds.specs.Replaying.{StopsIn, ranIn, Running, PredecessorsBefore, Retimed, placementsIn, walked, LineRun}
 use Rattle.lists.proofs.Counting.{equal-or-not, last-or-before}
 use Rattle.lists.proofs.Kept.{Same, same-before, kept-all, kept-then, kept-wider, kept-set}
 use Rattle.jobs.proofs.Held.{sizes, tasks-in, processors-in, job-kept, held-kept}
 use Rattle.plans.proofs.Lines.{outcomes-same, placed-same, early-apart}
-use Rattle.rounds.proofs.TimeLaws.{time-tick, small-wider}
+use Rattle.rounds.proofs.TimeLaws.{time-tick, small-wider, round-most}
 use Rattle.rounds.proofs.Placed.{ofTask-append, row-none, feeding-line, data-placed}
 
 -- What changes and what does not ------------------------------------------------------------------------------------
@@ -25,7 +28,7 @@ use Rattle.rounds.proofs.Placed.{ofTask-append, row-none, feeding-line,
 pub retimed-none : {capacity k n : ℕ} {d : List ℕ} → Retimed capacity k n d d
 retimed-none = record { outside = kept-all; task = λ i. refl; processor = λ i c h. refl; late = λ i c h. refl }
 
-pub retimed-set : {capacity k n : ℕ} {d e : List ℕ} (i c y : ℕ) → Retimed capacity k n d e → k ≤ i → i < n → c < 8 → Retimed capacity k n d (set e (earlyAt (rowAt capacity i) c) y)
+pub retimed-set : {capacity k n : ℕ} {d e : List ℕ} (i c y : ℕ) → Retimed capacity k n d e → k ≤ i → i < n → c < replicasMost → Retimed capacity k n d (set e (earlyAt (rowAt capacity i) c) y)
 retimed-set {capacity} {k} {n} {d} {e} i c y r a b h =
     let other : (j : ℕ) → (j ≡ earlyAt (rowAt capacity i) c → ⊥) → nth (set e (earlyAt (rowAt capacity i) c) y) j ≡ nth e j = λ j. getD-set-other e (earlyAt (rowAt capacity i) c) j y 0 in
     record {
@@ -48,7 +51,7 @@ module _ {capacity k n : ℕ} {d e : List ℕ} (z : Retimed capacity k n d e) wh
   pub cell-retimed : (i : ℕ) → i < rowAt capacity 0 → nth e i ≡ nth d i
   cell-retimed i h = z .outside .before i (omega arith)
 
-  module _ (s : JobHeld capacity d) where
+  module _ {lim : Limits} (s : JobHeld lim capacity d) where
     pub job-retimed : jobIn e ≡ jobIn d
     job-retimed = job-kept s (z .outside) (omega arith)
 
@@ -60,7 +63,8 @@ module _ {capacity k n : ℕ} {d e : List ℕ} (z : Retimed capacity k n d e) wh
         rw (cell-retimed (lineAt capacity + x .from) (omega arith)) (f x g)
 
   -- Lines whose early times are those of ticks still stand.
-  pub standing-retimed : LinesHeld capacity (nth d 0) d → ((i c : ℕ) → i < nth d 0 → c < nth d 3 + 1 → Small (document01 .tick) (nth e (earlyAt (rowAt capacity i) c))) → LinesHeld capacity (nth e 0) e
+  pub standing-retimed : {lim : Limits} → LinesHeld lim capacity (nth d 0) d
+      → ((i c : ℕ) → i < nth d 0 → c < nth d 3 + 1 → Small (lim .tick) (nth e (earlyAt (rowAt capacity i) c))) → LinesHeld lim capacity (nth e 0) e
   standing-retimed s early =
       let w = sizes (s .job) in
       let j : Same 0 (rowAt capacity 0) d e = same-before 0 (rowAt capacity 0) (z .outside) (omega arith) in
@@ -85,25 +89,10 @@ module _ {capacity k n : ℕ} {d e : List ℕ} (z : Retimed capacity k n d e) wh
             };
       }
 
--- A cell after a store is the one that was stored, or as it was.
-set-cell : (P : ℕ → Type 0) (l : List ℕ) (i j y : ℕ) → i < length l → (i ≡ j → P y) → ((i ≡ j → ⊥) → P (nth l j)) → P (nth (set l i y) j)
-set-cell P l i j y h f g =
-    ⊎-elim
-    (λ (e : i ≡ j). rw (← e, getD-set-same l i y 0 h) (f e))
-    (λ e. rw (getD-set-other l i j y 0 (λ q. e (sym q))) (g e))
-    (equal-or-not i j)
-
 -- One replica ---------------------------------------------------------------------------------------------------------
 
 pub small-within : (b x : ℕ) → Small b x → Within b (timeIn x)
-small-within b x =
-    ⊎-elim
-    (λ (e : x ≡ neverCell). rw e tt)
-    (λ h. by (eqb x neverCell) h)
-  where
-    by : (t : Bool) → x ≤ b → Within b (if t then never else tick x)
-    by true h = tt
-    by false h = h
+small-within b x s = ⊎-elim (λ (e : x ≡ neverCell). rw e tt) (λ n. ⊎-elim (λ e. absurd (n e)) (λ h. rw (time-tick x n) h) s) (equal-or-not x neverCell)
 
 within-small : (b x : ℕ) → Within b (timeIn x) → Small b x
 within-small b x h = ⊎-elim inl (λ n. inr (rw (time-tick x n) at h)) (equal-or-not x neverCell)
@@ -118,7 +107,7 @@ row-small j b a (suc c) i mem h g =
     (λ l. row-small j b a c i mem l (λ d m. g d (inr m)))
     (last-or-before c i h)
 
-module _ {capacity : ℕ} (k c : ℕ) {cells mem : List ℕ} (r : Running capacity k c cells mem) (a : k < nth mem 0) (b : c < nth mem 3 + 1) (f : PredecessorsBefore capacity k mem) where
+module _ {lim : Limits} {capacity : ℕ} (k c : ℕ) {cells mem : List ℕ} (r : Running lim capacity k c cells mem) (a : k < nth mem 0) (b : c < nth mem 3 + 1) (f : PredecessorsBefore capacity k mem) where
   abbrev runner : ℕ
   runner = nth mem (rowAt capacity k)
 
@@ -149,7 +138,7 @@ module _ {capacity : ℕ} (k c : ℕ) {cells mem : List ℕ} (r : Running capaci
     unfolding finish start
     finish-ran ss = rw (e, data-ran, r .ready-of box box-below)
 
-    pub finish-small : Small ((k * 8 + c) * lineTicks + lineTicks) x
+    pub finish-small : Small ((k * replicasMost + c) * lineTicks lim + lineTicks lim) x
     unfolding trial stopTime
     finish-small =
         let j = jobIn mem in
@@ -158,7 +147,8 @@ module _ {capacity : ℕ} (k c : ℕ) {cells mem : List ℕ} (r : Running capaci
         let among : In here (trial j (ranIn capacity k c mem) runner) =
         map-in (λ y. tickOf (finish j least [] (ranIn capacity k c mem) y)) (placementOf j runner box) (placementsOf j runner (below (j .processors)))
         (map-in (placementOf j runner) box (below (j .processors)) (below-in (j .processors) box (rw (processors-in mem) box-below))) in
-        let most : here ≤ (k * 8 + c) * lineTicks + lineTicks = trial-most document01 j s ((k * 8 + c) * lineTicks) (ranIn capacity k c mem) runner (rw (tasks-in mem) (r .standing .task-of k a))
+        let most : here ≤ (k * replicasMost + c) * lineTicks lim + lineTicks lim =
+        trial-most lim j s ((k * replicasMost + c) * lineTicks lim) (ranIn capacity k c mem) runner (rw (tasks-in mem) (r .standing .task-of k a))
         (r .within) here among in
         ⊎-elim inl (λ n. let q : here ≡ x = ap tickOf (finish-ran [] ∙ time-tick x n) in inr (omega arith)) (equal-or-not x neverCell)
 
@@ -176,8 +166,10 @@ module _ {capacity : ℕ} (k c : ℕ) {cells mem : List ℕ} (r : Running capaci
       retimed : Retimed capacity k (suc k) mem mem′
       retimed = let w = sizes (r .standing .job) in retimed-set k c y retimed-none (omega arith) (omega arith) (omega arith)
 
-      small-here : Small ((k * 8 + (c + 1)) * lineTicks) y
-      small-here = small-wider ((k * 8 + c) * lineTicks + lineTicks) ((k * 8 + (c + 1)) * lineTicks) y (omega arith) (n ((k * 8 + c) * lineTicks + lineTicks) finish-small)
+      small-here : Small ((k * replicasMost + (c + 1)) * lineTicks lim) y
+      small-here =
+          small-wider ((k * replicasMost + c) * lineTicks lim + lineTicks lim) ((k * replicasMost + (c + 1)) * lineTicks lim) y (omega arith)
+          (n ((k * replicasMost + c) * lineTicks lim + lineTicks lim) finish-small)
 
       pub ran-next : ranIn capacity k (c + 1) mem′ ≡ here ∷ ranIn capacity k c mem
       unfolding ranIn rowOutcomes
@@ -195,31 +187,32 @@ module _ {capacity : ℕ} (k c : ℕ) {cells mem : List ℕ} (r : Running capaci
             placed-same mem mem′ capacity false (nth mem 3 + 1) k (omega arith) (same-before (rowAt capacity 0) (rowAt capacity k) one (omega arith)),
           )
 
-      running-next : Running capacity k (c + 1) cells′ mem′
+      running-next : Running lim capacity k (c + 1) cells′ mem′
       unfolding ready
       running-next =
           let w = sizes (r .standing .job) in
           let j : jobIn mem′ ≡ jobIn mem = job-retimed retimed (r .standing .job) in
           let m : nth mem′ 1 ≡ nth mem 1 = cell-retimed retimed 1 (omega arith) in
-          let most : (k * 8 + c) * lineTicks ≤ (k * 8 + (c + 1)) * lineTicks = omega arith in
+          let most : (k * replicasMost + c) * lineTicks lim ≤ (k * replicasMost + (c + 1)) * lineTicks lim = omega arith in
+          let range = round-most (w .tabled) (k * replicasMost + (c + 1)) (omega (arith, a, b, w .tasks-most, w .row-fits)) .1 in
           record {
             standing = standing-retimed retimed (r .standing) λ i q h g.
-                set-cell (Small (document01 .tick)) mem (earlyAt (rowAt capacity k) c) (earlyAt (rowAt capacity i) q) y (omega arith)
-                (λ e. small-wider ((k * 8 + (c + 1)) * lineTicks) (document01 .tick) y (omega arith) small-here)
+                set-cell (Small (lim .tick)) mem (earlyAt (rowAt capacity k) c) (earlyAt (rowAt capacity i) q) y (omega arith)
+                (λ e. small-wider ((k * replicasMost + (c + 1)) * lineTicks lim) (lim .tick) y range small-here)
                 (λ e. r .standing .row i h .early-of q g);
             size = length-set cells box y ∙ r .size;
             ready-of = λ p h.
                 rw (j, ran-next)
                 (set-cell (λ z. timeIn z ≡ ready (jobIn mem) p (here ∷ ranIn capacity k c mem)) cells box p y (omega (arith, box-below, r .size))
-                (λ e. rw (eq-eqb box p e))
-                (λ e. rw (ne-eqb box p e) (r .ready-of p (rw m at h))));
+                (λ e. rw (eq-eqb box p (sym e)))
+                (λ e. rw (ne-eqb box p (λ q. e (sym q))) (r .ready-of p (rw m at h))));
             ready-small = λ p h.
-                set-cell (Small ((k * 8 + (c + 1)) * lineTicks)) cells box p y (omega (arith, box-below, r .size))
+                set-cell (Small ((k * replicasMost + (c + 1)) * lineTicks lim)) cells box p y (omega (arith, box-below, r .size))
                 (λ e. small-here)
-                (λ e. small-wider ((k * 8 + c) * lineTicks) ((k * 8 + (c + 1)) * lineTicks) (nth cells p) most (r .ready-small p (rw m at h)));
+                (λ e. small-wider ((k * replicasMost + c) * lineTicks lim) ((k * replicasMost + (c + 1)) * lineTicks lim) (nth cells p) most (r .ready-small p (rw m at h)));
             within = rw (j, ran-next) (λ d i.
                 ⊎-elim
-                (λ q. rw (← q, processors-in mem) (box-below, small-within ((k * 8 + (c + 1)) * lineTicks) y small-here))
+                (λ q. rw (← q, processors-in mem) (box-below, small-within ((k * replicasMost + (c + 1)) * lineTicks lim) y small-here))
                 (λ q. let (g, t) = r .within d q in (g, weaker (d .time) most t))
                 i);
           }
@@ -247,38 +240,40 @@ placements-next capacity k c mem =
     (map-append (placementOf (jobIn mem) t) (map (λ r. r .processor) (rowReplicas (rowAt capacity k) c mem)) (_ ∷ []))
 
 -- The first data of line k comes from lines that have run.
-pub line-predecessors-short : {capacity : ℕ} (k : ℕ) {cells d : List ℕ} → Running capacity k 0 cells d → k < nth d 0
+pub line-predecessors-short : {lim : Limits} {capacity : ℕ} (k : ℕ) {cells d : List ℕ} → Running lim capacity k 0 cells d → k < nth d 0
     → PredecessorsBefore capacity k d → FirstSupplied capacity (nth d (rowAt capacity k)) d
 unfolding ranIn rowOutcomes ofTask
-line-predecessors-short {capacity} k {cells} {d} r a f e i =
+line-predecessors-short {lim} {capacity} k {cells} {d} r a f e i =
     let w = sizes (r .standing .job) in
-    let most : ℕ = (k * 8 + 0) * lineTicks in
+    let most : ℕ = (k * replicasMost + 0) * lineTicks lim in
     let row = rowOf capacity (e .from) d in
     let own : ofTask (e .from) (placedIn capacity false (nth d 3 + 1) k d) ≡ rowOutcomes false row (nth d 3 + 1) d =
     feeding-line (r .standing) k (nth d (rowAt capacity k)) (omega arith) f false e i in
     let among : PlacedWithin (jobIn d) most (rowOutcomes false row (nth d 3 + 1) d) =
     rw (← own) (λ x m. r .within x (in-keep (λ x. eqb (x .task) (e .from)) x (placedIn capacity false (nth d 3 + 1) k d) m .0)) in
-    (f e i .0, λ c h. small-wider most lastShort (nth d (earlyAt row c)) (omega arith) (row-small (jobIn d) most row (nth d 3 + 1) c d h among))
+    let short = round-most (w .tabled) (k * replicasMost + 0) (omega (arith, a, w .tasks-most)) .0 in
+    (f e i .0, λ c h. small-wider most lastShort (nth d (earlyAt row c)) short (row-small (jobIn d) most row (nth d 3 + 1) c d h among))
 
 -- c replicas of line k have run, from a memory d.
-pub record LineRuns (capacity k c : ℕ) (stops cells d e : List ℕ) : Type 0 where
-  pub running : Running capacity k c cells e
+pub record LineRuns (lim : Limits) (capacity k c : ℕ) (stops cells d e : List ℕ) : Type 0 where
+  pub running : Running lim capacity k c cells e
   pub retimed : Retimed capacity k (suc k) d e
   pub outcomes : (ss : List Stop) → StopsIn ss stops → ranIn capacity k c e ≡ walked (jobIn d) ss (placedIn capacity false (nth d 3 + 1) k d) (placementsIn capacity k c d)
 
-pub line-first : {capacity : ℕ} (k : ℕ) (stops : List ℕ) {cells d : List ℕ} → Running capacity k 0 cells d → LineRuns capacity k 0 stops cells d d
+pub line-first : {lim : Limits} {capacity : ℕ} (k : ℕ) (stops : List ℕ) {cells d : List ℕ} → Running lim capacity k 0 cells d → LineRuns lim capacity k 0 stops cells d d
 unfolding ranIn rowOutcomes placementsIn rowReplicas walked walk
 line-first k stops r = record { running = r; retimed = retimed-none; outcomes = λ ss h. refl }
 
--- The next replica, on p: its processor, and when that is ready.
-pub record LineStep (p : ℕ) (cells d : List ℕ) : Type 0 where
+-- The next replica, of task t on p: its processor, what its run time is asked by, and when the processor is ready.
+pub record LineStep (lim : Limits) (t p : ℕ) (cells d e : List ℕ) : Type 0 where
   pub processor : p < nth d 1
-  pub below : p < 16
-  pub ready-small : Small 4294967295 (nth cells p)
+  pub asked : SomeJobHeld lim e × (t < nth e 0) × (p < nth e 1)
+  pub below : p < lanesMost
+  pub ready-small : Small shortNever (nth cells p)
 
-module _ {capacity : ℕ} (k c : ℕ) {stops cells d e : List ℕ} (l : LineRuns capacity k c stops cells d e)
-    (s : LinesHeld capacity (nth d 0) d) (a : k < nth d 0) (f : PredecessorsBefore capacity k d) where
-  abbrev ran : Running capacity k c cells e
+module _ {lim : Limits} {capacity : ℕ} (k c : ℕ) {stops cells d e : List ℕ} (l : LineRuns lim capacity k c stops cells d e) (s : LinesHeld lim capacity (nth d 0) d)
+    (a : k < nth d 0) (f : PredecessorsBefore capacity k d) where
+  abbrev ran : Running lim capacity k c cells e
   ran = l .running
 
   line-below : k < nth e 0
@@ -310,29 +305,31 @@ module _ {capacity : ℕ} (k c : ℕ) {stops cells d e : List ℕ} (l : LineRuns
     its-below : its < nth e 1
     its-below = box-below k c ran line-below replica-below line-predecessors
 
-    pub line-step : LineStep its cells d
+    pub line-step : LineStep lim (nth d (rowAt capacity k)) its cells d e
     line-step =
         let w = sizes (s .job) in
         let h : its < nth d 1 = rw (cell-retimed (l .retimed) 1 (omega arith)) at its-below in
+        let short = round-most (w .tabled) (k * replicasMost + c) (omega (arith, a, b, w .tasks-most, w .row-fits)) .0 in
         record {
           processor = h;
+          asked = ((_, ran .standing .job), rw (cell-retimed (l .retimed) 0 (omega arith)) (s .task-of k a), its-below);
           below = omega arith;
-          ready-small = small-wider ((k * 8 + c) * lineTicks) 4294967295 (nth cells its) (omega arith) (ran .ready-small its its-below);
+          ready-small = small-wider ((k * replicasMost + c) * lineTicks lim) shortNever (nth cells its) (omega (arith, short)) (ran .ready-small its its-below);
         }
 
     pub line-next : (supplied run x y : ℕ)
         → timeIn supplied ≡ dataIn capacity false (nth d (rowAt capacity k)) its d
-        → run ≡ runTime (jobIn d) (nth d (rowAt capacity k)) its
+        → run ≡ runTime (jobIn e) (nth d (rowAt capacity k)) its
         → timeIn x ≡ after run (later (timeIn (nth cells its)) (timeIn supplied))
         → timeIn y ≡ unlessStopped (timeIn (nth stops its)) (timeIn x)
         → ((b : ℕ) → Small b x → Small b y)
-        → LineRuns capacity k (c + 1) stops (set cells its y) d (set e (earlyAt (rowAt capacity k) c) y)
+        → LineRuns lim capacity k (c + 1) stops (set cells its y) d (set e (earlyAt (rowAt capacity k) c) y)
     line-next supplied run x y o z p₀ q n =
         let w = sizes (s .job) in
         let g = line-below in
         let u = replica-below in
         let v = line-predecessors in
-        let own : runTime (jobIn e) (nth e (rowAt capacity k)) its ≡ run = rw (job-retimed (l .retimed) (s .job), l .retimed .task k) (sym z) in
+        let own : runTime (jobIn e) (nth e (rowAt capacity k)) its ≡ run = rw (l .retimed .task k) (sym z) in
         let p : timeIn x ≡ after (runTime (jobIn e) (nth e (rowAt capacity k)) its) (later (timeIn (nth cells its)) (dataIn capacity false (nth e (rowAt capacity k)) its e)) = rw
         (line-data its, ← o, own) p₀ in
         record {
@@ -355,18 +352,18 @@ module _ {capacity : ℕ} (k c : ℕ) {stops cells d e : List ℕ} (l : LineRuns
               );
         }
 
-  pub line-done : c ≡ nth d 3 + 1 → Running capacity (suc k) 0 cells e × LineRun capacity k stops d e
+  pub line-done : c ≡ nth d 3 + 1 → Running lim capacity (suc k) 0 cells e × LineRun capacity k stops d e
   unfolding ranIn placedIn rowOutcomes
   line-done q =
       let w = sizes (s .job) in
       let three : nth e 3 ≡ nth d 3 = cell-retimed (l .retimed) 3 (omega arith) in
       let same : ranIn capacity k c e ≡ ranIn capacity (suc k) 0 e = rw (q, three) in
-      let most : (k * 8 + c) * lineTicks ≤ (suc k * 8 + 0) * lineTicks = omega arith in (
+      let most = mul-le-mul {n₁ = k * replicasMost + c} {m₁ = lineTicks lim} {n₂ = suc k * replicasMost + 0} {m₂ = lineTicks lim} (omega (arith, q, w .row-fits)) (omega arith) in (
         record {
           standing = ran .standing;
           size = ran .size;
           ready-of = λ p g. rw (← same) (ran .ready-of p g);
-          ready-small = λ p g. small-wider ((k * 8 + c) * lineTicks) ((suc k * 8 + 0) * lineTicks) (nth cells p) most (ran .ready-small p g);
+          ready-small = λ p g. small-wider ((k * replicasMost + c) * lineTicks lim) ((suc k * replicasMost + 0) * lineTicks lim) (nth cells p) most (ran .ready-small p g);
           within = rw (← same) (λ x i. let (g, t) = ran .within x i in (g, weaker (x .time) most t));
         },
         record { retimed = l .retimed; outcomes = λ ss h. sym same ∙ l .outcomes ss h ∙ rw q },

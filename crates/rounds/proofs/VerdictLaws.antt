@@ -1,17 +1,27 @@
--- The checker on two texts: its answer, by what was read of both.
-use Rattle.lists.proofs.Prelude.{refl, List, ℕ, document01, Result, good, Job, Plan, verdictFor}
+-- The checker's answer, by its tests of a plan.
+use Rattle.lists.proofs.Prelude.{_≡_, refl, [], true, false, ℕ, In, Limits, firstOf, good, Job, Plan, doubledTasks, ticksAgree, boundsAgree, verdictFor}
+use Rattle.definitions.specs.Refusals.{planRefusal}
+use Rattle.definitions.proofs.Lists.{in-some}
 use Rattle.text.specs.declared.Step.the-variants as Step
-use Rattle.jobs.specs.Held.{jobIn}
-use Rattle.plans.specs.Loading.{planIn, BothLoaded}
-use Rattle.rounds.specs.Tools.{verdictBoth}
 use Rattle.rounds.specs.Verdicts.{Judged}
-use Rattle.rounds.specs.declared.Checked.{Checked}
-use Rattle.rounds.specs.declared.Checked.the-variants.{Refused}
-use Rattle.plans.proofs.JobAndPlan.{both-no, both-next}
+use Rattle.rounds.specs.declared.Checked.the-variants.{Accepted, Doubled, Refused}
 
-module _ (capacity : ℕ) (x : Result (Job × Plan)) (mem links : List ℕ) (n : ℕ) where
-  pub texts-refused : BothLoaded capacity x mem links (Step.Refused n) → Judged (verdictBoth x) (Refused n)
-  texts-refused h = rw (both-no capacity mem links n x h) refl
+-- What the tests found.
+module _ (lim : Limits) (j : Job) (p : Plan) where
+  pub answer-doubled : (t : ℕ) → In t (doubledTasks (p .lines)) → Judged (verdictFor lim j (good p)) (Doubled t)
+  unfolding planRefusal firstOf
+  answer-doubled t i = rw (in-some t (doubledTasks (p .lines)) i) (t, refl, i)
 
-  pub plan-judged : BothLoaded capacity x mem links (Step.Next n) → (r : Checked) → Judged (verdictFor document01 (jobIn mem) (good (planIn capacity mem))) r → Judged (verdictBoth x) r
-  plan-judged h r a = rw (both-next capacity mem links n x h .0) a
+  module _ (one : doubledTasks (p .lines) ≡ []) where
+    pub answer-ticks : ticksAgree j (p .lines) ≡ false → Judged (verdictFor lim j (good p)) (Refused 13)
+    unfolding planRefusal firstOf
+    answer-ticks e = rw (one, e)
+
+    module _ (e : ticksAgree j (p .lines) ≡ true) where
+      pub answer-bounds : boundsAgree j p ≡ false → Judged (verdictFor lim j (good p)) (Refused 14)
+      unfolding planRefusal firstOf
+      answer-bounds f = rw (one, e, f)
+
+      pub answer-accepted : boundsAgree j p ≡ true → Judged (verdictFor lim j (good p)) Accepted
+      unfolding planRefusal firstOf
+      answer-accepted f = rw (one, e, f)

@@ -5,9 +5,10 @@ use mathlib.Core.Bool.{Bool, true, false}
 use Prim.Native.Nat.{ℕ, _+_, _-_, _<_, _≤_}
 use lib.ListN.{length}
 use Rattle.definitions.specs.Lists.{nth}
+use Rattle.definitions.specs.Limits.{Limits}
 use Rattle.definitions.specs.Job.{Job}
 use Rattle.definitions.specs.Times.{Time, tick, Outcome, ready, finish, placementOf}
-use Rattle.heads.specs.Layout.{earlyAt, lateAt}
+use Rattle.heads.specs.Layout.{earlyAt, lateAt, lanesMost}
 use Rattle.jobs.specs.Held.{jobIn, SomeJobHeld}
 use Rattle.rounds.specs.Schedule.{choiceOf}
 use Rattle.plans.specs.Lines.{rowEnd, rowOutcomes, placedIn, RowHeld}
@@ -26,17 +27,17 @@ finishOn capacity late k mem t p = finish (jobIn mem) (choiceOf late) [] (placed
 
 -- The clocks have the ready ticks of all processors after what is placed, with its early and its late times.
 pub record ClocksHeld (clocks : Clocks) (j : Job) (es ls : List Outcome) : Type 0 where
-  pub early-size : length (clocks .early) ≡ 16
-  pub late-size : length (clocks .late) ≡ 16
+  pub early-size : length (clocks .early) ≡ lanesMost
+  pub late-size : length (clocks .late) ≡ lanesMost
   pub early-ready : (p : ℕ) → p < j .processors → tick (nth (clocks .early) p) ≡ ready j p es
   pub late-ready : (p : ℕ) → p < j .processors → tick (nth (clocks .late) p) ≡ ready j p ls
 
 -- The line at a has ticks that clocks can show.
-pub record LineTimed (a : ℕ) (mem : List ℕ) : Type 0 where
-  pub job : SomeJobHeld mem
-  pub row : RowHeld a mem
+pub record LineTimed (l : Limits) (a : ℕ) (mem : List ℕ) : Type 0 where
+  pub job : SomeJobHeld l mem
+  pub row : RowHeld l a mem
   pub within : rowEnd a ≤ length mem
-  pub ticks : (c : ℕ) → c < nth mem 3 + 1 → (nth mem (earlyAt a c) ≤ 4294967295) × (nth mem (lateAt a c) ≤ 4294967295)
+  pub ticks : (c : ℕ) → c < nth mem 3 + 1 → (nth mem (earlyAt a c) ≤ l .tick) × (nth mem (lateAt a c) ≤ l .tick)
 
 -- The clocks next are the clocks after the first c replicas of the line at a besides.
 abbrev pub Advanced : ℕ → ℕ → List ℕ → Clocks → Clocks → Type 0

@@ -7,15 +7,16 @@ use Prim.Native.Nat.{ℕ, suc, _+_, _*_, _-_, _<_, _≤_}
 use lib.Dec.{eqb}
 use lib.ListN.{length}
 use Rattle.definitions.specs.Lists.{nth, below, keep}
-use Rattle.definitions.specs.Limits.{document01}
+use Rattle.definitions.specs.Limits.{Limits}
 use Rattle.definitions.specs.Job.{Edge, Job, incoming}
 use Rattle.definitions.specs.Plan.{Replica}
-use Rattle.definitions.specs.Times.{Time, tick, after, least, finish}
-use Rattle.definitions.specs.Planner.{tickOf, greatestOf, Waiting, waitingFrom, scale, topLevel, trial, chosen, place, planFor}
-use Rattle.heads.specs.Layout.{levelAt, lineAt, blockedAt, priorityAt, rowAt, largestDelayAt, processorAt, earlyAt, lateAt, replicaEnd}
+use Rattle.definitions.specs.Times.{Time, tick, after, least}
+use Rattle.definitions.specs.Planner.{tickOf, greatestOf, Waiting, waitingFrom, scale, trial, chosen, place, planFor}
+use Rattle.heads.specs.Layout.{levelAt, lineAt, blockedAt, priorityAt, rowAt, largestDelayAt, processorAt, earlyAt, lateAt, replicaEnd, lanesMost}
 use Rattle.jobs.specs.Held.{jobIn}
+use Rattle.jobs.specs.Tables.{messageMost}
 use Rattle.rounds.specs.Clocks.{earliesIn, latesIn, finishOn}
-use Rattle.rounds.specs.Schedule.{topIn, LargestDelaysFilled, LevelsFilled, ShortTo}
+use Rattle.rounds.specs.Schedule.{topIn, PredecessorsPlaced, LargestDelaysFilled, LevelsFilled, ShortTo}
 use Rattle.plans.specs.Lines.{rowEnd, rowOutcomes, rowReplicas, linesIn, RowHeld, LinesHeld}
 use Rattle.lists.specs.Kept.{KeptOutside}
 
@@ -39,9 +40,13 @@ abbrev pub Sooner : ℕ → List ℕ → ℕ → ℕ → Type 0
 Sooner capacity mem t u =
     (nth mem (priorityAt capacity + u) < nth mem (priorityAt capacity + t)) ⊎ ((nth mem (priorityAt capacity + t) ≡ nth mem (priorityAt capacity + u)) × (t < u))
 
+-- The cells of a list of free tasks.
+abbrev pub freeCells : ℕ
+freeCells = 256
+
 -- The first n cells list the free ones of the first v tasks, each once, so that of two the later is chosen first.
 pub record FreeBelow (capacity v : ℕ) (cells : List ℕ) (n : ℕ) (mem : List ℕ) : Type 0 where
-  pub size : length cells ≡ 256
+  pub size : length cells ≡ freeCells
   pub task-of : (k : ℕ) → k < n → nth cells k < v
   pub free-of : (k : ℕ) → k < n → isFree capacity mem (nth cells k) ≡ true
   pub every : (t : ℕ) → t < v → isFree capacity mem t ≡ true → (k : ℕ) × (k < n) × (nth cells k ≡ t)
@@ -62,25 +67,30 @@ pub record PutIn (capacity : ℕ) (mem : List ℕ) (u n i : ℕ) (d e : List ℕ
   pub sooner : (j : ℕ) → i ≤ j → j < n → Sooner capacity mem (nth d j) u
   pub later : (j : ℕ) → suc j ≡ i → Sooner capacity mem (nth d j) u → ⊥
 
--- Task t got a line, and no other; what blocks the tasks is the same, and so are their priorities.
+-- Task t got a line; of the tables before the lines nothing else changed.
 pub record Taken (capacity t : ℕ) (d e : List ℕ) : Type 0 where
   pub line-new : 0 < nth e (lineAt capacity + t)
-  pub line-kept : (u : ℕ) → u < nth d 0 → (u ≡ t → ⊥) → nth e (lineAt capacity + u) ≡ nth d (lineAt capacity + u)
-  pub blocked-kept : (u : ℕ) → u < nth d 0 → nth e (blockedAt capacity + u) ≡ nth d (blockedAt capacity + u)
-  pub priority-kept : (u : ℕ) → u < nth d 0 → nth e (priorityAt capacity + u) ≡ nth d (priorityAt capacity + u)
+  pub other : (i : ℕ) → i < rowAt capacity 0 → (i ≡ lineAt capacity + t → ⊥) → nth e i ≡ nth d i
 
 -- The tasks that wait, with their bottom levels.
 unfoldable pub waitingIn : ℕ → List ℕ → List Waiting
 waitingIn capacity mem =
     keep (λ w. eqb (nth mem (lineAt capacity + w .task)) 0) (waitingFrom 0 (map (λ t. nth mem (levelAt capacity + t)) (below (nth mem 0))))
 
+-- What a tick with a message added is at most, and what a top level is, scaled.
+abbrev pub spreadMost : Limits → ℕ
+spreadMost l = l .tick + messageMost l
+
+abbrev pub topMost : Limits → ℕ
+topMost l = spreadMost l * (l .processors * l .processors)
+
 -- The line at a is one that top levels ask, for an edge of this volume.
-pub record Sends (capacity a volume : ℕ) (mem : List ℕ) : Type 0 where
-  pub row : RowHeld a mem
+pub record Sends (l : Limits) (capacity a volume : ℕ) (mem : List ℕ) : Type 0 where
+  pub row : RowHeld l a mem
   pub within : rowEnd a ≤ length mem
-  pub narrow : nth mem 3 ≤ document01 .losses
-  pub ticks : (c : ℕ) → c < nth mem 3 + 1 → nth mem (earlyAt a c) ≤ document01 .tick
-  pub little : volume ≤ document01 .volume
+  pub narrow : nth mem 3 ≤ l .losses
+  pub ticks : (c : ℕ) → c < nth mem 3 + 1 → nth mem (earlyAt a c) ≤ l .tick
+  pub little : volume ≤ l .volume
   pub far : LargestDelaysFilled capacity mem
 
 -- When the data of one of the first c replicas of the line at a is everywhere, for an edge of this volume.
@@ -94,29 +104,45 @@ abbrev pub replicaOn : ℕ → ℕ → List ℕ → ℕ → ℕ → Replica
 replicaOn capacity k mem t p = record { processor = p; early = tickOf (finishOn capacity false k mem t p); late = tickOf (finishOn capacity true k mem t p) }
 
 -- k lines of the plan are drawn up, and what is left to place gives the rest of it.
-pub record Drawn (capacity k : ℕ) (mem : List ℕ) : Type 0 where
-  pub standing : LinesHeld capacity k mem
+pub record Drawn (l : Limits) (capacity k : ℕ) (mem : List ℕ) : Type 0 where
+  pub standing : LinesHeld l capacity k mem
   pub far : LargestDelaysFilled capacity mem
   pub levels : LevelsFilled capacity mem
-  pub ticks : ShortTo capacity k mem
+  pub ticks : ShortTo l capacity k mem
   pub rest : linesIn capacity (nth mem 3 + 1) k mem
       ++ place (jobIn mem) (nth mem 3) (nth mem 0 - k) (waitingIn capacity mem) (earliesIn capacity k mem) (latesIn capacity k mem)
       ≡ planFor (jobIn mem) (nth mem 3) .lines
 
+-- How many edges to u come from tasks that are not placed.
+abbrev pub blocking : ℕ → List ℕ → ℕ → ℕ
+blocking capacity mem u = length (keep (λ e. eqb (nth mem (lineAt capacity + e .from)) 0) (incoming (jobIn mem) u))
+
+-- How many of the edges es go to u.
+abbrev pub entries : ℕ → List Edge → ℕ
+entries u es = length (keep (λ e. eqb (e .to) u) es)
+
+-- The priority of u, whose predecessors are placed.
+abbrev pub priorityOf : ℕ → List ℕ → ℕ → ℕ
+priorityOf capacity mem u = tickOf (topIn capacity u mem) * scale (jobIn mem) + nth mem (levelAt capacity + u)
+
 -- Each task counts its edges from tasks that are not placed, and the edges es to it; a free task has its priority.
 pub record Ranked (capacity : ℕ) (es : List Edge) (mem : List ℕ) : Type 0 where
-  pub blocked : (u : ℕ) → u < nth mem 0
-      → nth mem (blockedAt capacity + u)
-      ≡ length (keep (λ e. eqb (nth mem (lineAt capacity + e .from)) 0) (incoming (jobIn mem) u)) + length (keep (λ e. eqb (e .to) u) es)
-  pub priorities : (u : ℕ) → u < nth mem 0 → isFree capacity mem u ≡ true
-      → nth mem (priorityAt capacity + u) ≡ tickOf (topIn capacity u mem) * scale (jobIn mem) + nth mem (levelAt capacity + u)
+  pub blocked : (u : ℕ) → u < nth mem 0 → nth mem (blockedAt capacity + u) ≡ blocking capacity mem u + entries u es
+  pub priorities : (u : ℕ) → u < nth mem 0 → isFree capacity mem u ≡ true → nth mem (priorityAt capacity + u) ≡ priorityOf capacity mem u
+
+-- Line k is to be of task t, the critical one of the free tasks.
+pub record Critical (l : Limits) (capacity k t : ℕ) (mem : List ℕ) : Type 0 where
+  pub drawn : Drawn l capacity k mem
+  pub ranked : Ranked capacity [] mem
+  pub more : k < nth mem 0
+  pub lower : t ≡ criticalOf (nth mem 0) (freeIn capacity mem)
 
 -- Line k is to be of task t, which would finish at these ticks, early and late.
-pub record Tried (capacity k t : ℕ) (early late : List ℕ) (mem : List ℕ) : Type 0 where
-  pub drawn : Drawn capacity k mem
+pub record Tried (l : Limits) (capacity k t : ℕ) (early late : List ℕ) (mem : List ℕ) : Type 0 where
+  pub drawn : Drawn l capacity k mem
   pub more : k < nth mem 0
-  pub early-size : length early ≡ 16
-  pub late-size : length late ≡ 16
+  pub early-size : length early ≡ lanesMost
+  pub late-size : length late ≡ lanesMost
   pub early-finishes : (p : ℕ) → p < nth mem 1 → tick (nth early p) ≡ finishOn capacity false k mem t p
   pub late-finishes : (p : ℕ) → p < nth mem 1 → tick (nth late p) ≡ finishOn capacity true k mem t p
 
@@ -144,24 +170,15 @@ pub record Cleared (capacity n : ℕ) (j : Job) (mem : List ℕ) : Type 0 where
 
 -- The edges that leave a placed task no longer block ---------------------------------------------------------------
 
--- How many edges to u come from tasks that are not placed.
-abbrev pub blocking : ℕ → List ℕ → ℕ → ℕ
-blocking capacity mem u = length (keep (λ e. eqb (nth mem (lineAt capacity + e .from)) 0) (incoming (jobIn mem) u))
+-- Edges block u; where it is one edge alone, the predecessors of u are placed.
+pub record Blocked (capacity u : ℕ) (mem : List ℕ) : Type 0 where
+  pub task : u < nth mem 0
+  pub some : 0 < nth mem (blockedAt capacity + u)
+  pub last : nth mem (blockedAt capacity + u) ≡ 1 → PredecessorsPlaced capacity u mem
 
--- How many of the edges es go to u.
-abbrev pub entries : ℕ → List Edge → ℕ
-entries u es = length (keep (λ e. eqb (e .to) u) es)
-
--- The edges es are still counted; n lines are drawn up in d.
-pub record Releasing (capacity n : ℕ) (es : List Edge) (d mem : List ℕ) : Type 0 where
-  pub kept : KeptOutside (blockedAt capacity) (rowAt capacity 0) d mem
-  pub blocked : (u : ℕ) → u < nth d 0 → nth mem (blockedAt capacity + u) ≡ blocking capacity d u + entries u es
-  pub priorities : (u : ℕ) → u < nth d 0 → nth d (lineAt capacity + u) ≡ 0 → nth mem (blockedAt capacity + u) ≡ 0
-      → nth mem (priorityAt capacity + u) ≡ topLevel (jobIn d) (earliesIn capacity n d) u + nth d (levelAt capacity + u)
-
--- The edge e is the next that no longer counts, before the edges es, and it enters u.
-pub record Unblocks (capacity n : ℕ) (e : Edge) (es : List Edge) (u : ℕ) (d mem : List ℕ) : Type 0 where
-  pub drawn : Drawn capacity n d
-  pub releasing : Releasing capacity n (e ∷ es) d mem
-  pub enters : u ≡ e .to
-  pub task : u < nth d 0
+-- One edge less blocks u, which has its priority if it is free now; nothing else changed.
+pub record Unblocked (capacity u : ℕ) (d e : List ℕ) : Type 0 where
+  pub size : length e ≡ length d
+  pub count : suc (nth e (blockedAt capacity + u)) ≡ nth d (blockedAt capacity + u)
+  pub priority : nth e (blockedAt capacity + u) ≡ 0 → nth e (priorityAt capacity + u) ≡ priorityOf capacity d u
+  pub other : (i : ℕ) → (i ≡ blockedAt capacity + u → ⊥) → (i ≡ priorityAt capacity + u → ⊥) → nth e i ≡ nth d i

@@ -5,17 +5,15 @@ use mathlib.Core.Bool.{false}
 use Prim.Native.Nat.{ℕ, suc, _+_, _*_, _<_, _≤_}
 use lib.ListN.{length}
 use Rattle.definitions.specs.Lists.{nth, In}
-use Rattle.definitions.specs.Limits.{document01}
-use Rattle.definitions.specs.Text.{Result, andThen}
+use Rattle.definitions.specs.Limits.{Limits}
 use Rattle.definitions.specs.Job.{Edge, Job, incoming}
-use Rattle.definitions.specs.Stops.{Stop, readStops}
+use Rattle.definitions.specs.Stops.{Stop}
 use Rattle.definitions.specs.Times.{least, Placement, Outcome, ready, stopTime, walk, placementsOf}
-use Rattle.definitions.specs.Replay.{replay, firstFinish, firstProcessor, replayText}
-use Rattle.definitions.specs.Tools.{fitting}
+use Rattle.definitions.specs.Replay.{replay, firstFinish, firstProcessor}
 use Rattle.definitions.specs.Claims.{PlacedWithin}
-use Rattle.heads.specs.Layout.{lineAt, rowAt, largestDelayAt, processorAt, lateAt}
+use Rattle.heads.specs.Layout.{lineAt, replicasMost, rowAt, largestDelayAt, processorAt, lateAt, lanesMost}
 use Rattle.jobs.specs.Held.{jobIn}
-use Rattle.rounds.specs.Schedule.{lineTicks}
+use Rattle.jobs.specs.Tables.{lineTicks}
 use Rattle.ticks.specs.Cells.{neverCell, timeIn, Small}
 use Rattle.plans.specs.Lines.{rowOutcomes, placedIn, rowReplicas, LinesHeld}
 use Rattle.lists.specs.Kept.{KeptOutside}
@@ -23,19 +21,19 @@ use Rattle.plans.specs.Loading.{planIn}
 
 -- The stop times of a stop list are in the cells.
 abbrev pub StopsIn : List Stop → List ℕ → Type 0
-StopsIn ss cells = (p : ℕ) → p < 16 → timeIn (nth cells p) ≡ stopTime ss p
+StopsIn ss cells = (p : ℕ) → p < lanesMost → timeIn (nth cells p) ≡ stopTime ss p
 
 -- The outcomes of the first k lines, and of the first c replicas of the next, newest first.
 unfoldable pub ranIn : ℕ → ℕ → ℕ → List ℕ → List Outcome
 ranIn capacity k c mem = rowOutcomes false (rowAt capacity k) c mem ++ placedIn capacity false (nth mem 3 + 1) k mem
 
--- k lines of 8 replicas at most and c of the next have run, and the cells hold the processors' ready times after them.
-pub record Running (capacity k c : ℕ) (cells mem : List ℕ) : Type 0 where
-  pub standing : LinesHeld capacity (nth mem 0) mem
-  pub size : length cells ≡ 16
+-- k lines and c of the next have run, and the cells hold the processors' ready times after them.
+pub record Running (l : Limits) (capacity k c : ℕ) (cells mem : List ℕ) : Type 0 where
+  pub standing : LinesHeld l capacity (nth mem 0) mem
+  pub size : length cells ≡ lanesMost
   pub ready-of : (p : ℕ) → p < nth mem 1 → timeIn (nth cells p) ≡ ready (jobIn mem) p (ranIn capacity k c mem)
-  pub ready-small : (p : ℕ) → p < nth mem 1 → Small ((k * 8 + c) * lineTicks) (nth cells p)
-  pub within : PlacedWithin (jobIn mem) ((k * 8 + c) * lineTicks) (ranIn capacity k c mem)
+  pub ready-small : (p : ℕ) → p < nth mem 1 → Small ((k * replicasMost + c) * lineTicks l) (nth cells p)
+  pub within : PlacedWithin (jobIn mem) ((k * replicasMost + c) * lineTicks l) (ranIn capacity k c mem)
 
 -- Every predecessor of the task of line k has its line before it.
 abbrev pub PredecessorsBefore : ℕ → ℕ → List ℕ → Type 0
@@ -46,8 +44,8 @@ PredecessorsBefore capacity k mem =
 pub record Retimed (capacity k n : ℕ) (d e : List ℕ) : Type 0 where
   pub outside : KeptOutside (rowAt capacity k) (rowAt capacity n) d e
   pub task : (i : ℕ) → nth e (rowAt capacity i) ≡ nth d (rowAt capacity i)
-  pub processor : (i c : ℕ) → c < 8 → nth e (processorAt (rowAt capacity i) c) ≡ nth d (processorAt (rowAt capacity i) c)
-  pub late : (i c : ℕ) → c < 8 → nth e (lateAt (rowAt capacity i) c) ≡ nth d (lateAt (rowAt capacity i) c)
+  pub processor : (i c : ℕ) → c < replicasMost → nth e (processorAt (rowAt capacity i) c) ≡ nth d (processorAt (rowAt capacity i) c)
+  pub late : (i c : ℕ) → c < replicasMost → nth e (lateAt (rowAt capacity i) c) ≡ nth d (lateAt (rowAt capacity i) c)
 
 -- The replicas of the first c of line k.
 unfoldable pub placementsIn : ℕ → ℕ → ℕ → List ℕ → List Placement
@@ -72,9 +70,9 @@ abbrev pub RisingIn : ℕ → List ℕ → Type 0
 RisingIn capacity mem = (i c : ℕ) → i < nth mem 0 → c < nth mem 3 → nth mem (processorAt (rowAt capacity i) c) ≤ nth mem (processorAt (rowAt capacity i) (c + 1))
 
 -- All lines have run under the stops in the cells.
-pub record RoundRun (capacity : ℕ) (stops d e : List ℕ) : Type 0 where
+pub record RoundRun (l : Limits) (capacity : ℕ) (stops d e : List ℕ) : Type 0 where
   pub outside : KeptOutside (rowAt capacity 0) (largestDelayAt capacity) d e
-  pub standing : LinesHeld capacity (nth e 0) e
+  pub standing : LinesHeld l capacity (nth e 0) e
   pub rising : RisingIn capacity e
   pub outcomes : (ss : List Stop) → StopsIn ss stops → outcomesIn capacity e ≡ reverse (replay (jobIn d) ss (planIn capacity d .lines))
 
@@ -82,8 +80,3 @@ pub record RoundRun (capacity : ℕ) (stops d e : List ℕ) : Type 0 where
 pub record FirstIn (capacity t time processor : ℕ) (mem : List ℕ) : Type 0 where
   pub finish : timeIn time ≡ firstFinish t (outcomesIn capacity mem)
   pub box : (time ≡ neverCell → ⊥) → processor ≡ firstProcessor t (timeIn time) (outcomesIn capacity mem)
-
--- The replay of the plan in a memory under the stops of a text, into an output of this size: the stops, then 8.
-unfoldable pub replayIn : ℕ → List ℕ → List ℕ → ℕ → Result (List ℕ)
-replayIn capacity mem stops size =
-    andThen (readStops document01 (jobIn mem) stops) λ ss. fitting size (replayText document01 (jobIn mem) (replay (jobIn mem) ss (planIn capacity mem .lines)))

@@ -3,23 +3,20 @@ use mathlib.Core.Path.{_≡_}
 use mathlib.Core.List.{List, map}
 use mathlib.Core.Bool.{Bool, true, false}
 use Prim.Native.Nat.{ℕ, _+_, _*_, _<_, _≤_}
-use Rattle.definitions.specs.Lists.{nth, In}
-use Rattle.definitions.specs.Limits.{document01}
+use Rattle.definitions.specs.Lists.{nth, below, greatest, In}
+use Rattle.definitions.specs.Limits.{Limits}
 use Rattle.definitions.specs.Job.{Edge, incoming}
-use Rattle.definitions.specs.Times.{Time, after, least, largest, arrival}
+use Rattle.definitions.specs.Times.{Time, after, least, largest, arrival, dataReady}
 use Rattle.definitions.specs.Planner.{largestDelay, bottomLevels}
 use Rattle.jobs.specs.Held.{jobIn}
-use Rattle.plans.specs.Lines.{rowOutcomes, rowOf}
+use Rattle.plans.specs.Lines.{rowOutcomes, placedIn, rowOf}
+use Rattle.jobs.specs.Tables.{lineTicks}
 use Rattle.heads.specs.Layout.{levelAt, lineAt, largestDelayAt, rowAt, earlyAt, lateAt}
 
 -- The choice among a predecessor's replicas: the least early, the largest late.
 abbrev pub choiceOf : Bool → List Time → Time
 choiceOf true = largest
 choiceOf false = least
-
--- What a line of a plan, or a replica of a round, adds to a tick at most: a run and a message.
-abbrev pub lineTicks : ℕ
-lineTicks = document01 .runTime + document01 .volume * document01 .delay
 
 -- An edge of this volume from the task whose line is at a.
 abbrev pub edgeFrom : ℕ → ℕ → List ℕ → Edge
@@ -29,15 +26,19 @@ edgeFrom volume a mem = record { from = nth mem a; to = 0; volume = volume }
 unfoldable pub arrivalIn : Bool → ℕ → ℕ → ℕ → List ℕ → Time
 arrivalIn late volume p a mem = arrival (jobIn mem) (choiceOf late) (rowOutcomes late a (nth mem 3 + 1) mem) p (edgeFrom volume a mem)
 
--- When all data of t is on p.
+-- How many lines stand: the greatest line of a task.
+abbrev pub lineCount : ℕ → List ℕ → ℕ
+lineCount capacity mem = greatest (map (λ t. nth mem (lineAt capacity + t)) (below (nth mem 0)))
+
+-- When all data of t is on p, by the lines that stand.
 unfoldable pub dataIn : ℕ → Bool → ℕ → ℕ → List ℕ → Time
-dataIn capacity late t p mem = largest (map (λ e. arrivalIn late (e .volume) p (rowOf capacity (e .from) mem) mem) (incoming (jobIn mem) t))
+dataIn capacity late t p mem = dataReady (jobIn mem) (choiceOf late) (placedIn capacity late (nth mem 3 + 1) (lineCount capacity mem) mem) t p
 
 -- The ticks of the first k lines do not pass what k lines add up to.
-abbrev pub ShortTo : ℕ → ℕ → List ℕ → Type 0
-ShortTo capacity k mem =
+abbrev pub ShortTo : Limits → ℕ → ℕ → List ℕ → Type 0
+ShortTo l capacity k mem =
     (i c : ℕ) → i < k → c < nth mem 3 + 1
-    → (nth mem (earlyAt (rowAt capacity i) c) ≤ k * lineTicks) × (nth mem (lateAt (rowAt capacity i) c) ≤ k * lineTicks)
+    → (nth mem (earlyAt (rowAt capacity i) c) ≤ k * lineTicks l) × (nth mem (lateAt (rowAt capacity i) c) ≤ k * lineTicks l)
 
 -- Every predecessor of t has a line.
 abbrev pub PredecessorsPlaced : ℕ → ℕ → List ℕ → Type 0

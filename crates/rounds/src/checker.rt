@@ -27,7 +27,7 @@ use ticks::clocks::Clocks;
 
 // Whether some task has two replicas on one processor, and one that has.
 fn doubled(mem: &[u64], capacity: usize) -> Doubling
-    requires { ⌜ PlanHeld capacity (now mem) ⌝ }
+    requires { ⌜ PlanHeld document01 capacity (now mem) ⌝ }
     ensures { λ r. ⌜ DoubledBy (doubledTasks (planIn capacity (now (mem .entry)) .lines)) (doubledIn r) ⌝ }
 {
     let first = row::row_at(capacity, 0);
@@ -45,9 +45,10 @@ fn line_agrees(
     k: usize,
     clocks: Clocks,
 ) -> bool
-    requires { ⌜ PlanHeld capacity (now mem) × DelayTable (now delays) (now mem) × (k < nth (now mem) 0) × ShortTo capacity k (now mem) × ClocksAfter capacity k (now mem) clocks
+    requires { ⌜ PlanHeld document01 capacity (now mem) × DelayTable document01 (now delays) (now mem) × (k < nth (now mem) 0) × ShortTo document01 capacity k (now mem)
+        × ClocksAfter capacity k (now mem) clocks
         × LinksHeld (now mem) (now links) ⌝ }
-    ensures { λ r. ⌜ (r ≡ true → LineAgrees capacity k (now (mem .entry)) × ShortTo capacity (k + 1) (now (mem .entry))) × (LineAgrees capacity k (now (mem .entry)) → r ≡ true) ⌝ }
+    ensures { λ r. ⌜ (r ≡ true → LineAgrees capacity k (now (mem .entry)) × ShortTo document01 capacity (k + 1) (now (mem .entry))) × (LineAgrees capacity k (now (mem .entry)) → r ≡ true) ⌝ }
 {
     let w = mem[3] as usize + 1;
     let a = row::row_at(capacity, k);
@@ -70,7 +71,7 @@ fn line_agrees(
 
 // All ticks are the equations'.
 fn ticks_agree(mem: &[u64], links: &[u64], capacity: usize) -> bool
-    requires { ⌜ PlanHeld capacity (now mem) × (doubledTasks (planIn capacity (now mem) .lines) ≡ []) × LinksHeld (now mem) (now links) ⌝ }
+    requires { ⌜ PlanHeld document01 capacity (now mem) × (doubledTasks (planIn capacity (now mem) .lines) ≡ []) × LinksHeld (now mem) (now links) ⌝ }
     ensures { λ r. ⌜ r ≡ ticksAgree (jobIn (now (mem .entry))) (planIn capacity (now (mem .entry)) .lines) ⌝ }
 {
     let v = mem[0] as usize;
@@ -91,7 +92,7 @@ fn ticks_agree(mem: &[u64], links: &[u64], capacity: usize) -> bool
 
 // M* and M are the equations', if all ticks are.
 fn bounds_agree(mem: &[u64], links: &[u64], capacity: usize) -> bool
-    requires { ⌜ PlanHeld capacity (now mem) × LinksHeld (now mem) (now links) × (doubledTasks (planIn capacity (now mem) .lines) ≡ [])
+    requires { ⌜ PlanHeld document01 capacity (now mem) × LinksHeld (now mem) (now links) × (doubledTasks (planIn capacity (now mem) .lines) ≡ [])
         × (ticksAgree (jobIn (now mem)) (planIn capacity (now mem) .lines) ≡ true) ⌝ }
     ensures { λ r. ⌜ r ≡ boundsAgree (jobIn (now (mem .entry))) (planIn capacity (now (mem .entry))) ⌝ }
 {
@@ -107,7 +108,7 @@ fn bounds_agree(mem: &[u64], links: &[u64], capacity: usize) -> bool
 
 // The checker's answer to the plan in memory, none of whose tasks has two replicas on one processor.
 fn compare(mem: &[u64], links: &[u64], capacity: usize) -> Checked
-    requires { ⌜ PlanHeld capacity (now mem) × LinksHeld (now mem) (now links) × (doubledTasks (planIn capacity (now mem) .lines) ≡ []) ⌝ }
+    requires { ⌜ PlanHeld document01 capacity (now mem) × LinksHeld (now mem) (now links) × (doubledTasks (planIn capacity (now mem) .lines) ≡ []) ⌝ }
     ensures { λ r. ⌜ Judged (verdictFor document01 (jobIn (now (mem .entry))) (good (planIn capacity (now (mem .entry))))) r ⌝ }
 {
     if ticks_agree(mem, links, capacity) {
@@ -121,7 +122,7 @@ fn compare(mem: &[u64], links: &[u64], capacity: usize) -> Checked
 
 // The checker's answer to the plan in memory.
 pub fn judge(mem: &[u64], links: &[u64], capacity: usize) -> Checked
-    requires { ⌜ PlanHeld capacity (now mem) × LinksHeld (now mem) (now links) ⌝ }
+    requires { ⌜ PlanHeld document01 capacity (now mem) × LinksHeld (now mem) (now links) ⌝ }
     ensures { λ r. ⌜ Judged (verdictFor document01 (jobIn (now (mem .entry))) (good (planIn capacity (now (mem .entry))))) r ⌝ }
 {
     match doubled(mem, capacity) {

@@ -1,5 +1,6 @@
 // The planner, the checker and the replay, from texts to text, each in a working memory that is lent.
 ghost use lib.ListN.{length, drop};
+ghost use Rattle.definitions.specs.Limits.{document01};
 ghost use Rattle.jobs.specs.Answers.{Answered};
 ghost use Rattle.heads.specs.Heads.{headOf};
 ghost use Rattle.jobs.specs.Loading.{jobFrom};
@@ -33,8 +34,8 @@ pub enum Checked {
     Refused(u64),
 }
 
-// The plan for a job's text, whose head was read up to `at`, written into `out`, if it fits. `mem` is a working memory of so many
-// rooms, `links` one for the links between the job's edges.
+// The plan for a job's text, whose head was read up to `at`, written into `out`, if it fits. `mem` is a working memory of this
+// capacity, `links` one for the links between the job's edges.
 pub fn plan_in(
     job: &[u8],
     at: usize,
@@ -45,7 +46,7 @@ pub fn plan_in(
     out: &mut [u8],
 ) -> Answer
     ensures { λ r. do
-      ⌜ Answered (planOf (jobFrom capacity (length (now (mem .entry))) (length (now (links .entry))) (headOf head) (drop at (now (job .entry)))) (← ⟦out.len()⟧ .entry))
+      ⌜ Answered (planOf document01 (jobFrom document01 capacity (length (now (mem .entry))) (length (now (links .entry))) (headOf head) (drop at (now (job .entry)))) (← ⟦out.len()⟧ .entry))
           (now (out .entry)) (now (out .exit)) r ⌝ }
 {
     match jobs::load_job(job, at, head, mem, links, capacity) {
@@ -64,7 +65,8 @@ pub fn check_in(
     links: &mut [u64],
     capacity: usize,
 ) -> Checked
-    ensures { λ r. ⌜ Judged (verdictBoth (bothFrom capacity (length (now (mem .entry))) (length (now (links .entry))) (headOf head) (drop at (now (job .entry))) (now (plan .entry)))) r ⌝ }
+    ensures { λ r. ⌜ Judged (verdictBoth document01
+        (bothFrom document01 capacity (length (now (mem .entry))) (length (now (links .entry))) (headOf head) (drop at (now (job .entry))) (now (plan .entry)))) r ⌝ }
 {
     match plans::load_both(job, at, head, plan, mem, links, capacity) {
         Step::Next(_) => checker::judge(&mem[..], &links[..], capacity),
@@ -85,7 +87,7 @@ pub fn replay_in(
     out: &mut [u8],
 ) -> Answer
     ensures { λ r. do
-      ⌜ Answered (replayBoth (bothFrom capacity (length (now (mem .entry))) (length (now (links .entry))) (headOf head) (drop at (now (job .entry))) (now (plan .entry)))
+      ⌜ Answered (replayBoth document01 (bothFrom document01 capacity (length (now (mem .entry))) (length (now (links .entry))) (headOf head) (drop at (now (job .entry))) (now (plan .entry)))
           (now (stops .entry)) (← ⟦out.len()⟧ .entry)) (now (out .entry)) (now (out .exit)) r ⌝ }
 {
     match plans::load_both(job, at, head, plan, mem, links, capacity) {

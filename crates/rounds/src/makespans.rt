@@ -4,6 +4,7 @@ ghost use mathlib.Core.List.{[]};
 ghost use Prim.Native.Nat.{_+_, _≤_, _<_};
 ghost use lib.ListN.{length};
 ghost use Rattle.definitions.specs.Lists.{if_then_else_, nth, empty};
+ghost use Rattle.definitions.specs.Limits.{document01};
 ghost use Rattle.definitions.specs.Job.{outgoing};
 ghost use Rattle.definitions.specs.Times.{tick, times, ofTask, makespan};
 ghost use Rattle.jobs.specs.Held.{jobIn, SomeJobHeld, LinksHeld};
@@ -26,7 +27,7 @@ fn chosen_of_none(late: bool) -> u64
 
 // The least early, or the largest late, of the times in the line at `a`.
 fn chosen_in(mem: &[u64], late: bool, a: usize) -> u64
-    requires { ⌜ SomeJobHeld (now mem) × (rowEnd a ≤ length (now mem)) ⌝ }
+    requires { ⌜ SomeJobHeld document01 (now mem) × (rowEnd a ≤ length (now mem)) ⌝ }
     ensures { λ r. ⌜ timeIn r ≡ choiceOf late (times (rowOutcomes late a (nth (now (mem .entry)) 3 + 1) (now (mem .entry)))) ⌝ }
 {
     let w = mem[3] as usize + 1;
@@ -41,7 +42,7 @@ fn chosen_in(mem: &[u64], late: bool, a: usize) -> u64
 
 // The end of t, if no edge leaves it, else 0.
 fn exit_time(mem: &[u64], links: &[u64], capacity: usize, late: bool, t: usize) -> u64
-    requires { ⌜ LinesHeld capacity (nth (now mem) 0) (now mem) × LinksHeld (now mem) (now links) × (t < nth (now mem) 0) ⌝ }
+    requires { ⌜ LinesHeld document01 capacity (nth (now mem) 0) (now mem) × LinksHeld (now mem) (now links) × (t < nth (now mem) 0) ⌝ }
     ensures { λ r. ⌜ timeIn r ≡ (if empty (outgoing (jobIn (now (mem .entry))) t) then choiceOf late
         (times (ofTask t (placedIn capacity late (nth (now (mem .entry)) 3 + 1) (nth (now (mem .entry)) 0) (now (mem .entry))))) else tick 0) ⌝ }
 {
@@ -54,7 +55,7 @@ fn exit_time(mem: &[u64], links: &[u64], capacity: usize, late: bool, t: usize) 
 
 // The end of all tasks, each of which is placed.
 pub fn makespan_of(mem: &[u64], links: &[u64], capacity: usize, late: bool) -> u64
-    requires { ⌜ LinesHeld capacity (nth (now mem) 0) (now mem) × LinksHeld (now mem) (now links) ⌝ }
+    requires { ⌜ LinesHeld document01 capacity (nth (now mem) 0) (now mem) × LinksHeld (now mem) (now links) ⌝ }
     ensures { λ r. ⌜ timeIn r ≡ makespan (jobIn (now (mem .entry))) (choiceOf late) (placedIn capacity late (nth (now (mem .entry)) 3 + 1) (nth (now (mem .entry)) 0) (now (mem .entry))) ⌝ }
 {
     let v = mem[0] as usize;

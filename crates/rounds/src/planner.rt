@@ -1,14 +1,14 @@
 // The planner: tasks placed one by one on the processors of least early finish.
-ghost use mathlib.Core.Path.{_≡_};
-ghost use mathlib.Core.List.{List, [], reverse};
+ghost use mathlib.Core.List.{[], reverse};
 ghost use Prim.Native.Nat.{ℕ, _+_, _-_, _*_, _<_};
 ghost use Rattle.definitions.specs.Lists.{nth};
-ghost use Rattle.definitions.specs.Job.{outgoing, Edge};
+ghost use Rattle.definitions.specs.Limits.{document01};
+ghost use Rattle.definitions.specs.Job.{outgoing};
 ghost use Rattle.heads.specs.Layout.{memorySize, lineAt, blockedAt, rowAt, largestDelayAt, levelAt};
 ghost use Rattle.jobs.specs.Held.{jobIn, JobHeld, LinksHeld};
 ghost use Rattle.lists.specs.Kept.{KeptOutside};
 ghost use Rattle.rounds.specs.Arrivals.{DelayTable};
-ghost use Rattle.rounds.specs.Planning.{freeIn, criticalOf, FreeList, Taken, processorsFor, Drawn, Ranked, Tried, Begun, Cleared, Releasing, Unblocks};
+ghost use Rattle.rounds.specs.Planning.{FreeList, Taken, processorsFor, Drawn, Ranked, Critical, Tried, Begun, Cleared, Blocked, Unblocked};
 ghost use Rattle.rounds.specs.Clocks.{earliesIn, latesIn, ClocksHeld};
 use crate::clocks;
 use crate::free;
@@ -25,7 +25,7 @@ use ticks::clocks::Clocks;
 
 // No task is placed; each has its bottom level for a priority, and each edge blocks the task that it enters.
 fn clear_tasks(mem: &mut [u64], links: &[u64], capacity: usize)
-    requires { ⌜ JobHeld capacity (now mem) × LinksHeld (now mem) (now links) ⌝ }
+    requires { ⌜ JobHeld document01 capacity (now mem) × LinksHeld (now mem) (now links) ⌝ }
     ensures { λ _. ⌜ KeptOutside (lineAt capacity) (rowAt capacity 0) (now (mem .entry)) (now (mem .exit)) × Cleared capacity (nth (now (mem .exit)) 0) (jobIn (now (mem .entry))) (now (mem .exit)) ⌝ }
 {
     let level = LEVEL * capacity;
@@ -53,7 +53,7 @@ fn fill_line(
     early: [u32; 16],
     late: [u32; 16],
 )
-    requires { ⌜ Tried capacity k t early late (now mem) ⌝ }
+    requires { ⌜ Tried document01 capacity k t early late (now mem) ⌝ }
     ensures { λ _. ⌜ Begun capacity k t (processorsFor capacity k t (now (mem .entry))) (now (mem .entry)) (now (mem .exit)) ⌝ }
 {
     let m = mem[1] as usize;
@@ -80,9 +80,9 @@ fn place_task(
     t: usize,
     clocks: Clocks,
 ) -> Clocks
-    requires { ⌜ DelayTable (now delays) (now mem) × Drawn capacity k (now mem) × Ranked capacity [] (now mem) × (k < nth (now mem) 0) × (t ≡ criticalOf (nth (now mem) 0) (freeIn capacity (now mem)))
+    requires { ⌜ DelayTable document01 (now delays) (now mem) × Critical document01 capacity k t (now mem)
         × ClocksHeld clocks (jobIn (now mem)) (earliesIn capacity k (now mem)) (latesIn capacity k (now mem)) × LinksHeld (now mem) (now links) ⌝ }
-    ensures { λ r. ⌜ KeptOutside (lineAt capacity) (largestDelayAt capacity) (now (mem .entry)) (now (mem .exit)) × Drawn capacity (k + 1) (now (mem .exit))
+    ensures { λ r. ⌜ KeptOutside (lineAt capacity) (largestDelayAt capacity) (now (mem .entry)) (now (mem .exit)) × Drawn document01 capacity (k + 1) (now (mem .exit))
         × Ranked capacity (reverse (outgoing (jobIn (now (mem .exit))) t)) (now (mem .exit))
         × ClocksHeld r (jobIn (now (mem .exit))) (earliesIn capacity (k + 1) (now (mem .exit))) (latesIn capacity (k + 1) (now (mem .exit)))
         × Taken capacity t (now (mem .entry)) (now (mem .exit)) ⌝ }
@@ -107,18 +107,18 @@ fn unblock(
     free: &mut [u8],
     n: usize,
 ) -> usize
-    requires { ⌜ ((d : List ℕ) × (i : ℕ) × (e : Edge) × (es : List Edge) × Unblocks capacity i e es u d (now mem)) × FreeList capacity (now free) n (now mem) × LinksHeld (now mem) (now links) ⌝ }
-    ensures { λ r. ⌜ ((d : List ℕ) (i : ℕ) (e : Edge) (es : List Edge) → Unblocks capacity i e es u d (now (mem .entry)) → Releasing capacity i es d (now (mem .exit)))
-        × FreeList capacity (now (free .exit)) r (now (mem .exit)) ⌝ }
+    requires { ⌜ ((k : ℕ) × Drawn document01 capacity k (now mem)) × Blocked capacity u (now mem) × FreeList capacity (now free) n (now mem) × LinksHeld (now mem) (now links) ⌝ }
+    ensures { λ r. ⌜ Unblocked capacity u (now (mem .entry)) (now (mem .exit)) × FreeList capacity (now (free .exit)) r (now (mem .exit)) ⌝ }
 {
     let blocked = BLOCKED * capacity;
-    let b = mem[blocked + u] - 1;
-    mem[blocked + u] = b;
-    if b > 0 {
+    let b = mem[blocked + u];
+    if b > 1 {
+        mem[blocked + u] = b - 1;
         return n;
     }
     let x = priority::top_level(&mem[..], links, capacity, u);
     mem[PRIORITY * capacity + u] = x + mem[LEVEL * capacity + u];
+    mem[blocked + u] = 0;
     free::put_in(&mem[..], capacity, free, n, u as u8);
     n + 1
 }
@@ -133,7 +133,8 @@ fn release(
     free: &mut [u8],
     count: usize,
 ) -> usize
-    requires { ⌜ ((k : ℕ) × Drawn capacity k (now mem)) × Ranked capacity (reverse (outgoing (jobIn (now mem)) t)) (now mem) × FreeList capacity (now free) count (now mem) × (t < nth (now mem) 0)
+    requires { ⌜ ((k : ℕ) × Drawn document01 capacity k (now mem)) × Ranked capacity (reverse (outgoing (jobIn (now mem)) t)) (now mem)
+        × FreeList capacity (now free) count (now mem) × (t < nth (now mem) 0)
         × LinksHeld (now mem) (now links) ⌝ }
     ensures { λ r. ⌜ KeptOutside (blockedAt capacity) (rowAt capacity 0) (now (mem .entry)) (now (mem .exit))
         × Ranked capacity [] (now (mem .exit)) × FreeList capacity (now (free .exit)) r (now (mem .exit)) ⌝ }
@@ -154,8 +155,9 @@ fn release(
 
 // Levels and the tables of tasks, before the first line.
 fn prepare(mem: &mut [u64], links: &[u64], capacity: usize)
-    requires { ⌜ JobHeld capacity (now mem) × LinksHeld (now mem) (now links) ⌝ }
-    ensures { λ _. ⌜ KeptOutside (levelAt capacity) (memorySize capacity) (now (mem .entry)) (now (mem .exit)) × Drawn capacity 0 (now (mem .exit)) × Ranked capacity [] (now (mem .exit)) ⌝ }
+    requires { ⌜ JobHeld document01 capacity (now mem) × LinksHeld (now mem) (now links) ⌝ }
+    ensures { λ _. ⌜ KeptOutside (levelAt capacity) (memorySize capacity) (now (mem .entry)) (now (mem .exit))
+        × Drawn document01 capacity 0 (now (mem .exit)) × Ranked capacity [] (now (mem .exit)) ⌝ }
 {
     levels::fill_levels(mem, links, capacity);
     priority::fill_largest_delays(mem, capacity);
@@ -164,8 +166,8 @@ fn prepare(mem: &mut [u64], links: &[u64], capacity: usize)
 
 // Draws up the plan of the job in memory.
 pub fn draw_plan(mem: &mut [u64], links: &[u64], capacity: usize)
-    requires { ⌜ JobHeld capacity (now mem) × LinksHeld (now mem) (now links) ⌝ }
-    ensures { λ _. ⌜ KeptOutside (levelAt capacity) (memorySize capacity) (now (mem .entry)) (now (mem .exit)) × Drawn capacity (nth (now (mem .entry)) 0) (now (mem .exit)) ⌝ }
+    requires { ⌜ JobHeld document01 capacity (now mem) × LinksHeld (now mem) (now links) ⌝ }
+    ensures { λ _. ⌜ KeptOutside (levelAt capacity) (memorySize capacity) (now (mem .entry)) (now (mem .exit)) × Drawn document01 capacity (nth (now (mem .entry)) 0) (now (mem .exit)) ⌝ }
 {
     prepare(mem, links, capacity);
     let v = mem[0] as usize;

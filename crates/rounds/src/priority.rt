@@ -5,20 +5,21 @@ ghost use Rattle.definitions.specs.Lists.{nth};
 ghost use Rattle.definitions.specs.Limits.{document01};
 ghost use Rattle.definitions.specs.Times.{tick};
 ghost use Rattle.definitions.specs.Planner.{tickOf, scale, largestDelay};
-ghost use Rattle.heads.specs.Layout.{memorySize, largestDelayAt, rowAt, processorAt, earlyAt};
+ghost use Rattle.heads.specs.Layout.{memorySize, largestDelayAt, rowAt, earlyAt};
 ghost use Rattle.jobs.specs.Held.{jobIn, JobHeld, SomeJobHeld, LinksHeld};
 ghost use Rattle.rounds.specs.Schedule.{topIn, LargestDelaysFilled, PredecessorsPlaced};
 ghost use Rattle.lists.specs.Kept.{KeptOutside};
 ghost use Rattle.plans.specs.Lines.{LinesHeld};
-ghost use Rattle.rounds.specs.Planning.{Sends, spreadIn};
+ghost use Rattle.rounds.specs.Planning.{Sends, spreadIn, spreadMost, topMost};
 use crate::numbers;
 use crate::row;
 use crate::walk;
 use heads::layout::LARGEST_DELAY;
+use ticks::lanes::NEVER;
 
 // The largest of the delays from processor p.
 fn largest_delay(mem: &[u64], p: usize) -> u64
-    requires { ⌜ SomeJobHeld (now mem) × (p < nth (now mem) 1) ⌝ }
+    requires { ⌜ SomeJobHeld document01 (now mem) × (p < nth (now mem) 1) ⌝ }
     ensures { λ r. ⌜ r ≡ largestDelay (jobIn (now (mem .entry))) p ⌝ }
 {
     let m = mem[1] as usize;
@@ -36,7 +37,7 @@ fn largest_delay(mem: &[u64], p: usize) -> u64
 
 // Fills the table of largest delays.
 pub fn fill_largest_delays(mem: &mut [u64], capacity: usize)
-    requires { ⌜ JobHeld capacity (now mem) ⌝ }
+    requires { ⌜ JobHeld document01 capacity (now mem) ⌝ }
     ensures { λ _. ⌜ KeptOutside (largestDelayAt capacity) (memorySize capacity) (now (mem .entry)) (now (mem .exit)) × LargestDelaysFilled capacity (now (mem .exit)) ⌝ }
 {
     let far = LARGEST_DELAY * capacity;
@@ -49,27 +50,19 @@ pub fn fill_largest_delays(mem: &mut [u64], capacity: usize)
     }
 }
 
-// The first tick at which the data of replica c of the line at `a` is everywhere.
-fn sent(mem: &[u64], capacity: usize, a: usize, c: usize, volume: u64) -> u64
-    requires { ⌜ JobHeld capacity (now mem) × Sends capacity a volume (now mem) × (c < nth (now mem) 3 + 1) ⌝ }
-    ensures { λ r. ⌜ (r ≡ nth (now (mem .entry)) (earlyAt a c) + volume * nth (now (mem .entry)) (largestDelayAt capacity + nth (now (mem .entry)) (processorAt a c))) × (r ≤ 4296011520) ⌝ }
-{
-    let far = LARGEST_DELAY * capacity;
-    let x = row::replica_at(mem, a, c);
-    let p = x.processor;
-    x.early + volume * mem[far + p]
-}
-
 // The first tick at which the data of a predecessor whose line is at `a` is everywhere.
 fn spread(mem: &[u64], capacity: usize, a: usize, volume: u64) -> u64
-    requires { ⌜ JobHeld capacity (now mem) × Sends capacity a volume (now mem) ⌝ }
-    ensures { λ r. ⌜ (tick r ≡ spreadIn capacity volume a (nth (now (mem .entry)) 3 + 1) (now (mem .entry))) × (r ≤ 4296011520) ⌝ }
+    requires { ⌜ JobHeld document01 capacity (now mem) × Sends document01 capacity a volume (now mem) ⌝ }
+    ensures { λ r. ⌜ (tick r ≡ spreadIn capacity volume a (nth (now (mem .entry)) 3 + 1) (now (mem .entry))) × (r ≤ spreadMost document01) ⌝ }
 {
+    let far = LARGEST_DELAY * capacity;
     let w = mem[3] as usize + 1;
-    let mut x = sent(mem, capacity, a, 0, volume);
-    let mut c = 1;
+    let mut x = NEVER;
+    let mut c = 0;
     while c < w {
-        let y = sent(mem, capacity, a, c, volume);
+        let r = row::replica_at(mem, a, c);
+        let p = r.processor;
+        let y = r.early + volume * mem[far + p];
         if y < x {
             x = y;
         }
@@ -80,9 +73,9 @@ fn spread(mem: &[u64], capacity: usize, a: usize, volume: u64) -> u64
 
 // The scaled top level of t, whose predecessors all have a line.
 pub fn top_level(mem: &[u64], links: &[u64], capacity: usize, t: usize) -> u64
-    requires { ⌜ ((k : ℕ) × LinesHeld capacity k (now mem) × ((i c : ℕ) → i < k → c < nth (now mem) 3 + 1 → nth (now mem) (earlyAt (rowAt capacity i) c) ≤ document01 .tick))
+    requires { ⌜ ((k : ℕ) × LinesHeld document01 capacity k (now mem) × ((i c : ℕ) → i < k → c < nth (now mem) 3 + 1 → nth (now mem) (earlyAt (rowAt capacity i) c) ≤ document01 .tick))
         × LinksHeld (now mem) (now links) × (t < nth (now mem) 0) × PredecessorsPlaced capacity t (now mem) × LargestDelaysFilled capacity (now mem) ⌝ }
-    ensures { λ r. ⌜ (r ≡ tickOf (topIn capacity t (now (mem .entry))) * scale (jobIn (now (mem .entry)))) × (r ≤ 1100000000000) ⌝ }
+    ensures { λ r. ⌜ (r ≡ tickOf (topIn capacity t (now (mem .entry))) * scale (jobIn (now (mem .entry)))) × (r ≤ topMost document01) ⌝ }
 {
     let span = orders::entering(links, mem[0] as usize, t);
     let mut x = 0;

@@ -4,14 +4,17 @@ ghost use mathlib.Core.List.{[]};
 ghost use Prim.Native.Nat.{ℕ, suc, _<_};
 ghost use lib.ListN.{length};
 ghost use Rattle.definitions.specs.Lists.{nth};
+ghost use Rattle.definitions.specs.Limits.{document01};
 ghost use Rattle.definitions.specs.Times.{unlessStopped};
 ghost use Rattle.definitions.specs.Facts.{Ordered};
+ghost use Rattle.heads.specs.Layout.{lanesMost};
 ghost use Rattle.jobs.specs.Held.{jobIn, LinksHeld};
 ghost use Rattle.ticks.specs.Cells.{timeIn, Small};
 ghost use Rattle.plans.specs.Lines.{LinesHeld};
 ghost use Rattle.rounds.specs.Arrivals.{DelayTable};
 ghost use Rattle.plans.specs.Loading.{planIn};
 ghost use Rattle.rounds.specs.Replaying.{Running, PredecessorsBefore, LineRun, RisingIn, RoundRun, FirstIn};
+use crate::numbers;
 use crate::row;
 use crate::times;
 use replicas::First;
@@ -38,21 +41,22 @@ fn run_line(
     stops: &[u64],
     ready: Ready,
 ) -> Ready
-    requires { ⌜ DelayTable (now delays) (now mem) × Running capacity k 0 (ready .at) (now mem) × (k < nth (now mem) 0) × PredecessorsBefore capacity k (now mem) × (length (now stops) ≡ 16)
+    requires { ⌜ DelayTable document01 (now delays) (now mem) × Running document01 capacity k 0 (ready .at) (now mem) × (k < nth (now mem) 0) × PredecessorsBefore capacity k (now mem)
+        × (length (now stops) ≡ lanesMost)
         × LinksHeld (now mem) (now links) ⌝ }
-    ensures { λ r. ⌜ Running capacity (suc k) 0 (r .at) (now (mem .exit)) × LineRun capacity k (now (stops .entry)) (now (mem .entry)) (now (mem .exit)) ⌝ }
+    ensures { λ r. ⌜ Running document01 capacity (suc k) 0 (r .at) (now (mem .exit)) × LineRun capacity k (now (stops .entry)) (now (mem .entry)) (now (mem .exit)) ⌝ }
 {
     let w = mem[3] as usize + 1;
     let a = row::row_at(capacity, k);
     let t = mem[a] as usize;
     let data = times::first_data(&mem[..], links, capacity, delays, t);
-    let runs = times::run_times(&mem[..], t);
     let mut after = ready;
     let mut c = 0;
     while c < w {
         let r = row::replica_at(&mem[..], a, c);
         let p = r.processor;
-        let x = times::finish_of(after.at[p], data[p], runs[p] as u64);
+        let n = numbers::run_time(&mem[..], t, p);
+        let x = times::finish_of(after.at[p], data[p], n);
         let y = unless_stopped(stops[p], x);
         row::put_early(mem, a, c, y);
         let next = after.advance(p, y);
@@ -64,8 +68,9 @@ fn run_line(
 
 // All lines of the plan in memory.
 pub fn run_round(mem: &mut [u64], links: &[u64], capacity: usize, stops: &[u64])
-    requires { ⌜ LinesHeld capacity (nth (now mem) 0) (now mem) × Ordered (jobIn (now mem)) [] (planIn capacity (now mem) .lines) × (length (now stops) ≡ 16) × LinksHeld (now mem) (now links) ⌝ }
-    ensures { λ _. ⌜ RoundRun capacity (now (stops .entry)) (now (mem .entry)) (now (mem .exit)) ⌝ }
+    requires { ⌜ LinesHeld document01 capacity (nth (now mem) 0) (now mem) × Ordered (jobIn (now mem)) [] (planIn capacity (now mem) .lines)
+        × (length (now stops) ≡ lanesMost) × LinksHeld (now mem) (now links) ⌝ }
+    ensures { λ _. ⌜ RoundRun document01 capacity (now (stops .entry)) (now (mem .entry)) (now (mem .exit)) ⌝ }
 {
     let v = mem[0] as usize;
     let delays = times::delay_table(&mem[..]);
@@ -80,7 +85,7 @@ pub fn run_round(mem: &mut [u64], links: &[u64], capacity: usize, stops: &[u64])
 
 // The first finish of t, on the lowest processor that has it.
 pub fn first_finish(mem: &[u64], capacity: usize, t: usize) -> First
-    requires { ⌜ LinesHeld capacity (nth (now mem) 0) (now mem) × RisingIn capacity (now mem) × (t < nth (now mem) 0) ⌝ }
+    requires { ⌜ LinesHeld document01 capacity (nth (now mem) 0) (now mem) × RisingIn capacity (now mem) × (t < nth (now mem) 0) ⌝ }
     ensures { λ r. ⌜ FirstIn capacity t (r .time) (r .processor) (now (mem .entry)) ⌝ }
 {
     let a = row::row_of(mem, capacity, t);

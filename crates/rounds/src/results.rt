@@ -16,9 +16,9 @@ use crate::replaying;
 
 // The R line of task t, written from `at` on, if it fits. The answer is the place after it in either case.
 fn task_line(out: &mut [u8], at: usize, mem: &[u64], capacity: usize, t: usize) -> usize
-    requires { ⌜ LinesHeld capacity (nth (now mem) 0) (now mem) × RisingIn capacity (now mem) × (t < nth (now mem) 0) × (at ≤ 35 * t) ⌝ }
-    ensures { λ r. ⌜ (r ≡ at + length (taskLine capacity t (now (mem .entry)))) × (r ≤ at + 35) ⌝ }
-    ensures holds { λ r. ⌜ now (out .exit) ≡ written (now (out .entry)) at (taskLine capacity t (now (mem .entry))) ⌝ }
+    requires { ⌜ LinesHeld document01 capacity (nth (now mem) 0) (now mem) × RisingIn capacity (now mem) × (t < nth (now mem) 0) × (at ≤ 35 * t) ⌝ }
+    ensures { λ r. ⌜ (r ≡ at + length (taskLine document01 capacity t (now (mem .entry)))) × (r ≤ at + 35) ⌝ }
+    ensures holds { λ r. ⌜ now (out .exit) ≡ written (now (out .entry)) at (taskLine document01 capacity t (now (mem .entry))) ⌝ }
 {
     let first = replaying::first_finish(mem, capacity, t);
     let p = printing::place_in(out.len(), at);
@@ -27,7 +27,7 @@ fn task_line(out: &mut [u8], at: usize, mem: &[u64], capacity: usize, t: usize) 
 
 // The answer, written at the front of `out`, if it fits. What comes back is its length in either case.
 pub fn render(out: &mut [u8], mem: &[u64], links: &[u64], capacity: usize) -> usize
-    requires { ⌜ LinesHeld capacity (nth (now mem) 0) (now mem) × RisingIn capacity (now mem) × LinksHeld (now mem) (now links) ⌝ }
+    requires { ⌜ LinesHeld document01 capacity (nth (now mem) 0) (now mem) × RisingIn capacity (now mem) × LinksHeld (now mem) (now links) ⌝ }
     ensures { λ r. ⌜ Rendered (replayText document01 (jobIn (now (mem .entry))) (outcomesIn capacity (now (mem .entry)))) (now (out .entry)) (now (out .exit)) r ⌝ }
 {
     let v = mem[0] as usize;

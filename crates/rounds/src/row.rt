@@ -7,6 +7,7 @@ ghost use Rattle.heads.specs.Layout.{lineAt, rowAt, processorAt, earlyAt, lateA
 ghost use Rattle.plans.specs.Lines.{rowOf};
 ghost use Rattle.rounds.specs.Planning.{Wrote};
 use heads::layout::LINE;
+use heads::layout::ROW;
 use heads::layout::ROWS;
 
 // A replica of a line.
@@ -29,7 +30,7 @@ pub fn row_at(capacity: usize, k: usize) -> usize
     requires { ⌜ rowAt capacity k < 18446744073709551616 ⌝ }
     ensures { λ r. ⌜ r ≡ rowAt capacity k ⌝ }
 {
-    ROWS * capacity + k * 25
+    ROWS * capacity + k * ROW
 }
 
 // Where the line of task t stands, which has one.

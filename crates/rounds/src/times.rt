@@ -7,11 +7,13 @@ ghost use lib.ListN.{length};
 ghost use Rattle.definitions.specs.Lists.{if_then_else_, nth};
 ghost use Rattle.definitions.specs.Limits.{document01};
 ghost use Rattle.definitions.specs.Times.{later, sooner, after};
+ghost use Rattle.heads.specs.Layout.{lanesMost};
 ghost use Rattle.ticks.specs.Cells.{timeIn, Small};
+ghost use Rattle.ticks.specs.Lanes.{shortNever};
 ghost use Rattle.plans.specs.Lines.{rowEnd, RowHeld, LinesHeld};
-ghost use Rattle.rounds.specs.Schedule.{arrivalIn, dataIn};
+ghost use Rattle.rounds.specs.Schedule.{dataIn};
 ghost use Rattle.jobs.specs.Held.{SomeJobHeld, LinksHeld};
-ghost use Rattle.rounds.specs.Arrivals.{shortIn, DelayTable, FirstShort, BothShort, FirstSupplied, BothSupplied, BothRaised, BothReady, ShortClocks, RunsOf, BothFinish};
+ghost use Rattle.rounds.specs.Arrivals.{DelayTable, ShortTable, Raised, Supplied, lastArrival, FirstShort, BothShort, FirstSupplied, BothSupplied, ShortClocks, RunsOf, BothFinish};
 use crate::numbers;
 use crate::row;
 use crate::walk;
@@ -38,21 +40,10 @@ pub fn chosen_of(late: bool, x: u64, y: u64) -> u64
     y
 }
 
-// n ticks after a time.
-fn put_off(x: u64, n: u64) -> u64
-    requires { ⌜ Small 5000000000 x × (n ≤ document01 .runTime) ⌝ }
-    ensures { λ r. ⌜ (timeIn r ≡ after n (timeIn x)) × ((b : ℕ) → Small b x → Small (b + n) r) ⌝ }
-{
-    if x == NEVER {
-        return NEVER;
-    }
-    x + n
-}
-
 // The delays of the job in memory, as a table.
 pub fn delay_table(mem: &[u64]) -> [u16; 256]
-    requires { ⌜ SomeJobHeld (now mem) ⌝ }
-    ensures { λ r. ⌜ DelayTable r (now (mem .entry)) ⌝ }
+    requires { ⌜ SomeJobHeld document01 (now mem) ⌝ }
+    ensures { λ r. ⌜ DelayTable document01 r (now (mem .entry)) ⌝ }
 {
     let m = mem[1] as usize;
     let n = 16 * m;
@@ -70,10 +61,11 @@ pub fn delay_table(mem: &[u64]) -> [u16; 256]
     delays
 }
 
-// When the first data of a predecessor whose line is at `a` is on each processor.
-fn first_arrivals(mem: &[u64], delays: &[u16; 256], a: usize, volume: u16) -> [u32; 16]
-    requires { ⌜ SomeJobHeld (now mem) × DelayTable (now delays) (now mem) × RowHeld a (now mem) × (rowEnd a ≤ length (now mem)) × (volume ≤ document01 .volume) × FirstShort a (now mem) ⌝ }
-    ensures { λ r. ⌜ (length r ≡ 16) × ((p : ℕ) → p < nth (now (mem .entry)) 1 → shortIn (nth r p) ≡ arrivalIn false volume p a (now (mem .entry))) ⌝ }
+// For each processor the later of its time and of the arrival of the first data of a predecessor whose line is at `a`.
+fn first_arrivals(mem: &[u64], delays: &[u16; 256], a: usize, volume: u16, high: &mut [u32; 16])
+    requires { ⌜ SomeJobHeld document01 (now mem) × DelayTable document01 (now delays) (now mem) × RowHeld document01 a (now mem) × (rowEnd a ≤ length (now mem))
+        × (volume ≤ document01 .volume) × FirstShort a (now mem) × ShortTable shortNever (now mem) (now high) ⌝ }
+    ensures { λ _. ⌜ Raised false shortNever volume a (now (mem .entry)) (now (high .entry)) (now (high .exit)) ⌝ }
 {
     let w = mem[3] as usize + 1;
     let mut low = [SHORT_NEVER; 16];
@@ -85,7 +77,7 @@ fn first_arrivals(mem: &[u64], delays: &[u16; 256], a: usize, volume: u16) -> [u
         }
         c += 1;
     }
-    low
+    lanes::raise(high, &low);
 }
 
 // When all data of t is on each processor, by the first replicas.
@@ -96,26 +88,29 @@ pub fn first_data(
     delays: &[u16; 256],
     t: usize,
 ) -> [u64; 16]
-    requires { ⌜ ((k : ℕ) × LinesHeld capacity k (now mem)) × LinksHeld (now mem) (now links) × DelayTable (now delays) (now mem) × (t < nth (now mem) 0) × FirstSupplied capacity t (now mem) ⌝ }
-    ensures { λ r. ⌜ (length r ≡ 16) × ((p : ℕ) → p < nth (now (mem .entry)) 1 → (timeIn (nth r p) ≡ dataIn capacity false t p (now (mem .entry))) × Small 5000000000 (nth r p)) ⌝ }
+    requires { ⌜ ((k : ℕ) × LinesHeld document01 capacity k (now mem)) × LinksHeld (now mem) (now links) × DelayTable document01 (now delays) (now mem)
+        × (t < nth (now mem) 0) × FirstSupplied capacity t (now mem) ⌝ }
+    ensures { λ r. ⌜ (length r ≡ lanesMost) × ((p : ℕ) → p < nth (now (mem .entry)) 1 → (timeIn (nth r p) ≡ dataIn capacity false t p (now (mem .entry))) × Small shortNever (nth r p)) ⌝ }
 {
     let span = orders::entering(links, mem[0] as usize, t);
     let mut high = [0u32; 16];
     for k in span.start..span.end {
         let e = walk::entering(mem, capacity, links[k]);
-        let low = first_arrivals(mem, delays, e.row, e.volume);
-        lanes::raise(&mut high, &low);
+        first_arrivals(mem, delays, e.row, e.volume, &mut high);
     }
     lanes::widened(&high)
 }
 
 // The finish of what is ready, and has its data, at these times, and then runs for n ticks.
 pub fn finish_of(ready: u64, supplied: u64, n: u64) -> u64
-    requires { ⌜ Small 4294967295 ready × Small 5000000000 supplied × (n ≤ document01 .runTime) ⌝ }
-    ensures { λ r. ⌜ (timeIn r ≡ after n (later (timeIn ready) (timeIn supplied))) × Small 6000000000 r ⌝ }
+    requires { ⌜ Small shortNever ready × Small shortNever supplied × (n ≤ document01 .runTime) ⌝ }
+    ensures { λ r. ⌜ (timeIn r ≡ after n (later (timeIn ready) (timeIn supplied))) × Small (shortNever + document01 .runTime) r ⌝ }
 {
     let start = chosen_of(true, ready, supplied);
-    put_off(start, n)
+    if start == NEVER {
+        return NEVER;
+    }
+    start + n
 }
 
 // For each processor the later of its tick and of the arrival of the data of a predecessor whose line is at `a`, by its first
@@ -128,9 +123,11 @@ fn both_arrivals(
     early: &mut [u32; 16],
     late: &mut [u32; 16],
 )
-    requires { ⌜ SomeJobHeld (now mem) × DelayTable (now delays) (now mem) × RowHeld a (now mem) × (rowEnd a ≤ length (now mem)) × (volume ≤ document01 .volume) × BothShort a (now mem)
-        × (length (now early) ≡ 16) × (length (now late) ≡ 16) ⌝ }
-    ensures { λ _. ⌜ BothRaised volume a (now (mem .entry)) (now (early .entry)) (now (early .exit)) (now (late .entry)) (now (late .exit)) ⌝ }
+    requires { ⌜ SomeJobHeld document01 (now mem) × DelayTable document01 (now delays) (now mem) × RowHeld document01 a (now mem) × (rowEnd a ≤ length (now mem))
+        × (volume ≤ document01 .volume) × BothShort a (now mem)
+        × ShortTable (lastArrival document01) (now mem) (now early) × ShortTable (lastArrival document01) (now mem) (now late) ⌝ }
+    ensures { λ _. ⌜ Raised false (lastArrival document01) volume a (now (mem .entry)) (now (early .entry)) (now (early .exit))
+        × Raised true (lastArrival document01) volume a (now (mem .entry)) (now (late .entry)) (now (late .exit)) ⌝ }
 {
     let w = mem[3] as usize + 1;
     let mut low = [SHORT_NEVER; 16];
@@ -153,8 +150,10 @@ fn both_arrivals(
 
 // When all data of t is on each processor, by the first replicas and by the last.
 fn both_data(mem: &[u64], links: &[u64], capacity: usize, delays: &[u16; 256], t: usize) -> Both
-    requires { ⌜ ((k : ℕ) × LinesHeld capacity k (now mem)) × LinksHeld (now mem) (now links) × DelayTable (now delays) (now mem) × (t < nth (now mem) 0) × BothSupplied capacity t (now mem) ⌝ }
-    ensures { λ r. ⌜ BothReady capacity t (now (mem .entry)) (r .early) (r .late) ⌝ }
+    requires { ⌜ ((k : ℕ) × LinesHeld document01 capacity k (now mem)) × LinksHeld (now mem) (now links) × DelayTable document01 (now delays) (now mem)
+        × (t < nth (now mem) 0) × BothSupplied capacity t (now mem) ⌝ }
+    ensures { λ r. ⌜ Supplied capacity false (lastArrival document01) t (now (mem .entry)) (r .early)
+        × Supplied capacity true (lastArrival document01) t (now (mem .entry)) (r .late) ⌝ }
 {
     let span = orders::entering(links, mem[0] as usize, t);
     let mut early = [0u32; 16];
@@ -167,9 +166,9 @@ fn both_data(mem: &[u64], links: &[u64], capacity: usize, delays: &[u16; 256], t
 }
 
 // The run times of t, one for each processor of the job.
-pub fn run_times(mem: &[u64], t: usize) -> [u32; 16]
-    requires { ⌜ SomeJobHeld (now mem) × (t < nth (now mem) 0) ⌝ }
-    ensures { λ r. ⌜ RunsOf t (now (mem .entry)) r ⌝ }
+fn run_times(mem: &[u64], t: usize) -> [u32; 16]
+    requires { ⌜ SomeJobHeld document01 (now mem) × (t < nth (now mem) 0) ⌝ }
+    ensures { λ r. ⌜ RunsOf document01 t (now (mem .entry)) r ⌝ }
 {
     let m = mem[1] as usize;
     let mut runs = [0u32; 16];
@@ -190,7 +189,8 @@ pub fn finishes(
     t: usize,
     clocks: Clocks,
 ) -> Both
-    requires { ⌜ ((k : ℕ) × LinesHeld capacity k (now mem)) × DelayTable (now delays) (now mem) × (t < nth (now mem) 0) × BothSupplied capacity t (now mem) × ShortClocks clocks (now mem)
+    requires { ⌜ ((k : ℕ) × LinesHeld document01 capacity k (now mem)) × DelayTable document01 (now delays) (now mem)
+        × (t < nth (now mem) 0) × BothSupplied capacity t (now mem) × ShortClocks clocks (now mem)
         × LinksHeld (now mem) (now links) ⌝ }
     ensures { λ r. ⌜ BothFinish capacity t clocks (now (mem .entry)) (r .early) (r .late) ⌝ }
 {

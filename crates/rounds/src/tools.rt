@@ -12,7 +12,8 @@ ghost use Rattle.jobs.specs.Held.{jobIn, JobHeld, LinksHeld};
 ghost use Rattle.jobs.specs.Answers.{Answered};
 ghost use Rattle.plans.specs.Lines.{LinesHeld};
 ghost use Rattle.plans.specs.Loading.{planIn, PlanHeld};
-ghost use Rattle.rounds.specs.Replaying.{outcomesIn, RisingIn, replayIn};
+ghost use Rattle.rounds.specs.Replaying.{outcomesIn, RisingIn};
+ghost use Rattle.rounds.specs.Tools.{replayOf};
 use crate::makespans;
 use crate::plan_text;
 use crate::planner;
@@ -22,13 +23,14 @@ use heads::layout::LOWER;
 use heads::layout::UPPER;
 use jobs::Answer;
 use text::Step;
+use text::limits::TEXT_LENGTH;
 
 // The plan in memory, which fits a text, fits an output of this size.
 fn plan_fits(mem: &[u64], capacity: usize, room: usize) -> bool
-    requires { ⌜ JobHeld capacity (now mem) × (length (planText document01 (jobIn (now mem)) (planIn capacity (now mem))) ≤ 65536) ⌝ }
+    requires { ⌜ JobHeld document01 capacity (now mem) × (length (planText document01 (jobIn (now mem)) (planIn capacity (now mem))) ≤ document01 .textLength) ⌝ }
     ensures { λ r. ⌜ r ≡ leb (length (planText document01 (jobIn (now (mem .entry))) (planIn capacity (now (mem .entry))))) room ⌝ }
 {
-    if room >= 65536 {
+    if room >= TEXT_LENGTH {
         return true;
     }
     let mut none = [0u8; 0];
@@ -37,7 +39,7 @@ fn plan_fits(mem: &[u64], capacity: usize, room: usize) -> bool
 
 // Draws up the plan of the job in memory, and writes it into `out`, if it fits.
 pub fn put_plan(mem: &mut [u64], links: &[u64], capacity: usize, out: &mut [u8]) -> Answer
-    requires { ⌜ JobHeld capacity (now mem) × LinksHeld (now mem) (now links) ⌝ }
+    requires { ⌜ JobHeld document01 capacity (now mem) × LinksHeld (now mem) (now links) ⌝ }
     ensures { λ r. do ⌜ Answered (fitting (← ⟦out.len()⟧ .entry) (planned document01 (jobIn (now (mem .entry))))) (now (out .entry)) (now (out .exit)) r ⌝ }
 {
     let lower_at = LOWER * capacity;
@@ -55,7 +57,7 @@ pub fn put_plan(mem: &mut [u64], links: &[u64], capacity: usize, out: &mut [u8])
 
 // The replay's answer fits an output of this size; the longest has 5,113 bytes.
 fn replay_fits(mem: &[u64], links: &[u64], capacity: usize, room: usize) -> bool
-    requires { ⌜ LinesHeld capacity (nth (now mem) 0) (now mem) × RisingIn capacity (now mem) × LinksHeld (now mem) (now links) ⌝ }
+    requires { ⌜ LinesHeld document01 capacity (nth (now mem) 0) (now mem) × RisingIn capacity (now mem) × LinksHeld (now mem) (now links) ⌝ }
     ensures { λ r. ⌜ r ≡ leb (length (replayText document01 (jobIn (now (mem .entry))) (outcomesIn capacity (now (mem .entry))))) room ⌝ }
 {
     if room >= 5113 {
@@ -73,8 +75,10 @@ pub fn put_replay(
     capacity: usize,
     out: &mut [u8],
 ) -> Answer
-    requires { ⌜ PlanHeld capacity (now mem) × LinksHeld (now mem) (now links) ⌝ }
-    ensures { λ r. do ⌜ Answered (replayIn capacity (now (mem .entry)) (now (stops .entry)) (← ⟦out.len()⟧ .entry)) (now (out .entry)) (now (out .exit)) r ⌝ }
+    requires { ⌜ PlanHeld document01 capacity (now mem) × LinksHeld (now mem) (now links) ⌝ }
+    ensures { λ r. do
+      ⌜ Answered (replayOf document01 (now (stops .entry)) (← ⟦out.len()⟧ .entry) (jobIn (now (mem .entry)), planIn capacity (now (mem .entry))))
+          (now (out .entry)) (now (out .exit)) r ⌝ }
 {
     let mut cells = [0u64; 16];
     let m = mem[1];

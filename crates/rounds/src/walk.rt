@@ -1,5 +1,6 @@
 // Where a task's edges are read.
 ghost use mathlib.Core.Path.{_≡_};
+ghost use Rattle.definitions.specs.Limits.{document01};
 ghost use Rattle.orders.specs.Edges.{edgeIn};
 ghost use Rattle.jobs.specs.Held.{edgeAt, JobHeld, SomeJobHeld};
 ghost use Rattle.rounds.specs.Walks.{Feeds, Entered};
@@ -7,7 +8,7 @@ use crate::row;
 
 // Where the edges stand among the job's cells.
 pub fn edges_at(mem: &[u64]) -> usize
-    requires { ⌜ SomeJobHeld (now mem) ⌝ }
+    requires { ⌜ SomeJobHeld document01 (now mem) ⌝ }
     ensures { λ r. ⌜ r ≡ edgeAt (now (mem .entry)) 0 ⌝ }
 {
     let v = mem[0];
@@ -23,8 +24,8 @@ pub struct Inward {
 
 // The edge in a cell, which leaves a task that has a line.
 pub fn entering(mem: &[u64], capacity: usize, cell: u64) -> Inward
-    requires { ⌜ JobHeld capacity (now mem) × Feeds capacity (edgeIn cell) (now mem) ⌝ }
-    ensures { λ r. ⌜ Entered capacity (edgeIn cell) (now (mem .entry)) (r .row) (r .volume) ⌝ }
+    requires { ⌜ JobHeld document01 capacity (now mem) × Feeds document01 capacity (edgeIn cell) (now mem) ⌝ }
+    ensures { λ r. ⌜ Entered document01 capacity (edgeIn cell) (now (mem .entry)) (r .row) (r .volume) ⌝ }
 {
     Inward {
         row: row::row_of(mem, capacity, orders::edge_from(cell)),

@@ -1,5 +1,5 @@
 -- Rows of numbers in a memory, and the rules of C and D lines.
-use Rattle.lists.proofs.Prelude.{_≡_, refl, ap, sym, _∙_, List, [], _∷_, _++_, true, false, not, ℕ, zero, suc, _+_, _-_, _*_, _/_, _<_, _≤_, arith, add-one, suc-mul, ltb-true, le-leb, lt-leb, eq-eqb, ne-eqb, eqb, length, getD, take, drop, length-append, drop-of-length-le, drop-cons, take-take, nth, any, Limits, refused, firstOf, outside, runRule, delayRule}
+use Rattle.lists.proofs.Prelude.{_≡_, refl, ap, sym, _∙_, List, [], _∷_, _++_, true, false, not, ℕ, zero, suc, _+_, _-_, _*_, _/_, _<_, _≤_, arith, add-one, suc-mul, ltb-true, le-leb, lt-leb, eq-eqb, ne-eqb, eqb, length, take, drop, length-append, take-take, nth, any, Limits, refused, firstOf, runRule, delayRule}
 use native.Mathlib.Nat.{zero-add, suc-add, mul-le-mul-right, le-div-iff-mul-le, div-lt-iff-lt-mul}
 use borrow.Rule.Slice.PartMut.{putMid, take-put}
 use lib.Seq.{take-nil}
@@ -7,20 +7,6 @@ use Rattle.lists.proofs.Over.{drop-lent}
 use Rattle.rows.specs.Rows.{rows, ruleOf, strayOf, wide, rowLines, rowsInto}
 use Rattle.rows.specs.declared.Kind.{Kind}
 use Rattle.rows.specs.declared.Kind.the-variants.{Runs, Delays}
-
--- Numbers outside a range, from number i of a row on.
-module _ (low high : ℕ) (row : List ℕ) (i : ℕ) where
-  pub stray-here : i < length row → outside low high (getD row i 0) ≡ true → true ≡ any (outside low high) (drop i row)
-  unfolding any
-  stray-here h e = rw (drop-cons row i 0 h, e)
-
-  pub stray-next : i < length row → outside low high (getD row i 0) ≡ false → any (outside low high) (drop (i + 1) row) ≡ any (outside low high) (drop i row)
-  unfolding any
-  stray-next h e = rw (drop-cons row i 0 h, e, add-one)
-
-  pub stray-end : length row ≤ i → false ≡ any (outside low high) (drop i row)
-  unfolding any
-  stray-end h = rw (drop-of-length-le row h)
 
 -- The rules of row i, after the rows in `seen`.
 module _ (l : Limits) (seen : List (List ℕ)) (row : List ℕ) (i : ℕ) (n : length seen ≡ i) where
@@ -35,18 +21,19 @@ module _ (l : Limits) (seen : List (List ℕ)) (row : List ℕ) (i : ℕ) (n : l
     out-of-range Runs e = rw (n, t, ← e)
     out-of-range Delays e = rw (n, t, ← e)
 
-    pub run-good : false ≡ any (strayOf l Runs) (drop 1 row) → 0 ≡ ruleOf l Runs seen row
-    unfolding runRule firstOf
-    run-good e = rw (n, t, ← e)
+    module _ (kind : Kind) (e : false ≡ any (strayOf l kind) (drop 1 row)) where
+      pub run-good : kind ≡ Runs → 0 ≡ ruleOf l kind seen row
+      unfolding runRule firstOf
+      run-good k = let g = rw k at e in rw (k, n, t, ← g)
 
-    module _ (e : false ≡ any (strayOf l Delays) (drop 1 row)) where
-      pub delay-self : (nth row (i + 1) ≡ 0 → ⊥) → 5 ≡ ruleOf l Delays seen row
-      unfolding delayRule firstOf
-      delay-self h = let c : 1 + length seen ≡ i + 1 = omega arith in rw (c, n, t, ← e, ne-eqb (nth row (i + 1)) 0 h)
+      module _ (k : kind ≡ Delays) where
+        pub delay-self : (nth row (i + 1) ≡ 0 → ⊥) → 5 ≡ ruleOf l kind seen row
+        unfolding delayRule firstOf
+        delay-self h = let g = rw k at e in let c : 1 + length seen ≡ i + 1 = omega arith in rw (k, c, n, t, ← g, ne-eqb (nth row (i + 1)) 0 h)
 
-      pub delay-good : nth row (i + 1) ≡ 0 → 0 ≡ ruleOf l Delays seen row
-      unfolding delayRule firstOf
-      delay-good h = let c : 1 + length seen ≡ i + 1 = omega arith in rw (c, n, t, ← e, eq-eqb (nth row (i + 1)) 0 h)
+        pub delay-good : nth row (i + 1) ≡ 0 → 0 ≡ ruleOf l kind seen row
+        unfolding delayRule firstOf
+        delay-good h = let g = rw k at e in let c : 1 + length seen ≡ i + 1 = omega arith in rw (k, c, n, t, ← g, eq-eqb (nth row (i + 1)) 0 h)
 
 -- Rows that are wide enough for their kind.
 module _ (k n : ℕ) (kind : Kind) (h : wide kind k n ≡ true) where

@@ -1,5 +1,5 @@
 -- Stop lists: lines to the end of a text, the rule of a stop line, and stop ticks in cells.
-use Rattle.lists.proofs.Prelude.{_≡_, refl, sym, _∙_, _⊎_, inl, inr, ⊎-elim, List, [], _∷_, _++_, getLast?, none, some, Bool, true, false, ℕ, zero, suc, _+_, _-_, _*_, _<_, _≤_, arith, ltb-true, ltb-false, lt-ltb, le-ltb, lt-leb, le-leb, eq-eqb, ne-eqb, eqb, ltb, leb, length, set, take, drop, length-set, length-drop, drop-of-length-le, getD-take, getD-set-same, getD-set-other, if_then_else_, bytes, nth, Limits, Reader, found, refused, next, return, due, firstOf, isDigit, digits, number, exactly, mark, numbers, line, Result, ended, Job, Stop, readStops, tick, never, stopTime}
+use Rattle.lists.proofs.Prelude.{_≡_, refl, sym, _∙_, inl, inr, ⊎-elim, List, [], _∷_, _++_, getLast?, none, some, Bool, true, false, ℕ, zero, suc, _+_, _-_, _*_, _<_, _≤_, arith, ltb-true, ltb-false, lt-ltb, le-ltb, lt-leb, le-leb, eq-eqb, ne-eqb, eqb, ltb, leb, length, set, take, drop, length-set, length-drop, drop-of-length-le, getD-take, getD-set-same, getD-set-other, if_then_else_, bytes, nth, Limits, Reader, found, refused, next, return, due, firstOf, isDigit, digits, number, exactly, mark, numbers, line, Result, ended, Job, Stop, readStops, tick, never, stopTime}
 use mathlib.Core.Option.{Option}
 use Rattle.definitions.specs.Text.{linesToEnd}
 use Rattle.definitions.specs.Stops.{stopOf, notAfter, stopLine, stopRule}
@@ -13,7 +13,7 @@ use Rattle.text.specs.Suited.{Suited}
 use Rattle.stops.specs.Loading.{stopsFrom, stopLines, StopRuled, StopsLoaded}
 use Rattle.text.specs.Meaning.{ruled}
 use Rattle.lines.proofs.LineLaws.{ruled-bad, ruled-no, ruled-yes, ruled-then}
-use Rattle.lists.proofs.Counting.{equal-or-not, last-or-before}
+use Rattle.lists.proofs.Counting.{equal-or-not}
 
 -- What is left of a text after a line is shorter --------------------------------------------------------------------
 
@@ -101,8 +101,8 @@ not-after none s = sym (le-ltb (s .processor) 0 (omega arith))
 not-after (some q) s = by (ltb (s .processor) (1 + q .processor)) refl
   where
     by : (b : Bool) → ltb (s .processor) (1 + q .processor) ≡ b → leb (s .processor) (q .processor) ≡ b
-    by true e = le-leb (s .processor) (q .processor) (omega (arith, ltb-true (s .processor) (1 + q .processor) e))
-    by false e = lt-leb (s .processor) (q .processor) (omega (arith, ltb-false (s .processor) (1 + q .processor) e))
+    by true e = le-leb (s .processor) (q .processor) (omega (arith, ltb-true))
+    by false e = lt-leb (s .processor) (q .processor) (omega (arith, ltb-false))
 
 module _ (l : Limits) (j : Job) (seen : List Stop) (s : Stop) where
   pub stop-processor : j .processors ≤ s .processor → 3 ≡ stopRule l j seen s
@@ -153,16 +153,7 @@ pub record StopsUpTo (l : Limits) (s : List ℕ) (m p least : ℕ) (cells : List
 pub stops-none : (l : Limits) (s : List ℕ) (m : ℕ) (cells : List ℕ) → m ≤ length cells → ((q : ℕ) → q < length cells → nth cells q ≡ neverCell) → StopsUpTo l s m 0 0 cells
 unfolding stopTime
 stops-none l s m cells z h =
-    record {
-      seen = [];
-      left = length s;
-      enough = omega arith;
-      rest = λ j e. refl;
-      size = z;
-      next-least = refl;
-      times = λ q g. (rw (h q g), inl (h q g));
-      above = λ q g. refl;
-    }
+    record { seen = []; left = length s; enough = omega arith; rest = λ j e. refl; size = z; next-least = refl; times = λ q g. (rw (h q g), inl (h q g)); above = λ q g. refl }
 
 -- A stop line, with its numbers at the front of ys.
 stop-read : (l : Limits) (s ys r : List ℕ) → line l (bytes "S,") 2 s ≡ found (take 2 ys) r → stopLine l s ≡ found (stopOf ys) r
@@ -216,9 +207,7 @@ module _ {l : Limits} {s : List ℕ} {m p least : ℕ} {cells : List ℕ} (u : S
           → StopsUpTo l s m n (nth ys 0 + 1) (set cells (nth ys 0) (nth ys 1))
       stops-next i a t lo f =
           let k = nth ys 0 in
-          let here : k < length cells = omega (arith, a, u .size) in
           let z : length (set cells k (nth ys 1)) ≡ length cells = length-set cells k (nth ys 1) in
-          let no : nth ys 1 ≡ neverCell → ⊥ = λ w. omega (arith, w, t, i .tick-fits) in
           record {
             seen = u .seen ++ stopOf ys ∷ [];
             left = u .left - 1;
@@ -231,7 +220,8 @@ module _ {l : Limits} {s : List ℕ} {m p least : ℕ} {cells : List ℕ} (u : S
             next-least = rw (last-of (u .seen) (stopOf ys)) (omega arith);
             times = λ q g.
                 ⊎-elim
-                (λ (i : k ≡ q). rw (← i) (rw (getD-set-same cells k (nth ys 1) 0 here) (rw (ne-eqb (nth ys 1) neverCell no) (sym (stop-new (u .seen) (stopOf ys) k (u .above k lo) refl)), inr t)))
+                (λ (e : k ≡ q). rw (← e, getD-set-same cells k (nth ys 1) 0 (omega (arith, a, u .size)))
+                (rw (ne-eqb (nth ys 1) neverCell (λ w. omega (arith, w, t, i .tick-fits))) (sym (stop-new (u .seen) (stopOf ys) k (u .above k lo) refl)), inr t))
                 (λ (i : k ≡ q → ⊥). rw (getD-set-other cells k q (nth ys 1) 0 (λ w. i (sym w)), stop-other (u .seen) (stopOf ys) q i) (u .times q (omega (arith, z, g))))
                 (equal-or-not k q);
             above = λ q g. stop-other (u .seen) (stopOf ys) q (λ w. omega arith) ∙ u .above q (omega arith);
@@ -252,11 +242,3 @@ module _ (l : Limits) (size : ℕ) (s cells : List ℕ) (j : Job) where
         → StopsLoaded l (stopsFrom l size j s) cells r
     unfolding stopsFrom readStops
     stops-whole r h t = rw (le-ltb _ _ g, le-ltb _ _ h) t
-
--- One cell more is never.
-pub never-more : (cells : List ℕ) (i : ℕ) → i < length cells → ((q : ℕ) → q < i → nth cells q ≡ neverCell) → (q : ℕ) → q < i + 1 → nth (set cells i neverCell) q ≡ neverCell
-never-more cells i r h q g =
-    ⊎-elim
-    (λ (e : q ≡ i). rw e (getD-set-same cells i neverCell 0 r))
-    (λ b. getD-set-other cells i q neverCell 0 (λ e. omega arith) ∙ h q b)
-    (last-or-before i q (omega arith))

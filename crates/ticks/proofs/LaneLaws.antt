@@ -58,11 +58,9 @@ total-more cells q x y h e f =
     let s : sum (take (q + 1) cells) ≡ sum (take q cells) + nth cells q = rw (add-one q, take-suc cells q 0 h) (sum-last (take q cells) (nth cells q)) in
     omega (arith, s, e, f)
 
--- Below the bounds nothing wraps.
-pub arrives-short : (x volume delay : ℕ) → x ≤ 4200000000 → volume ≤ 4095 → delay ≤ 255 → arrives x volume delay ≡ x + volume * delay
-arrives-short x volume delay h g l =
-    let m : volume * delay ≤ 1044225 = mul-le-mul {n₁ = volume} {m₁ = delay} {n₂ = 4095} {m₂ = 255} g l in
-    omega (arith, h, m)
+-- What fits 32 bits does not wrap.
+pub arrives-short : (x volume delay : ℕ) → x + volume * delay < 2 ^ 32 → arrives x volume delay ≡ x + volume * delay
+arrives-short x volume delay h = omega (arith, h)
 
-pub finishes-short : (x y n : ℕ) → x ≤ 4200000000 → y ≤ 4201044225 → n ≤ 1000000 → finishes x y n ≡ max x y + n
-finishes-short x y n h g l = omega arith
+pub finishes-short : (x y n : ℕ) → max x y + n < 2 ^ 32 → finishes x y n ≡ max x y + n
+finishes-short x y n h = omega (arith, h)

@@ -11,8 +11,7 @@ tests : (c : tie.After-outside4) (b : Bool)
 tests c b e = rw (c .before .before .before .outside .ensures, c .before .before .outside2 .ensures, c .before .outside3 .ensures, c .outside4 .ensures) at e
 
 pub head-rule-spec : {M : Type 1} → statement M
-head-rule-spec =
-    tie.close (tie.spec
+head-rule-spec = tie.close (tie.spec
     (λ c κs. search needs) (λ c κs. search needs) (λ c κs. search needs) (λ c κs. search needs)
     (λ c. head-astray _ _ (tests (c .before) _ (c .if1 .taken)))
     (λ c. omega (arith, few-losses document01 (headOf (c .before .before .before .before .before .before .args .head)) (tests (c .before .before) _ (c .before .if1 .left))))

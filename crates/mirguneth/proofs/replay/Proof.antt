@@ -6,11 +6,8 @@ use Rattle.mirguneth.proofs.replay.Tie as tie
 
 returns : tie.Need-returns
 returns c =
-    let args = c .before .before .before .before .before .before .before .before .before .args in
-    let answer = c .before .before .before .answer in (
-      replay-page (args .job .now) (answer .result) (args .out .now) _ (c .answer-of .result) (c .answer-of .ensures) (args .plan .now) (args .stops .now) (answer .ensures),
-      bears (args .job .now) (args .plan .now) (args .stops .now),
-    )
+    let out = c .before .before .before .before .before .before .before .before .before .args .out .now in
+    (replay-page _ _ out _ _ (c .answer-of .ensures) _ _ (c .before .before .before .answer .ensures), bears _ _ _)
 
 pub replay-spec : {M : Type 1} → statement M
 replay-spec = tie.close (tie.spec

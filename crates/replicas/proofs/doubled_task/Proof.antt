@@ -1,4 +1,4 @@
-use Rattle.lists.proofs.Prelude.{needs, _≡_, sym, ap, _∙_, le-leb, lt-leb}
+use Rattle.lists.proofs.Prelude.{needs, le-leb, lt-leb}
 use Rattle.replicas.proofs.doubled_task.Statement.{statement}
 use Rattle.replicas.proofs.doubled_task.Tie as tie
 

@@ -1,4 +1,4 @@
-use Rattle.lists.proofs.Prelude.{needs, _≡_, refl, sym, ap, _∙_, ⊎-elim, ℕ, _≤_, _-_, arith, length}
+use Rattle.lists.proofs.Prelude.{needs, _≡_, sym, _∙_, ⊎-elim, _≤_, _-_, arith, length}
 use Rattle.replicas.specs.Cells.{replicasOf, leastEarly, leastOn}
 use Rattle.replicas.proofs.TwiceLaws.{least-none, least-sooner, least-stays}
 use Rattle.replicas.proofs.first_finish.Statement.{statement}
@@ -22,7 +22,7 @@ loop-again c =
 returns : tie.Need-returns Inv-loop μ-loop
 returns c =
     let e : c .before .loop .c ≡ replicasOf (length (c .before .before .args .cells .now)) = omega (arith, c .before .loop .inv .0, c .loop-test .left) in
-    (c .before .loop .inv .1 ∙ ap (λ (i : ℕ). leastEarly i (c .before .before .args .cells .now)) e, c .before .loop .inv .2 ∙ ap (λ (i : ℕ). leastOn i (c .before .before .args .cells .now)) e)
+    (rw e at (c .before .loop .inv .1), rw e at (c .before .loop .inv .2))
 
 pub first-finish-spec : {M : Type 1} → statement M
 first-finish-spec = tie.close (tie.spec

@@ -1,23 +1,19 @@
 -- The plan stands in the memory, if neither it nor the job was refused.
-use Rattle.lists.proofs.Prelude.{needs, length, drop}
+use Rattle.lists.proofs.Prelude.{refl, needs, length, drop, document01}
 use Rattle.heads.specs.Heads.{headOf}
 use Rattle.jobs.specs.Loading.{jobFrom}
 use Rattle.plans.specs.Loading.{withPlan}
-use Rattle.plans.proofs.JobAndPlan.{both-held}
-use Rattle.rounds.proofs.ReplayLaws.{replay-refused, replay-put}
+use Rattle.plans.proofs.JobAndPlan.{both-no, both-next, both-held}
 use Rattle.rounds.proofs.replay_in.Statement.{statement}
 use Rattle.rounds.proofs.replay_in.Tie as tie
-
-enum-told : tie.Need-enum-told
-enum-told c = search needs
 
 put-replay-requires : tie.Need-put-replay-requires
 put-replay-requires c κs =
     let l = c .before .before .before .before .before .before .before .before .before .load-both in
     let enum-told = c .before .before .before .enum-told in
     let a = c .before .before .before .before .before .before .before .before .before .before .before .before .before .before .before .before .before .before .args in
-    let x = jobFrom (a .capacity) (length (a .mem .now)) (length (a .links .now)) (headOf (a .head)) (drop (a .at) (a .job .now)) in
-    both-held (a .capacity) x (a .plan .now) (l .last .1 .1 .1 .1 .0) (l .last .1 .1 .1 .1 .1 .0) _ (rw (enum-told .given .1) at (l .ensures))
+    let x = jobFrom document01 (a .capacity) (length (a .mem .now)) (length (a .links .now)) (headOf (a .head)) (drop (a .at) (a .job .now)) in
+    both-held document01 (a .capacity) x (a .plan .now) (l .last .1 .1 .1 .1 .0) (l .last .1 .1 .1 .1 .1 .0) _ (rw (enum-told .given .1) at (l .ensures))
 
 returns : tie.Need-returns
 returns c =
@@ -26,18 +22,17 @@ returns c =
     let p = c .before .before .before .before .put-replay in
     let here = c .before .before .before .before .before .before .before .before .before .before .before in
     let a = here .before .before .before .before .before .before .before .before .before .before .before .before .args in
-    let x = withPlan (jobFrom (a .capacity) (length (a .mem .now)) (length (a .links .now)) (headOf (a .head)) (drop (a .at) (a .job .now))) (a .plan .now) in
-    replay-put (a .capacity) x (l .last .1 .1 .1 .1 .0) (l .last .1 .1 .1 .1 .1 .0) (a .stops .now) (a .out .now) _ (rw (enum-told .given .1) at (l .ensures))
-    (p .last .1 .1 .1 .1 .0) (p .result) (p .ensures)
+    let x = withPlan document01 (jobFrom document01 (a .capacity) (length (a .mem .now)) (length (a .links .now)) (headOf (a .head)) (drop (a .at) (a .job .now))) (a .plan .now) in
+    rw (both-next document01 (a .capacity) (l .last .1 .1 .1 .1 .0) (l .last .1 .1 .1 .1 .1 .0) _ x (rw (enum-told .given .1) at (l .ensures)) .0) (p .ensures)
 
 returns-2 : tie.Need-returns-2
 returns-2 c =
     let l = c .before .before .before .before .before .before .before .load-both in
     let a = c .before .before .before .before .before .before .before .before .before .before .before .before .before .before .before .before .args in
-    let x = withPlan (jobFrom (a .capacity) (length (a .mem .now)) (length (a .links .now)) (headOf (a .head)) (drop (a .at) (a .job .now))) (a .plan .now) in
-    replay-refused (a .capacity) x (l .last .1 .1 .1 .1 .0) (l .last .1 .1 .1 .1 .1 .0) (a .stops .now) (a .out .now) _ (rw (c .before .x .given .1) at (l .ensures))
+    let x = withPlan document01 (jobFrom document01 (a .capacity) (length (a .mem .now)) (length (a .links .now)) (headOf (a .head)) (drop (a .at) (a .job .now))) (a .plan .now) in
+    rw (both-no document01 (a .capacity) (l .last .1 .1 .1 .1 .0) (l .last .1 .1 .1 .1 .1 .0) _ x (rw (c .before .x .given .1) at (l .ensures))) (refl, refl)
 
 pub replay-in-spec : {M : Type 1} → statement M
 replay-in-spec = tie.close (tie.spec
-    (λ c κs. search needs) enum-told put-replay-requires (λ c. search needs) (λ c. search needs) (λ c. search needs) (λ c. search needs) returns
+    (λ c κs. search needs) (λ c. search needs) put-replay-requires (λ c. search needs) (λ c. search needs) (λ c. search needs) (λ c. search needs) returns
     (λ c. search needs) (λ c. search needs) returns-2)

@@ -22,7 +22,6 @@ returns-2 c =
     (rw (c .before .cell-of .ensures, e) at (c .check-order .ensures) ∙ sym (edge-order document01 (a .v) edge h _), λ _. w)
 
 pub check-edge-spec : {M : Type 1} → statement M
-check-edge-spec =
-    tie.close (tie.spec
+check-edge-spec = tie.close (tie.spec
     (λ c κs. search needs) (λ c. (edge-astray _ _ _ (rw (c .before .outside .ensures) at (c .if1 .taken)) _, λ e. omega arith)) cell-of-requires
     (λ c κs. search needs) returns-2)

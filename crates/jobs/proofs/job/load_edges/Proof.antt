@@ -1,115 +1,64 @@
 -- The edges' cells stand after those of the C and D lines, and are linked.
-use Rattle.lists.proofs.Prelude.{needs, refl, sym, ap, _∙_, map, arith, length, take, drop, length-take, nth, jobHeadOf}
+use Rattle.lists.proofs.Prelude.{needs, _≡_, refl, sym, ap, _∙_, List, [], map, ℕ, arith, length, take, drop, length-take, nth, document01, found, lines, Edge, edgeLine, edgeRule, jobHeadOf}
 use Rattle.text.specs.Meaning.{stepReading}
 use Rattle.orders.specs.Edges.{edgeIn}
 use Rattle.orders.proofs.PairLaws.{linkable-made}
 use Rattle.jobs.proofs.CellLaws.{cells-of, rows-most, edges-read, edges-fit, edges-part, edges-in}
-use Rattle.jobs.proofs.StageLaws.{edges-within, edges-ascend, edges-no, edges-closed}
+use Rattle.jobs.proofs.StageLaws.{edges-within, lines-ascend, edges-no, edges-closed}
 use Rattle.jobs.proofs.job.load_edges.Statement.{statement}
 use Rattle.jobs.proofs.job.load_edges.Tie as tie
 
-add-a : tie.Need-add-a
-add-a c =
-    let pre = c .before .before .before .before .before .before .pre in
-    omega (arith, pre .tasks-most, pre .processors-most)
+-- The E lines were read: the memory before, what stands behind the C and D lines' cells, and the edges.
+abbrev start : tie.After-p → tie.Start
+start w = w .before .before .before .before .before .before .before .before .before .before .before .before
 
-mul-a : tie.Need-mul-a
-mul-a c =
-    let args = c .before .before .before .before .before .before .args in
-    let pre = c .before .before .before .before .before .before .pre in
-    omega (arith, rows-most (args .mem .now) (pre))
+abbrev held : tie.After-p → List ℕ
+held w = w .before .before .before .before .read-edges .last .1 .1 .1 .1 .0
 
-add-a-3 : tie.Need-add-a-3
-add-a-3 c =
-    let args = c .before .before .before .before .before .before .args in
-    let pre = c .before .before .before .before .before .before .pre in
-    omega (arith, rows-most (args .mem .now) (pre))
+abbrev edges : tie.After-p → List Edge
+edges w = map edgeIn (take (nth (start w .args .mem .now) 2) (held w))
 
-mul-read-edges : tie.Need-mul-read-edges
-mul-read-edges c =
-    let args = c .before .before .before .before .before .before .args in
-    let pre = c .before .before .before .before .before .before .pre in
-    omega (arith, rows-most (args .mem .now) (pre))
-
-sub-read-edges : tie.Need-sub-read-edges
-sub-read-edges c =
-    let args = c .before .before .before .before .before .before .args in
-    let pre = c .before .before .before .before .before .before .pre in
-    omega (arith, rows-most (args .mem .now) (pre), pre .room)
-
-part-read-edges-start : tie.Need-part-read-edges-start
-part-read-edges-start c =
-    let args = c .before .before .before .before .before .before .args in
-    let pre = c .before .before .before .before .before .before .pre in
-    omega (arith, rows-most (args .mem .now) (pre), pre .room)
-
-add-end : tie.Need-add-end
-add-end c =
-    let args = c .before .before .before .before .before .before .before .before .before .before .before .before .before .args in
-    let pre = c .before .before .before .before .before .before .before .before .before .before .before .before .before .pre in
-    omega (arith, rows-most (args .mem .now) (pre), pre .edges-most)
-
-mul-close : tie.Need-mul-close
-mul-close c =
-    let args = c .before .before .before .before .before .before .before .before .before .before .before .before .before .args in
-    let pre = c .before .before .before .before .before .before .before .before .before .before .before .before .before .pre in
-    omega (arith, rows-most (args .mem .now) (pre))
-
-part-close-end : tie.Need-part-close-end
-part-close-end c =
-    let args = c .before .before .before .before .before .before .before .before .before .before .before .before .before .before .args in
-    let pre = c .before .before .before .before .before .before .before .before .before .before .before .before .before .before .pre in
-    let read-edges = c .before .before .before .before .before .before .read-edges in
-    edges-fit (args .mem .now) _ (read-edges .last .1 .1 .1 .1 .0) (pre) refl (read-edges .kept .1 .1 .1 .1 .0)
+read : (w : tie.After-p) → lines (edgeLine document01) (edgeRule document01 (nth (start w .args .mem .now) 0)) (nth (start w .args .mem .now) 2) [] (drop (start w .args .at) (start w .args .s .now))
+    ≡ found (edges w) (drop (w .p .given .0 .0) (start w .args .s .now))
+read w = sym (w .before .before .before .before .read-edges .ensures ∙ edges-read _ (start w .pre) _) ∙ ap (stepReading _ (edges w)) (w .p .given .1)
 
 close-requires : tie.Need-close-requires
 close-requires c κs =
-    let p = c .before .before .before .before .p in
-    let args = c .before .before .before .before .before .before .before .before .before .before .before .before .before .before .before .before .args in
-    let w = c .before .before .before .before .before .before .before .before .before .before .before .before .before .before .before .before .pre in
-    let read = c .before .before .before .before .before .before .before .before .read-edges in
-    let s = args .s .now in
-    let d = args .mem .now in
-    let ys = read .last .1 .1 .1 .1 .0 in
-    let es = map edgeIn (take (nth d 2) ys) in
-    let f = sym (read .ensures ∙ edges-read d w (drop (args .at) s)) ∙ ap (stepReading s es) (p .given .1) in
-    rw (edges-part d _ ys w refl (read .kept .1 .1 .1 .1 .0))
-    (linkable-made (nth d 0) (take (nth d 2) ys) (length (args .links .now)) (omega (arith, length-take (nth d 2) ys, w .links-room))
-    (edges-within (nth d 0) (nth d 2) _ es _ f) (edges-ascend (nth d 0) (nth d 2) _ es _ f))
+    let w = c .before .before .before .before in
+    let d = start w .args .mem .now in
+    rw (edges-part d _ (held w) (start w .pre) refl (w .before .before .before .before .read-edges .kept .1 .1 .1 .1 .0))
+    (linkable-made _ _ (length (start w .args .links .now)) (omega (arith, length-take (nth d 2) (held w), start w .pre .links-room))
+    (edges-within _ _ _ _ (edges w) _ (read w)) (lines-ascend _ _ _ _ (edges w) _ (read w)))
 
 returns : tie.Need-returns
 returns c runs delays q =
-    let p = c .before .before .before .before .before .before .before .p in
-    let args = c .before .before .before .before .before .before .before .before .before .before .before .before .before .before .before .before .before .before .before .args in
-    let w = c .before .before .before .before .before .before .before .before .before .before .before .before .before .before .before .before .before .before .before .pre in
-    let read = c .before .before .before .before .before .before .before .before .before .before .before .read-edges in
-    let close = c .before .before .close .ensures in
-    let s = args .s .now in
-    let d = args .mem .now in
-    let ys = read .last .1 .1 .1 .1 .0 in
-    let l = read .kept .1 .1 .1 .1 .0 in
-    let es = map edgeIn (take (nth d 2) ys) in
-    let part = edges-part d _ ys w refl l in
-    let e = rw part at (close .0) in
-    let k = rw part at (close .1) in
+    let w = c .before .before .before .before .before .before .before in
+    let d = start w .args .mem .now in
+    let l = w .before .before .before .before .read-edges .kept .1 .1 .1 .1 .0 in
+    let part = edges-part d _ (held w) (start w .pre) refl l in
+    let e = rw part at (c .before .before .close .ensures .0) in
+    let k = rw part at (c .before .before .close .ensures .1) in
     rw e
-    (edges-closed (jobHeadOf d) runs delays (drop (args .at) s) _ _ es s (p .given .0 .0) (sym (read .ensures ∙ edges-read d w (drop (args .at) s)) ∙ ap (stepReading s es) (p .given .1))
-    _ (edges-fit d _ ys w refl l) (edges-in d _ ys w refl l runs delays q) (λ z. rw (cells-of (take (nth d 2) ys)) (k (e ∙ z))))
+    (edges-closed _ (jobHeadOf d) runs delays _ _ _ (edges w) _ (w .p .given .0 .0) (read w) _ (edges-fit d _ (held w) (start w .pre) refl l)
+    (edges-in d _ (held w) (start w .pre) refl l runs delays q) (λ z. rw (cells-of (take (nth d 2) (held w))) (k (e ∙ z))))
 
 returns-2 : tie.Need-returns-2
 returns-2 c runs delays q =
-    let pre = c .before .before .before .before .before .before .before .before .before .before .before .before .before .pre in
-    let args = c .before .before .before .before .before .before .before .before .before .before .before .before .before .args in
+    let s = c .before .before .before .before .before .before .before .before .before .before .before .before .before in
     let read = c .before .before .before .before .before .read-edges in
-    let s = args .s .now in
-    let d = args .mem .now in
-    let es = map edgeIn (take (nth d 2) (read .last .1 .1 .1 .1 .0)) in
-    edges-no (jobHeadOf d) runs delays (drop (args .at) s) _ _ _ (sym (read .ensures ∙ edges-read d (pre) (drop (args .at) s)) ∙ ap (stepReading s es) (c .before .n .given .1))
+    edges-no _ (jobHeadOf (s .args .mem .now)) runs delays _ _ _ _ (sym (read .ensures ∙ edges-read _ (s .pre) _) ∙ ap (stepReading _ _) (c .before .n .given .1))
+
+abbrev begun : tie.After-slice-known5 → tie.Start
+begun c = c .before .before .before .before .before .before
 
 pub load-edges-spec : {M : Type 1} → statement M
 load-edges-spec = tie.close (tie.spec
     (λ c. omega (arith, c .before .before .before .before .pre .room)) (λ c. omega (arith, c .before .before .before .before .before .pre .room))
-    (λ c. omega (arith, c .before .before .before .before .before .before .pre .room)) add-a
-    (λ c. omega (arith, c .before .before .before .before .before .before .pre .processors-most)) mul-a add-a-3 mul-read-edges sub-read-edges
-    part-read-edges-start (λ c. search needs) (λ c κs. search needs) (λ c. search needs) add-end mul-close (λ c. search needs) (λ c. search needs)
-    part-close-end close-requires (λ c. search needs) (λ c. search needs) (λ c. search needs) returns (λ c. search needs) returns-2)
+    (λ c. omega (arith, begun c .pre .room)) (λ c. omega (arith, begun c .pre .tasks-most, begun c .pre .processors-most))
+    (λ c. omega (arith, begun c .pre .processors-most)) (λ c. omega (arith, rows-most (begun c .pre))) (λ c. omega (arith, rows-most (begun c .pre)))
+    (λ c. omega (arith, rows-most (begun c .pre))) (λ c. omega (arith, rows-most (begun c .pre), begun c .pre .room))
+    (λ c. omega (arith, rows-most (begun c .pre), begun c .pre .room)) (λ c. search needs) (λ c κs. search needs) (λ c. search needs)
+    (λ c. omega (arith, rows-most (start (c .before) .pre), start (c .before) .pre .edges-most))
+    (λ c. omega (arith, rows-most (start (c .before) .pre))) (λ c. search needs) (λ c. search needs)
+    (λ c. edges-fit _ _ (held (c .before .before)) (start (c .before .before) .pre) refl (c .before .before .before .before .before .before .read-edges .kept .1 .1 .1 .1 .0))
+    close-requires (λ c. search needs) (λ c. search needs) (λ c. search needs) returns (λ c. search needs) returns-2)

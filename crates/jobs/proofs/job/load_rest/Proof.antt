@@ -17,9 +17,8 @@ returns c =
     let args = c .before .before .before .before .before .before .before .before .before .before .before .before .before .before .args in
     let put-head = c .before .before .before .before .before .before .before .before .before .put-head in
     let load-runs = c .before .before .before .before .load-runs in
-    runs-as _ (headOf (args .head)) _ _ _ _ (put-head .ensures) (load-runs .ensures)
+    runs-as _ _ (headOf (args .head)) _ _ _ _ (put-head .ensures) (load-runs .ensures)
 
 pub load-rest-spec : {M : Type 1} → statement M
-load-rest-spec =
-    tie.close (tie.spec
+load-rest-spec = tie.close (tie.spec
     (λ c κs. omega (arith, c .before .before .before .before .pre .1)) load-runs-requires (λ c. search needs) (λ c. search needs) returns)

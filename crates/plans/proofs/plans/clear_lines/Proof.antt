@@ -2,7 +2,7 @@ use Rattle.lists.proofs.Prelude.{_≡_, refl, ℕ, _≤_, _<_, _-_, _+_, _*_, a
 use Rattle.heads.specs.Layout.{lineAt, blockedAt}
 use Rattle.lists.specs.Kept.{KeptOutside}
 use Rattle.lists.proofs.Kept.{kept-all, kept-set}
-use Rattle.plans.proofs.PlanReading.{cleared-more}
+use Rattle.lists.proofs.Upward.{table-more}
 use Rattle.plans.proofs.plans.clear_lines.Statement.{statement}
 use Rattle.plans.proofs.plans.clear_lines.Tie as tie
 
@@ -16,7 +16,7 @@ abbrev μ-loop : tie.MeasureT-loop
 loop-again : tie.Need-loop-again Inv-loop μ-loop
 loop-again c =
     let l = c .before .loop in
-    (search needs, search needs, kept-set (lineAt _ + l .t) 0 (l .inv .2) (omega arith) (omega arith), cleared-more _ (l .mem) (l .t) (omega arith) (l .inv .3))
+    (search needs, search needs, kept-set (lineAt _ + l .t) 0 (l .inv .2) (omega arith) (omega arith), table-more (λ u. 0) (l .mem) (lineAt _) (l .t) 0 (l .inv .3) (omega arith) refl)
 
 pub clear-lines-spec : {M : Type 1} → statement M
 clear-lines-spec = tie.close (tie.spec

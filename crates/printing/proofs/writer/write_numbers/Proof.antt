@@ -2,7 +2,7 @@
 use Rattle.lists.proofs.Prelude.{_≡_, refl, sym, ap, _∙_, _≤_, _-_, _+_, arith, needs, length, drop, length-set, document01, numbersText}
 use Rattle.lists.specs.Over.{over}
 use Rattle.lists.proofs.Over.{over-nil}
-use Rattle.printing.proofs.WriteLaws.{text-end, place-turn, length-turn, write-turn}
+use Rattle.printing.proofs.WriteLaws.{text-end, turn}
 use Rattle.printing.proofs.writer.write_numbers.Statement.{statement}
 use Rattle.printing.proofs.writer.write_numbers.Tie as tie
 
@@ -16,41 +16,18 @@ abbrev μ-loop : tie.MeasureT-loop
 
 slice-write-out : tie.Need-slice-write-out Inv-loop μ-loop
 slice-write-out c =
-    let args = c .before .before .before .before .before .before .before .before .before .before .args in
-    let loop = c .before .before .before .before .before .before .before .loop in
-    let loop-test = c .before .before .before .before .before .before .loop-test in
-    let write-number = c .before .before .before .write-number in
-    let s = args .vals .now in let l = loop in let w = write-number in
-    omega (
-      arith,
-      place-turn document01 s (l .i) (loop-test .taken) (l .out) (l .p) (omega arith) (w .last .0) (w .result) (w .ensures .1) (w .ensures .0),
-      length-turn document01 s (l .i) (loop-test .taken) (l .out) (l .p) (omega arith) (w .last .0) (w .result) (w .ensures .1) (w .ensures .0),
-    )
-
-add-p : tie.Need-add-p Inv-loop μ-loop
-add-p c =
-    let args = c .before .before .before .before .before .before .before .before .before .before .args in
-    let loop = c .before .before .before .before .before .before .before .loop in
-    let loop-test = c .before .before .before .before .before .before .loop-test in
-    let write-number = c .before .before .before .write-number in
-    let s = args .vals .now in let l = loop in let w = write-number in
-    omega (arith, place-turn document01 s (l .i) (loop-test .taken) (l .out) (l .p) (omega arith) (w .last .0) (w .result) (w .ensures .1) (w .ensures .0))
+    let l = c .before .before .before .before .before .before .before .loop in
+    let w = c .before .before .before .write-number in
+    let s = c .before .before .before .before .before .before .before .before .before .before .args .vals .now in
+    omega (arith, turn document01 s (l .i) (c .before .before .before .before .before .before .loop-test .taken) (l .out) (l .p) (omega arith) _ _ (w .ensures .1) (w .ensures .0))
 
 loop-again : tie.Need-loop-again Inv-loop μ-loop
 loop-again c =
-    let args = c .before .before .before .before .before .before .before .before .before .before .args in
-    let loop = c .before .before .before .before .before .before .before .loop in
-    let loop-test = c .before .before .before .before .before .before .loop-test in
-    let write-number = c .before .before .before .write-number in
-    let s = args .vals .now in let l = loop in let w = write-number in
-    let r : l .p + length (numbersText document01 (drop (l .i) s)) ≤ length (l .out) = omega arith in (
-      search needs,
-      refl,
-      length-set (w .last .0) (w .result) (c .mark-after .result)
-          ∙ length-turn document01 s (l .i) (loop-test .taken) (l .out) (l .p) r (w .last .0) (w .result) (w .ensures .1) (w .ensures .0) ∙ l .inv .2,
-      place-turn document01 s (l .i) (loop-test .taken) (l .out) (l .p) r (w .last .0) (w .result) (w .ensures .1) (w .ensures .0) ∙ l .inv .3,
-      write-turn document01 s (l .i) (loop-test .taken) (l .out) (l .p) r (w .last .0) (w .result) (w .ensures .1) (w .ensures .0) (c .mark-after .result) (c .mark-after .ensures) ∙ l .inv .4,
-    )
+    let l = c .before .before .before .before .before .before .before .loop in
+    let w = c .before .before .before .write-number in
+    let s = c .before .before .before .before .before .before .before .before .before .before .args .vals .now in
+    let t = turn document01 s (l .i) (c .before .before .before .before .before .before .loop-test .taken) (l .out) (l .p) (omega arith) _ _ (w .ensures .1) (w .ensures .0) in
+    (search needs, refl, simp length-set (t .1 ∙ l .inv .2), t .0 ∙ l .inv .3, t .2 (c .mark-after .result) (c .mark-after .ensures) ∙ l .inv .4)
 
 returns : tie.Need-returns Inv-loop μ-loop
 returns c =
@@ -61,4 +38,5 @@ returns c =
 pub write-numbers-spec : {M : Type 1} → statement M
 write-numbers-spec = tie.close (tie.spec
     Inv-loop μ-loop (λ c. (search needs, refl, refl, refl, refl)) (λ c. search needs) (λ c. search needs) (λ c κs. search needs) (λ c. search needs)
-    (λ c. search needs) (λ c κs. search needs) slice-write-out add-p (λ c. search needs) loop-again (λ c. c .before .loop .inv .2) returns)
+    (λ c. search needs) (λ c κs. search needs) slice-write-out (λ c. omega (arith, slice-write-out c)) (λ c. search needs) loop-again
+    (λ c. c .before .loop .inv .2) returns)

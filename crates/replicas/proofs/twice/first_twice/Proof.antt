@@ -1,5 +1,5 @@
-use Rattle.lists.proofs.Prelude.{needs, _≡_, refl, sym, ap, _∙_, [], ℕ, _+_, _*_, _≤_, _-_, arith, length}
-use Rattle.replicas.specs.Cells.{linesOf, twice, cellsOf, firstTwice}
+use Rattle.lists.proofs.Prelude.{needs, _≡_, sym, _∙_, [], _≤_, _-_, arith, length}
+use Rattle.replicas.specs.Cells.{linesOf, firstTwice}
 use Rattle.replicas.proofs.TwiceLaws.{part-cells, first-none, first-next, first-here}
 use Rattle.replicas.proofs.twice.first_twice.Statement.{statement}
 use Rattle.replicas.proofs.twice.first_twice.Tie as tie
@@ -12,22 +12,18 @@ abbrev μ-loop : tie.MeasureT-loop
 
 returns : tie.Need-returns Inv-loop μ-loop
 returns c =
-    let a = c .before .before .before .before .before .before .before .args in
     let loop = c .before .before .before .before .before .loop in
-    let loop-test = c .before .before .before .before .loop-test in
-    first-here (a .w) (a .lines .now) (loop .k) _ (loop-test .taken) (loop .inv .1) (part-cells (a .w) (a .lines .now) (loop .k) (sym (c .before .if1 .taken) ∙ c .before .before .has-twins .ensures))
+    first-here _ _ (loop .k) _ (c .before .before .before .before .loop-test .taken) (loop .inv .1) (part-cells _ _ (loop .k) (sym (c .before .if1 .taken) ∙ c .before .before .has-twins .ensures))
 
 loop-again : tie.Need-loop-again Inv-loop μ-loop
 loop-again c =
-    let a = c .before .before .before .before .before .before .args in
     let loop = c .before .before .before .before .loop in
-    let loop-test = c .before .before .before .loop-test in
-    (omega (arith, loop-test .taken), first-next (a .w) (a .lines .now) (loop .k) (loop .inv .1) (part-cells (a .w) (a .lines .now) (loop .k) (sym (c .if1 .left) ∙ c .before .has-twins .ensures)))
+    (omega (arith, c .before .before .before .loop-test .taken), first-next _ _ (loop .k) (loop .inv .1) (part-cells _ _ (loop .k) (sym (c .if1 .left) ∙ c .before .has-twins .ensures)))
 
 returns-2 : tie.Need-returns-2 Inv-loop μ-loop
 returns-2 c =
     let e : c .before .loop .k ≡ linesOf (length (c .before .before .before .args .lines .now)) = omega (arith, c .before .loop .inv .0, c .loop-test .left) in
-    sym (ap (λ (i : ℕ). firstTwice (c .before .before .before .args .w) i (c .before .before .before .args .lines .now)) (sym e) ∙ c .before .loop .inv .1)
+    sym (rw e at (c .before .loop .inv .1))
 
 pub first-twice-spec : {M : Type 1} → statement M
 first-twice-spec = tie.close (tie.spec

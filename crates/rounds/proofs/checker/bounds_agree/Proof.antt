@@ -1,6 +1,6 @@
 -- The ends of what is written are M* and M of the equations, if the ticks are.
 use Rattle.lists.proofs.Prelude.{needs}
-use Rattle.rounds.proofs.JudgeLaws.{lower-differs, upper-decides}
+use Rattle.rounds.proofs.Bounds.{lower-differs, upper-decides}
 use Rattle.rounds.proofs.checker.bounds_agree.Statement.{statement}
 use Rattle.rounds.proofs.checker.bounds_agree.Tie as tie
 

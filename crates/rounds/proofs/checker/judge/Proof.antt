@@ -1,7 +1,7 @@
-use Rattle.lists.proofs.Prelude.{needs, arith}
+use Rattle.lists.proofs.Prelude.{needs, arith, document01}
 use Rattle.jobs.specs.Held.{jobIn}
 use Rattle.plans.specs.Loading.{planIn}
-use Rattle.rounds.proofs.JudgeLaws.{answer-doubled}
+use Rattle.rounds.proofs.VerdictLaws.{answer-doubled}
 use Rattle.rounds.proofs.checker.judge.Statement.{statement}
 use Rattle.rounds.proofs.checker.judge.Tie as tie
 
@@ -13,7 +13,7 @@ returns-2 c =
     let args = c .before .before .before .before .before .before .args in
     let doubled = c .before .before .before .doubled in
     let i = rw (c .before .t .given .1) at (doubled .ensures) in
-    answer-doubled (jobIn (args .mem .now)) (planIn (args .capacity) (args .mem .now)) _ (i .0)
+    answer-doubled document01 (jobIn (args .mem .now)) (planIn (args .capacity) (args .mem .now)) _ (i .0)
 
 pub judge-spec : {M : Type 1} → statement M
 judge-spec = tie.close (tie.spec

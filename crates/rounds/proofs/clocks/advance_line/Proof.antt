@@ -1,5 +1,5 @@
 -- The clocks are those after the replicas passed.
-use Rattle.lists.proofs.Prelude.{_≡_, _≤_, _-_, _+_, arith, needs, nth}
+use Rattle.lists.proofs.Prelude.{_≡_, _≤_, _-_, _+_, arith, document01, needs, nth}
 use Rattle.rounds.specs.Clocks.{Advanced}
 use Rattle.jobs.proofs.Held.{sizes}
 use Rattle.rounds.proofs.ClockLaws.{clocks-first, clocks-next}
@@ -7,7 +7,7 @@ use Rattle.rounds.proofs.clocks.advance_line.Statement.{statement}
 use Rattle.rounds.proofs.clocks.advance_line.Tie as tie
 
 abbrev Inv-loop : tie.InvT-loop
-Inv-loop mem a w clocks c₀ after c = (c ≤ w) × (nth mem 3 ≤ 7) × Advanced a c mem clocks after
+Inv-loop mem a w clocks c₀ after c = (c ≤ w) × (nth mem 3 ≤ document01 .losses) × Advanced a c mem clocks after
 
 abbrev μ-loop : tie.MeasureT-loop
 μ-loop mem a w clocks c₀ after c = w - c
@@ -16,24 +16,6 @@ loop-holds : tie.Need-loop-holds Inv-loop μ-loop
 loop-holds c =
     let args = c .before .before .args in
     (omega arith, sizes (c .before .before .pre .job .1) .losses-most, clocks-first _ (args .a) (args .mem .now))
-
-cast-advance : tie.Need-cast-advance Inv-loop μ-loop
-cast-advance c =
-    omega (
-      arith,
-      c .before .replica-at .ensures .1,
-      c .before .before .before .before .before .before .pre .ticks (c .before .before .before .loop .c)
-          (c .before .before .loop-test .taken) .0,
-    )
-
-cast-advance-2 : tie.Need-cast-advance-2 Inv-loop μ-loop
-cast-advance-2 c =
-    omega (
-      arith,
-      c .before .before .replica-at .ensures .2,
-      c .before .before .before .before .before .before .before .pre .ticks (c .before .before .before .before .loop .c)
-          (c .before .before .before .loop-test .taken) .1,
-    )
 
 loop-again : tie.Need-loop-again Inv-loop μ-loop
 loop-again c =
@@ -54,6 +36,9 @@ pub advance-line-spec : {M : Type 1} → statement M
 advance-line-spec = tie.close (tie.spec
     Inv-loop μ-loop (λ c. let s = sizes (c .before .before .pre .job .1) in omega arith)
     (λ c. let s = sizes (c .before .before .pre .job .1) in omega arith) loop-holds
-    (λ c κs. omega (arith, c .before .before .before .before .pre .within, c .before .loop .inv .1, c .loop-test .taken)) cast-advance cast-advance-2
+    (λ c κs. omega (arith, c .before .before .before .before .pre .within, c .before .loop .inv .1, c .loop-test .taken))
+    (λ c. let t = c .before .before .before .before .before .before .pre .ticks _ (c .before .before .loop-test .taken) in omega (arith, c .before .replica-at .ensures, t))
+    (λ c. let t = c .before .before .before .before .before .before .before .pre .ticks _ (c .before .before .before .loop-test .taken) in
+    omega (arith, c .before .before .replica-at .ensures, t))
     (λ c κs. search needs) (λ c. let s = sizes (c .before .before .before .before .before .before .before .before .pre .job .1) in omega arith)
     (λ c. let s = sizes (c .before .before .before .before .before .before .before .before .pre .job .1) in omega arith) loop-again returns)

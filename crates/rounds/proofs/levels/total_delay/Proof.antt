@@ -19,25 +19,20 @@ loop-holds c = (search needs, refl)
 
 add-x : tie.Need-add-x Inv-loop μ-loop
 add-x c =
-    let loop = c .before .before .loop in
-    omega (
-      arith,
-      c .row-total .ensures .1,
-      total-most (c .before .before .before .before .before .before .args .mem .now) (c .before .before .before .before .before .before .pre .1)
-          (loop .p) (loop .inv .0),
-    )
+    let start = c .before .before .before .before .before .before in
+    omega (arith, c .row-total .ensures .1, total-most (start .args .mem .now) (start .pre .1) (c .before .before .loop .p) (c .before .before .loop .inv .0))
 
 loop-again : tie.Need-loop-again Inv-loop μ-loop
 loop-again c =
-    let args = c .before .before .before .before .before .before .args in
-    (search needs, omega (arith, c .row-total .ensures .0, sum-more (λ i. rowSum (args .mem .now) (nth (args .mem .now) 0 + i)) (c .before .before .loop .p)))
+    let d = c .before .before .before .before .before .before .args .mem .now in
+    (search needs, omega (arith, c .row-total .ensures .0, sum-more (λ i. rowSum d (nth d 0 + i)) (c .before .before .loop .p)))
 
 returns : tie.Need-returns Inv-loop μ-loop
 returns c =
-    let loop = c .before .loop in
-    let d = c .before .before .before .before .before .args .mem .now in
-    let e : loop .p ≡ nth d 1 = omega arith in
-    loop .inv .1 ∙ ap (λ (k : ℕ). sum (map (λ i. rowSum d (nth d 0 + i)) (below k))) e ∙ sym (total-in d (c .before .before .before .before .before .pre .1))
+    let start = c .before .before .before .before .before in
+    let d = start .args .mem .now in
+    let e : c .before .loop .p ≡ nth d 1 = omega arith in
+    c .before .loop .inv .1 ∙ ap (λ (k : ℕ). sum (map (λ i. rowSum d (nth d 0 + i)) (below k))) e ∙ sym (total-in d (start .pre .1))
 
 pub total-delay-spec : {M : Type 1} → statement M
 total-delay-spec = tie.close (tie.spec

@@ -1,5 +1,5 @@
 -- After c turns acc is the choice among the first c replicas of the line.
-use Rattle.lists.proofs.Prelude.{_≡_, _≤_, _-_, _+_, arith, needs, nth}
+use Rattle.lists.proofs.Prelude.{_≡_, _≤_, _-_, _+_, arith, document01, needs, nth}
 use Rattle.ticks.specs.Cells.{timeIn}
 use Rattle.jobs.proofs.Held.{sizes}
 use Rattle.rounds.proofs.MakespanLaws.{chosenIn, chosen-first, chosen-next}
@@ -7,7 +7,7 @@ use Rattle.rounds.proofs.makespans.chosen_in.Statement.{statement}
 use Rattle.rounds.proofs.makespans.chosen_in.Tie as tie
 
 abbrev Inv-loop : tie.InvT-loop
-Inv-loop mem late a w acc₀ c₀ acc c = (c ≤ w) × (nth mem 3 ≤ 7) × (timeIn acc ≡ chosenIn late a c mem)
+Inv-loop mem late a w acc₀ c₀ acc c = (c ≤ w) × (nth mem 3 ≤ document01 .losses) × (timeIn acc ≡ chosenIn late a c mem)
 
 abbrev μ-loop : tie.MeasureT-loop
 μ-loop mem late a w acc₀ c₀ acc c = w - c

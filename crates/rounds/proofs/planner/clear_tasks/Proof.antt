@@ -1,5 +1,5 @@
 -- The tasks passed are cleared, and nothing else changed.
-use Rattle.lists.proofs.Prelude.{_≡_, refl, sym, _≤_, _<_, _-_, _*_, arith, needs, length, length-set, nth}
+use Rattle.lists.proofs.Prelude.{_≡_, refl, sym, _≤_, _<_, _-_, _*_, arith, needs, length, length-set, document01, nth}
 use Rattle.heads.specs.Layout.{memorySize, lineAt, rowAt}
 use Rattle.orders.proofs.Walk.{pass-length}
 use Rattle.jobs.specs.Held.{jobIn}
@@ -7,24 +7,17 @@ use Rattle.lists.specs.Kept.{KeptOutside}
 use Rattle.rounds.specs.Planning.{Cleared}
 use Rattle.jobs.proofs.Held.{sizes}
 use Rattle.lists.proofs.Kept.{kept-all}
-use Rattle.rounds.proofs.Walks.{enters-run}
+use Rattle.jobs.proofs.Held.{enters-run}
 use Rattle.rounds.proofs.OutsetLaws.{cleared-none, cleared-more, cleared-kept}
 use Rattle.rounds.proofs.planner.clear_tasks.Statement.{statement}
 use Rattle.rounds.proofs.planner.clear_tasks.Tie as tie
 
 abbrev Inv-loop : tie.InvT-loop
-Inv-loop mem₀ links capacity level line blocked priorities v t₀ mem t = (t ≤ v) × ((v ≤ 255) × (v ≤ 8 * capacity)) × (length mem ≡ memorySize capacity)
+Inv-loop mem₀ links capacity level line blocked priorities v t₀ mem t = (t ≤ v) × ((v ≤ document01 .tasks) × (v ≤ 8 * capacity)) × (length mem ≡ memorySize capacity)
     × KeptOutside (lineAt capacity) (rowAt capacity 0) mem₀ mem × Cleared capacity t (jobIn mem₀) mem
 
 abbrev μ-loop : tie.MeasureT-loop
 μ-loop mem₀ links capacity level line blocked priorities v t₀ mem t = v - t
-
-sub-mem : tie.Need-sub-mem Inv-loop μ-loop
-sub-mem c =
-    let pre = c .before .before .before .before .before .before .before .before .pre in
-    let loop-test = c .before .before .before .loop-test in
-    let entering = c .before .before .entering in
-    omega (arith, enters-run (pre .1) (loop-test .taken) (entering .ensures) .rises)
 
 loop-again : tie.Need-loop-again Inv-loop μ-loop
 loop-again c =
@@ -50,5 +43,7 @@ clear-tasks-spec = tie.close (tie.spec
     (λ c. omega (arith, sizes (c .before .before .before .pre .0)))
     (λ c. let w = sizes (c .before .before .before .pre .0) in (search needs, w .tasks-most, w .size, kept-all, cleared-none _ _))
     (λ c κs. search needs) (λ c. search needs) (λ c. search needs) (λ c. search needs) (λ c. search needs) (λ c. search needs) (λ c. search needs)
-    sub-mem (λ c. search needs) (λ c. search needs) (λ c. simp length-set (omega arith)) (λ c. search needs) (λ c. search needs)
+    (λ c. let links = c .before .before .before .before .before .before .before .before .pre .1 in
+    omega (arith, enters-run links (c .before .before .before .loop-test .taken) (c .before .before .entering .ensures) .rises))
+    (λ c. search needs) (λ c. search needs) (λ c. simp length-set (omega arith)) (λ c. search needs) (λ c. search needs)
     (λ c. simp length-set (omega arith)) (λ c. search needs) (λ c. search needs) loop-again (λ c. search needs) returns)

@@ -1,31 +1,32 @@
 -- k lines are drawn up, what is left to place gives the rest of the plan, and the free tasks are listed.
-use Rattle.lists.proofs.Prelude.{_≡_, refl, sym, _∙_, [], _≤_, _<_, _-_, _+_, arith, needs, ⊎-elim, nth}
-use Rattle.heads.specs.Layout.{memorySize, jobSize, levelAt}
+use Rattle.lists.proofs.Prelude.{_≡_, refl, sym, _∙_, [], _≤_, _<_, _-_, _+_, arith, needs, ⊎-elim, document01, nth}
+use Rattle.heads.specs.Layout.{memorySize, jobSize, levelAt, rowAt}
 use Rattle.jobs.specs.Held.{jobIn, LinksHeld}
 use Rattle.plans.specs.Lines.{placedIn}
 use Rattle.lists.specs.Kept.{KeptOutside}
 use Rattle.rounds.specs.Planning.{FreeList, Drawn, Ranked}
 use Rattle.rounds.specs.Clocks.{earliesIn, latesIn, ClocksHeld}
 use Rattle.jobs.proofs.Held.{processors-in, sizes, links-kept}
-use Rattle.lists.proofs.Kept.{same-before, kept-all, kept-then, kept-wider}
+use Rattle.lists.proofs.Kept.{same-before, same-behind, kept-all, kept-then, kept-wider}
 use Rattle.rounds.proofs.ShortLaws.{delays-kept}
 use Rattle.rounds.proofs.FreeLaws.{free-few, last-critical, free-out}
-use Rattle.rounds.proofs.Drawing.{drawn-choice, clocks-choice, listed-some}
+use Rattle.rounds.proofs.Drawing.{drawn-choice, listed-some}
+use Rattle.rounds.proofs.Tables.{clocks-kept}
 use Rattle.rounds.proofs.ClockLaws.{outset-clocks}
 use Rattle.rounds.proofs.planner.draw_plan.Statement.{statement}
 use Rattle.rounds.proofs.planner.draw_plan.Tie as tie
 
 abbrev Inv-loop : tie.InvT-loop
 Inv-loop mem₀ links capacity v delays clocks₀ free₀ n₀ k₀ mem clocks free n k =
-    (k ≤ v) × (v ≡ nth mem 0) × KeptOutside (levelAt capacity) (memorySize capacity) mem₀ mem × Drawn capacity k mem × Ranked capacity [] mem
-    × ClocksHeld clocks (jobIn mem) (earliesIn capacity k mem) (latesIn capacity k mem) × FreeList capacity free n mem
+    (k ≤ v) × (v ≡ nth mem 0) × KeptOutside (levelAt capacity) (memorySize capacity) mem₀ mem × Drawn document01 capacity k mem × Ranked capacity [] mem
+    × ClocksHeld clocks (jobIn mem) (earliesIn capacity k mem) (latesIn capacity k mem) × FreeList capacity free n mem × (v ≤ document01 .tasks)
 
 abbrev μ-loop : tie.MeasureT-loop
 μ-loop mem₀ links capacity v delays clocks₀ free₀ n₀ k₀ mem clocks free n k = v - k
 
 -- Some task is free while lines are left.
 some : (c : tie.In-loop Inv-loop μ-loop) → 0 < c .before .loop .n
-some c = let l = c .before .loop in listed-some (l .inv .3) (omega (arith, c .loop-test .taken, l .inv .1)) (l .inv .4) (l .free) (l .n) (l .inv .6)
+some c = let l = c .before .loop in listed-some (l .inv .3) (l .inv .4) (omega (arith, c .loop-test .taken, l .inv .1)) (l .free) (l .n) (l .inv .6)
 
 -- The last of them is a task of the job.
 last-task : (c : tie.In-loop Inv-loop μ-loop) → nth (c .before .loop .free) (c .before .loop .n - 1) < nth (c .before .loop .mem) 0
@@ -49,22 +50,11 @@ loop-holds : tie.Need-loop-holds Inv-loop μ-loop
 unfolding placedIn
 loop-holds c =
     let prepare = c .before .before .before .before .before .before .before .before .before .before .prepare in
-    let new = c .before .before .before .before .new in
-    let s = prepare .ensures in (
-      search needs,
-      refl,
-      kept-all,
-      s .1,
-      s .2,
-      outset-clocks (rw (processors-in (prepare .last .0)) (sizes (s .1 .standing .job) .processors-most)) (new .ensures .0)
-          (new .ensures .1),
-      c .before .list-free .ensures,
-    )
-
-array-read-t : tie.Need-array-read-t Inv-loop μ-loop
-array-read-t c =
-    let l = c .before .loop in
-    omega (arith, l .inv .6 .tasks .size, free-few (l .inv .6 .tasks), sizes (l .inv .3 .standing .job) .tasks-most .0, some c)
+    let new = c .before .before .before .before .new .ensures in
+    let s = prepare .ensures in
+    let w = sizes (s .1 .standing .job) in
+    let clocks = outset-clocks {j = jobIn (prepare .last .0)} (rw (processors-in (prepare .last .0)) (w .lanes-fit)) (new .0) (new .1) in
+    (search needs, refl, kept-all, s .1, s .2, clocks, c .before .list-free .ensures, w .tasks-most .0)
 
 place-task-requires : tie.Need-place-task-requires Inv-loop μ-loop
 place-task-requires c κs =
@@ -72,11 +62,7 @@ place-task-requires c κs =
     let delay-table = c .before .before .before .before .before .before .before .before .before .delay-table in
     let l = c .before .before .before .loop in (
       delays-kept (prepare .ensures .1 .standing .job) (same-before 0 (jobSize _) (l .inv .2) (omega arith)) (delay-table .ensures),
-      l .inv .3,
-      l .inv .4,
-      omega
-          (arith, c .before .before .loop-test .taken, l .inv .1),
-      last-critical (l .inv .6) (some (c .before .before)),
+      record { drawn = l .inv .3; ranked = l .inv .4; more = omega (arith, c .before .before .loop-test .taken, l .inv .1); lower = last-critical (l .inv .6) (some (c .before .before)) },
       l .inv .5,
       links-here (c .before .before),
     )
@@ -87,13 +73,8 @@ release-requires c κs =
     let p = c .before .before .before .before .place-task .ensures in
     let z : nth (c .before .before .before .before .place-task .last .0) 0 ≡ nth (l .mem) 0 = p .0 .before 0 (omega arith) in
     let turn = c .before .before .before .before .before .before .before in
-    ((l .k + 1, p .1), p .2, free-out (l .inv .6) (some turn) (p .4) z, rw z (last-task turn), links-kept (l .inv .3 .standing .job) (p .0) (omega arith) (links-here turn))
-
-add-k : tie.Need-add-k Inv-loop μ-loop
-add-k c =
-    let loop = c .before .before .before .before .before .before .before .before .before .before .before .before .loop in
-    let loop-test = c .before .before .before .before .before .before .before .before .before .before .before .loop-test in
-    omega (arith, loop-test .taken, loop .inv .1, sizes (loop .inv .3 .standing .job) .tasks-most .0)
+    let job = l .inv .3 .standing .job in
+    ((l .k + 1, p .1), p .2, free-out (sizes job) (l .inv .6) (some turn) (p .4), rw z (last-task turn), links-kept job (p .0) (omega arith) (links-here turn))
 
 loop-again : tie.Need-loop-again Inv-loop μ-loop
 loop-again c =
@@ -103,10 +84,11 @@ loop-again c =
       omega (arith, c .before .before .before .before .before .before .before .before .before .before .before .loop-test .taken),
       l .inv .1 ∙ sym (q .0 .before 0 (omega arith) ∙ p .0 .before 0 (omega arith)),
       kept-then (l .inv .2) (kept-then (kept-wider (levelAt _) (memorySize _) (p .0) (omega arith) (omega arith)) (kept-wider (levelAt _) (memorySize _) (q .0) (omega arith) (omega arith))),
-      drawn-choice (q .0) (p .1) (omega arith) (omega arith),
+      drawn-choice (q .0) (p .1),
       q .1,
-      clocks-choice (q .0) (p .1) (p .3),
+      clocks-kept (p .1 .standing .job) (q .0) (omega arith) _ (same-behind (rowAt _ 0) (rowAt _ _) (q .0) (omega arith)) (p .3),
       q .2,
+      l .inv .7,
     )
 
 returns : tie.Need-returns Inv-loop μ-loop
@@ -121,8 +103,10 @@ pub draw-plan-spec : {M : Type 1} → statement M
 draw-plan-spec = tie.close (tie.spec
     Inv-loop μ-loop (λ c κs. search needs) (λ c. let w = sizes (c .before .before .before .prepare .ensures .1 .standing .job) in omega arith)
     (λ c κs. (_, c .before .before .before .before .prepare .ensures .1 .standing .job)) (λ c κs. search needs) (λ c. search needs) list-free-requires
-    loop-holds (λ c. some c) array-read-t (λ c. omega (arith, last-task c, sizes (c .before .loop .inv .3 .standing .job) .tasks-most .0))
-    place-task-requires (λ c. search needs) (λ c. some (c .before .before .before .before .before .before .before)) release-requires add-k
+    loop-holds (λ c. some c)
+    (λ c. let l = c .before .loop in omega (arith, l .inv .6 .tasks .size, free-few (l .inv .6 .tasks), l .inv .1, l .inv .7, some c))
+    (λ c. omega (arith, last-task c, c .before .loop .inv .1, c .before .loop .inv .7))
+    place-task-requires (λ c. search needs) (λ c. some (c .before .before .before .before .before .before .before)) release-requires (λ c. search needs)
     (λ c. search needs) loop-again
     (λ c. c .before .loop .inv .2 .size ∙ c .before .before .before .before .before .before .before .before .before .before .before .before .prepare .ensures .0 .size)
     returns)

@@ -1,5 +1,5 @@
 -- The places passed hold the largest delays, and nothing else changed.
-use Rattle.lists.proofs.Prelude.{_≡_, ℕ, _≤_, _<_, _-_, _+_, arith, needs, length, nth, largestDelay}
+use Rattle.lists.proofs.Prelude.{_≡_, ℕ, _≤_, _<_, _-_, _+_, arith, needs, length, document01, nth, largestDelay}
 use Rattle.heads.specs.Layout.{memorySize, largestDelayAt}
 use Rattle.jobs.specs.Held.{jobIn}
 use Rattle.lists.specs.Kept.{KeptOutside}
@@ -11,7 +11,7 @@ use Rattle.rounds.proofs.priority.fill_largest_delays.Tie as tie
 
 abbrev Inv-loop : tie.InvT-loop
 Inv-loop mem₀ capacity far m p₀ mem p =
-    (p ≤ m) × (m ≤ 16) × (length mem ≡ memorySize capacity) × KeptOutside (largestDelayAt capacity) (memorySize capacity) mem₀ mem
+    (p ≤ m) × (m ≤ document01 .processors) × (length mem ≡ memorySize capacity) × KeptOutside (largestDelayAt capacity) (memorySize capacity) mem₀ mem
     × ((q : ℕ) → q < p → nth mem (largestDelayAt capacity + q) ≡ largestDelay (jobIn mem₀) q)
 
 abbrev μ-loop : tie.MeasureT-loop

@@ -1,5 +1,5 @@
 -- The greatest is that of the processors passed.
-use Rattle.lists.proofs.Prelude.{_≡_, refl, ap, _∙_, ⊎-elim, ℕ, _≤_, _-_, arith, needs, map, countFrom, below, greatest, delay, largestDelay}
+use Rattle.lists.proofs.Prelude.{_≡_, refl, ap, _∙_, ⊎-elim, ℕ, _≤_, _-_, arith, needs, map, countFrom, below, greatest, delay, document01, largestDelay}
 use Rattle.jobs.specs.Held.{jobIn}
 use Rattle.jobs.proofs.Held.{sizes, processors-in}
 use Rattle.lists.proofs.Upward.{greatest-more}
@@ -7,7 +7,7 @@ use Rattle.rounds.proofs.priority.largest_delay.Statement.{statement}
 use Rattle.rounds.proofs.priority.largest_delay.Tie as tie
 
 abbrev Inv-loop : tie.InvT-loop
-Inv-loop mem p m x₀ q₀ x q = (q ≤ m) × (m ≤ 16) × (x ≡ greatest (map (delay (jobIn mem) p) (below q)))
+Inv-loop mem p m x₀ q₀ x q = (q ≤ m) × (m ≤ document01 .processors) × (x ≡ greatest (map (delay (jobIn mem) p) (below q)))
 
 abbrev μ-loop : tie.MeasureT-loop
 μ-loop mem p m x₀ q₀ x q = m - q
@@ -15,11 +15,6 @@ abbrev μ-loop : tie.MeasureT-loop
 loop-holds : tie.Need-loop-holds Inv-loop μ-loop
 unfolding greatest countFrom
 loop-holds c = (search needs, sizes (c .before .before .pre .0 .1) .processors-most, refl)
-
-delay-requires : tie.Need-delay-requires Inv-loop μ-loop
-delay-requires c κs =
-    let pre = c .before .before .before .before .pre in
-    (pre .0, pre .1, c .loop-test .taken)
 
 loop-again : tie.Need-loop-again Inv-loop μ-loop
 loop-again c =
@@ -32,14 +27,13 @@ loop-again c =
 returns : tie.Need-returns Inv-loop μ-loop
 unfolding largestDelay
 returns c =
-    let args = c .before .before .before .before .args in
-    let loop = c .before .loop in
-    let j = jobIn (args .mem .now) in
-    let e : loop .q ≡ j .processors = omega (arith, processors-in (args .mem .now)) in
-    loop .inv .2 ∙ ap (λ (k : ℕ). greatest (map (delay j (args .p)) (below k))) e
+    let j = jobIn (c .before .before .before .before .args .mem .now) in
+    let e : c .before .loop .q ≡ j .processors = omega (arith, processors-in (c .before .before .before .before .args .mem .now)) in
+    c .before .loop .inv .2 ∙ ap (λ (k : ℕ). greatest (map (delay j (c .before .before .before .before .args .p)) (below k))) e
 
 pub largest-delay-spec : {M : Type 1} → statement M
 largest-delay-spec = tie.close (tie.spec
-    Inv-loop μ-loop (λ c. let s = sizes (c .before .before .pre .0 .1) in omega arith) loop-holds delay-requires
+    Inv-loop μ-loop (λ c. let s = sizes (c .before .before .pre .0 .1) in omega arith) loop-holds
+    (λ c κs. let pre = c .before .before .before .before .pre in (pre .0, pre .1, c .loop-test .taken))
     (λ c. let s = sizes (c .before .before .before .before .before .before .pre .0 .1) in omega arith)
     (λ c. let s = sizes (c .before .before .before .before .before .before .pre .0 .1) in omega arith) loop-again returns)

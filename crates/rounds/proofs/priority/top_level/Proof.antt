@@ -1,73 +1,69 @@
 -- x is the largest time of the edges passed.
-use Rattle.lists.proofs.Prelude.{_≡_, refl, ap, _∙_, _≤_, _-_, max, arith, needs, ⊎-elim, incoming, Time, later}
+use Rattle.lists.proofs.Prelude.{_≡_, refl, ap, ap₂, _∙_, _≤_, _-_, max, arith, needs, ⊎-elim, incoming, tick, later, document01}
+use Rattle.rounds.specs.Planning.{spreadMost}
 use Rattle.orders.proofs.Walk.{Passed, pass-first, pass-at, pass-on}
-use Rattle.ticks.specs.Cells.{timeIn}
 use Rattle.jobs.specs.Held.{jobIn}
-use Rattle.jobs.proofs.Held.{sizes}
-use Rattle.rounds.proofs.Walks.{enters-run}
-use Rattle.rounds.proofs.TimeLaws.{feeds, Gathered, gather-first, gather-next}
-use Rattle.rounds.proofs.TopLaws.{spreads, feeds-sends, top-later, scale-most, top-most, top-one, top-scaled}
+use Rattle.jobs.proofs.Held.{sizes, enters-run}
+use Rattle.rounds.proofs.TimeLaws.{feeds, gathered, gather-none, gather-next}
+use Rattle.rounds.proofs.TopLaws.{spreads, feeds-sends, scale-most, top-most, top-one, top-scaled}
 use Rattle.rounds.proofs.priority.top_level.Statement.{statement}
 use Rattle.rounds.proofs.priority.top_level.Tie as tie
 
 abbrev Inv-loop : tie.InvT-loop
-Inv-loop mem links capacity t x₀ k₀ k-end x k = Passed k₀ k-end links (incoming (jobIn mem) t) k × (x ≤ 4296011520) × Gathered (spreads capacity mem) k₀ links (timeIn x) k
+Inv-loop mem links capacity t x₀ k₀ k-end x k =
+    Passed k₀ k-end links (incoming (jobIn mem) t) k × (x ≤ spreadMost document01) × (tick x ≡ gathered (spreads capacity mem) k₀ links k)
 
 abbrev μ-loop : tie.MeasureT-loop
 μ-loop mem links capacity t x₀ k₀ k-end x k = k-end - k
 
 loop-holds : tie.Need-loop-holds Inv-loop μ-loop
 loop-holds c =
-    let pre = c .before .before .before .before .pre in
-    (pass-first (enters-run (pre .1) (pre .2) (c .entering .ensures)), omega arith, gather-first)
+    let start = c .before .before .before .before in
+    let entering = c .entering in
+    (pass-first (enters-run (start .pre .1) (start .pre .2) (entering .ensures)), omega arith, gather-none (spreads (start .args .capacity) (start .args .mem .now)) _ _)
 
 entering-requires-2 : tie.Need-entering-requires-2 Inv-loop μ-loop
 entering-requires-2 c κs =
     let start = c .before .before .before .before .before .before .before in
-    let loop = c .before .before .loop in
-    (start .pre .0 .1 .job, feeds (start .pre .0 .0) (start .args .t) _ (start .args .mem .now) (start .pre .0 .1) (start .pre .3) (pass-at (loop .inv .0) (c .before .loop-test .taken)))
+    let (h, _, _, predecessors, _) = start .pre in
+    (h .1 .job, feeds (start .args .t) (h .1) predecessors (pass-at (c .before .before .loop .inv .0) (c .before .loop-test .taken)))
 
 spread-requires : tie.Need-spread-requires Inv-loop μ-loop
 spread-requires c κs =
     let start = c .before .before .before .before .before .before .before .before .before in
-    let loop = c .before .before .before .before .loop in
-    let loop-test = c .before .before .before .loop-test in
+    let (h, _, _, predecessors, far) = start .pre in
     let e = c .before .entering2 .ensures in
-    let f = feeds (start .pre .0 .0) (start .args .t) _ (start .args .mem .now) (start .pre .0 .1) (start .pre .3) (pass-at (loop .inv .0) (loop-test .taken)) in
-    (start .pre .0 .1 .job, rw (e .row-of, e .volume-of) (feeds-sends (start .pre .0 .1) (start .pre .0 .2) (start .pre .4) f))
+    let f = feeds (start .args .t) (h .1) predecessors (pass-at (c .before .before .before .before .loop .inv .0) (c .before .before .before .loop-test .taken)) in
+    (h .1 .job, rw (e .row-of, e .volume-of) (feeds-sends (h .1) (h .2) far f))
 
 loop-again : tie.Need-loop-again Inv-loop μ-loop
 loop-again c =
-    let loop-test = c .before .before .before .before .before .loop-test in
-    let entering2 = c .before .before .before .entering2 in
-    let l = c .before .before .before .before .before .before .loop in
-    let e = entering2 .ensures in
-    let z : c .if1 .x ≡ max (c .before .spread .result) (l .x) = ⊎-elim (λ w. omega (arith, w)) (λ w. omega (arith, w)) (c .if1 .came) in
-    let (f, m) = top-later (l .x) (c .before .spread .result) (c .if1 .x) (l .inv .1) (c .before .spread .ensures .1) z in (
-      pass-on (l .inv .0) (loop-test .taken) _ refl,
-      m,
-      gather-next (l .inv .2) (timeIn (c .if1 .x)) (f ∙ ap (λ (u : Time). later u (timeIn (l .x))) (rw (e .row-of, e .volume-of) at (c .before .spread .ensures .0))),
+    let args = c .before .before .before .before .before .before .before .before .before .before .before .args in
+    let loop = c .before .before .before .before .before .before .loop in
+    let (w, m, g) = loop .inv in
+    let e = c .before .before .before .entering2 .ensures in
+    let (y, n) = c .before .spread .ensures in
+    let z : c .if1 .x ≡ max (loop .x) (c .before .spread .result) = ⊎-elim (λ w. omega (arith, w)) (λ w. omega (arith, w)) (c .if1 .came) in (
+      pass-on w (c .before .before .before .before .before .loop-test .taken) _ refl,
+      omega (arith, z),
+      ap tick z ∙ ap₂ later g (rw (e .row-of, e .volume-of) at y) ∙ gather-next (spreads (args .capacity) (args .mem .now)) w _ refl,
     )
 
 returns : tie.Need-returns Inv-loop μ-loop
 returns c =
     let start = c .before .before .before .before .before .before .before .before in
-    let loop = c .before .before .before .loop in
-    let loop-test = c .before .before .loop-test in
-    let (w, m, g) = loop .inv in (top-one (start .args .t) (start .pre .0 .1 .job) w (loop-test .left) g m (c .if2 .taken), omega (arith, m))
+    let (w, m, g) = c .before .before .before .loop .inv in
+    (top-one (start .args .t) (start .pre .0 .1 .job) w (c .before .before .loop-test .left) g m (c .if2 .taken), omega (arith, m))
 
 mul-result-2 : tie.Need-mul-result-2 Inv-loop μ-loop
 mul-result-2 c =
-    let pre = c .before .before .before .before .before .before .before .before .pre in
-    let loop = c .before .before .before .loop in
-    omega (arith, top-most (pre .0 .1 .job) (loop .x) (loop .inv .1))
+    omega (arith, top-most (c .before .before .before .before .before .before .before .before .pre .0 .1 .job) _ (c .before .before .before .loop .inv .1))
 
 returns-2 : tie.Need-returns-2 Inv-loop μ-loop
 returns-2 c =
     let start = c .before .before .before .before .before .before .before .before in
-    let loop = c .before .before .before .loop in
-    let loop-test = c .before .before .loop-test in
-    let (w, m, g) = loop .inv in (top-scaled (start .args .t) (start .pre .0 .1 .job) w (loop-test .left) g m (c .if2 .left), top-most (start .pre .0 .1 .job) (loop .x) m)
+    let (w, m, g) = c .before .before .before .loop .inv in
+    (top-scaled (start .args .t) (start .pre .0 .1 .job) w (c .before .before .loop-test .left) g m (c .if2 .left), top-most (start .pre .0 .1 .job) _ m)
 
 pub top-level-spec : {M : Type 1} → statement M
 top-level-spec = tie.close (tie.spec

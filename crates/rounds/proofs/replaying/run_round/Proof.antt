@@ -1,12 +1,12 @@
 -- Line by line the outcomes are those of the replay.
-use Rattle.lists.proofs.Prelude.{_≤_, _-_, arith, needs}
+use Rattle.lists.proofs.Prelude.{_≤_, _-_, arith, document01, needs}
 use Rattle.jobs.proofs.Held.{sizes, links-kept}
 use Rattle.rounds.proofs.RoundLaws.{RoundRuns, round-first, round-asks, round-next, round-done}
 use Rattle.rounds.proofs.replaying.run_round.Statement.{statement}
 use Rattle.rounds.proofs.replaying.run_round.Tie as tie
 
 abbrev Inv-loop : tie.InvT-loop
-Inv-loop mem₀ links capacity stops v delays ready₀ k₀ mem ready k = (k ≤ v) × RoundRuns capacity k stops (ready .at) mem₀ mem
+Inv-loop mem₀ links capacity stops v delays ready₀ k₀ mem ready k = (k ≤ v) × RoundRuns document01 capacity k stops (ready .at) mem₀ mem
 
 abbrev μ-loop : tie.MeasureT-loop
 μ-loop mem₀ links capacity stops v delays ready₀ k₀ mem ready k = v - k

@@ -1,4 +1,4 @@
-use Rattle.lists.proofs.Prelude.{_-_, needs}
+use Rattle.lists.proofs.Prelude.{needs}
 use Rattle.rounds.proofs.row.time_at.Statement.{statement}
 use Rattle.rounds.proofs.row.time_at.Tie as tie
 

@@ -1,16 +1,17 @@
 -- From the data and the run times of each processor.
-use Rattle.lists.proofs.Prelude.{needs}
-use Rattle.jobs.proofs.Held.{sizes}
-use Rattle.rounds.proofs.BothLaws.{finish-made}
+use Rattle.lists.proofs.Prelude.{needs, true, false}
+use Rattle.rounds.proofs.ShortLaws.{finished}
 use Rattle.rounds.proofs.times.finishes.Statement.{statement}
 use Rattle.rounds.proofs.times.finishes.Tie as tie
 
 returns : tie.Need-returns
 returns c =
-    let a = c .before .before .before .before .before .args in
-    let p = c .before .before .before .before .before .pre in
-    finish-made (a .capacity) (a .t) (a .clocks) (a .mem .now) _ _ (c .before .run-times .result) _ _ (p .2) (sizes (p .0 .1 .job) .processors-most) (c .before .before .both-data .ensures)
-    (p .4) (c .before .run-times .ensures) (c .finish .ensures .0) (c .finish .ensures .1)
+    let start = c .before .before .before .before .before in
+    let both-data = c .before .before .both-data in
+    let job = start .pre .0 .1 .job in
+    let (u, early) = finished false (start .args .t) _ job (both-data .ensures .0) (start .pre .4 .0) (c .before .run-times .ensures) (c .finish .ensures .0) in
+    let (v, late) = finished true (start .args .t) _ job (both-data .ensures .1) (start .pre .4 .1) (c .before .run-times .ensures) (c .finish .ensures .1) in
+    record { early-size = u; late-size = v; early-finish = early; late-finish = late }
 
 pub finishes-spec : {M : Type 1} → statement M
 finishes-spec = tie.close (tie.spec

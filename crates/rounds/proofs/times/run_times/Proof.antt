@@ -1,5 +1,5 @@
 -- The processors passed have their run times in their places.
-use Rattle.lists.proofs.Prelude.{_≡_, refl, ℕ, _≤_, _<_, _-_, arith, needs, length, length-set, nth, runTime}
+use Rattle.lists.proofs.Prelude.{_≡_, refl, ℕ, _≤_, _<_, _-_, arith, needs, length, length-set, nth, runTime, document01}
 use Rattle.jobs.specs.Held.{jobIn}
 use Rattle.lists.proofs.ListLaws.{each-more}
 use Rattle.jobs.proofs.Held.{sizes}
@@ -8,38 +8,26 @@ use Rattle.rounds.proofs.times.run_times.Tie as tie
 
 abbrev Inv-loop : tie.InvT-loop
 Inv-loop mem t m runs₀ p₀ runs p =
-    (p ≤ m) × (length runs ≡ 16) × (m ≤ 16) × ((q : ℕ) → q < p → (nth runs q ≡ runTime (jobIn mem) t q) × (nth runs q ≤ 1000000))
+    (p ≤ m) × (length runs ≡ 16) × (m ≤ document01 .processors) × ((q : ℕ) → q < p → (nth runs q ≡ runTime (jobIn mem) t q) × (nth runs q ≤ document01 .runTime))
 
 abbrev μ-loop : tie.MeasureT-loop
 μ-loop mem t m runs₀ p₀ runs p = m - p
 
-run-time-requires : tie.Need-run-time-requires Inv-loop μ-loop
-run-time-requires c κs =
-    let pre = c .before .before .before .before .pre in
-    (pre .0, pre .1, c .loop-test .taken)
-
 loop-again : tie.Need-loop-again Inv-loop μ-loop
 loop-again c =
-    let loop = c .before .before .loop in
-    let args = c .before .before .before .before .before .args in (
+    let args = c .before .before .before .before .before .args in
+    let (_, n, few, done) = c .before .before .loop .inv in
+    let right : ℕ → ℕ → Type 0 = λ q z. (z ≡ runTime (jobIn (args .mem .now)) (args .t) q) × (z ≤ document01 .runTime) in (
       search needs,
-      simp length-set (loop .inv .1),
-      loop .inv .2,
-      each-more (λ q z. (z ≡ runTime (jobIn (args .mem .now)) (args .t) q) × (z ≤ 1000000)) (loop .runs) (loop .p) _
-          (omega (arith, c .before .loop-test .taken, loop .inv .1, loop .inv .2)) (loop .inv .3)
-          (c .run-time .ensures),
+      simp length-set n,
+      few,
+      each-more right (c .before .before .loop .runs) (c .before .before .loop .p) _ (omega (arith, c .before .loop-test .taken)) done (c .run-time .ensures),
     )
-
-returns : tie.Need-returns Inv-loop μ-loop
-returns c =
-    let loop = c .before .loop in
-    record { run = λ p h. loop .inv .3 p (omega arith) .0; most = λ p h. loop .inv .3 p (omega arith) .1 }
 
 pub run-times-spec : {M : Type 1} → statement M
 run-times-spec = tie.close (tie.spec
     Inv-loop μ-loop (λ c. let s = sizes (c .before .before .pre .0 .1) in omega arith)
-    (λ c. (omega arith, refl, sizes (c .before .before .pre .0 .1) .processors-most, λ q h. absurd (omega arith))) run-time-requires
-    (λ c. omega (arith, c .run-time .ensures .1)) (λ c. let s = sizes (c .before .before .before .before .before .pre .0 .1) in omega arith)
-    (λ c. let s = sizes (c .before .before .before .before .before .pre .0 .1) in omega arith)
-    (λ c. let s = sizes (c .before .before .before .before .before .pre .0 .1) in omega arith)
-    (λ c. let s = sizes (c .before .before .before .before .before .pre .0 .1) in omega arith) loop-again returns)
+    (λ c. (omega arith, refl, sizes (c .before .before .pre .0 .1) .processors-most, λ q h. absurd (omega arith)))
+    (λ c κs. let pre = c .before .before .before .before .pre in (pre .0, pre .1, c .loop-test .taken)) (λ c. search needs) (λ c. search needs)
+    (λ c. search needs) (λ c. search needs) (λ c. search needs) loop-again
+    (λ c. record { run = λ p h. c .before .loop .inv .3 p (omega arith) .0; most = λ p h. c .before .loop .inv .3 p (omega arith) .1 }))

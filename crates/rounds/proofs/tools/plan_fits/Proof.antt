@@ -8,15 +8,6 @@ returns c =
     let pre = c .before .before .pre in
     sym (le-leb _ (args .room) (omega (arith, pre .1, c .if1 .taken)))
 
-render-requires : tie.Need-render-requires
-render-requires c κs =
-    let pre = c .before .before .before .pre in
-    pre .0
-
-returns-2 : tie.Need-returns-2
-returns-2 c =
-    rw (c .before .render .ensures .size)
-
 pub plan-fits-spec : {M : Type 1} → statement M
 plan-fits-spec = tie.close (tie.spec
-    returns (λ c. search needs) render-requires returns-2)
+    returns (λ c. search needs) (λ c κs. c .before .before .before .pre .0) (λ c. rw (c .before .render .ensures .size)))

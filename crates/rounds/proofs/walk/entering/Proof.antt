@@ -1,12 +1,7 @@
-use Rattle.lists.proofs.Prelude.{_-_, needs}
+use Rattle.lists.proofs.Prelude.{needs}
 use Rattle.rounds.proofs.Walks.{inward-row, inward-made}
 use Rattle.rounds.proofs.walk.entering.Statement.{statement}
 use Rattle.rounds.proofs.walk.entering.Tie as tie
-
-row-of-requires : tie.Need-row-of-requires
-row-of-requires c κs =
-    let pre = c .before .before .pre in
-    rw (c .edge-from .ensures .0) (inward-row (pre .0) (pre .1))
 
 returns : tie.Need-returns
 returns c =
@@ -14,6 +9,6 @@ returns c =
     rw (c .before .row-of .ensures, c .before .before .edge-from .ensures .0, c .edge-volume .ensures) (inward-made (pre .0) (pre .1))
 
 pub entering-spec : {M : Type 1} → statement M
-entering-spec =
-    tie.close (tie.spec
-    (λ c κs. search needs) row-of-requires (λ c κs. search needs) (λ c. search needs) returns)
+entering-spec = tie.close (tie.spec
+    (λ c κs. search needs) (λ c κs. let pre = c .before .before .pre in rw (c .edge-from .ensures .0) (inward-row (pre .0) (pre .1)))
+    (λ c κs. search needs) (λ c. search needs) returns)

@@ -1,40 +1,35 @@
-use Rattle.lists.proofs.Prelude.{refl, sym, _∙_, arith, needs}
+use Rattle.lists.proofs.Prelude.{sym, _∙_, arith, needs, document01}
 use Rattle.rows.proofs.RowLaws.{out-of-turn, out-of-range, run-good, delay-self, delay-good}
 use Rattle.rows.proofs.row.check_row.Statement.{statement}
 use Rattle.rows.proofs.row.check_row.Tie as tie
 
 returns : tie.Need-returns
-returns c seen l = out-of-turn _ seen (c .before .before .before .before .args .row .now) (c .before .before .before .before .args .i) l (c .before .before .before .before .args .kind) (c .if1 .taken)
+returns c seen l = let a = c .before .before .before .before .args in out-of-turn document01 seen (a .row .now) _ l (a .kind) (c .if1 .taken)
 
 returns-2 : tie.Need-returns-2
 returns-2 c seen l =
-    let args = c .before .before .before .before .before .args in
-    out-of-range _ seen (args .row .now) (args .i) l (c .before .if1 .left) (args .kind) (sym (c .if2 .taken) ∙ c .before .before .off-range .ensures)
+    let a = c .before .before .before .before .before .args in
+    out-of-range document01 seen (a .row .now) _ l (c .before .if1 .left) (a .kind) (sym (c .if2 .taken) ∙ c .before .before .off-range .ensures)
 
 returns-3 : tie.Need-returns-3
 returns-3 c seen l =
-    let args = c .before .before .before .before .before .before .before .before .before .args in
-    let off-range = c .before .before .before .before .before .before .off-range in
-    let if1 = c .before .before .before .before .before .if1 in
-    let if2 = c .before .before .before .before .if2 in
-    rw (c .before .before .enum-told2 .given .1) (delay-self _ seen (args .row .now) (args .i) l (if1 .left)
-    (sym (if2 .left) ∙ off-range .ensures ∙ rw (c .before .before .enum-told2 .given .1) refl) (c .if3 .taken))
+    let w = c .before .before .before .before in
+    let a = w .before .before .before .before .before .args in
+    let e = sym (w .if2 .left) ∙ w .before .before .off-range .ensures in
+    delay-self document01 seen (a .row .now) _ l (w .before .if1 .left) (a .kind) e (c .before .before .enum-told2 .given .1) (c .if3 .taken)
 
 returns-4 : tie.Need-returns-4
 returns-4 c seen l =
-    let args = c .before .before .before .before .before .before .before .args in
-    let off-range = c .before .before .before .before .off-range in
-    let if1 = c .before .before .before .if1 in
-    rw (c .enum-told .given .1) (run-good _ seen (args .row .now) (args .i) l (if1 .left) (sym (c .before .before .if2 .left) ∙ off-range .ensures ∙ rw (c .enum-told .given .1) refl))
+    let w = c .before .before in
+    let a = w .before .before .before .before .before .args in
+    run-good document01 seen (a .row .now) _ l (w .before .if1 .left) (a .kind) (sym (w .if2 .left) ∙ w .before .before .off-range .ensures) (c .enum-told .given .1)
 
 returns-5 : tie.Need-returns-5
 returns-5 c seen l =
-    let args = c .before .before .before .before .before .before .before .before .before .args in
-    let off-range = c .before .before .before .before .before .before .off-range in
-    let if1 = c .before .before .before .before .before .if1 in
-    let if2 = c .before .before .before .before .if2 in
-    rw (c .before .before .enum-told2 .given .1) (delay-good _ seen (args .row .now) (args .i) l (if1 .left)
-    (sym (if2 .left) ∙ off-range .ensures ∙ rw (c .before .before .enum-told2 .given .1) refl) (c .if3 .left))
+    let w = c .before .before .before .before in
+    let a = w .before .before .before .before .before .args in
+    let e = sym (w .if2 .left) ∙ w .before .before .off-range .ensures in
+    delay-good document01 seen (a .row .now) _ l (w .before .if1 .left) (a .kind) e (c .before .before .enum-told2 .given .1) (c .if3 .left)
 
 pub check-row-spec : {M : Type 1} → statement M
 check-row-spec = tie.close (tie.spec

@@ -1,7 +1,7 @@
 -- After i turns the first i cells are never.
-use Rattle.lists.proofs.Prelude.{_≡_, ℕ, _≤_, _<_, _-_, arith, needs, length, length-set, nth}
+use Rattle.lists.proofs.Prelude.{_≡_, refl, ℕ, _≤_, _<_, _-_, arith, needs, length, length-set, nth}
 use Rattle.ticks.specs.Cells.{neverCell}
-use Rattle.stops.proofs.StopLaws.{never-more}
+use Rattle.lists.proofs.ListLaws.{each-more}
 use Rattle.stops.proofs.stops.clear.Statement.{statement}
 use Rattle.stops.proofs.stops.clear.Tie as tie
 
@@ -14,7 +14,7 @@ abbrev μ-loop : tie.MeasureT-loop
 loop-again : tie.Need-loop-again Inv-loop μ-loop
 loop-again c =
     let l = c .before .loop in
-    (omega (arith, c .loop-test .taken, l .inv .1), simp length-set (l .inv .1), never-more (l .stops) (l .i) (c .loop-test .taken) (l .inv .2))
+    (omega (arith, c .loop-test .taken, l .inv .1), simp length-set (l .inv .1), each-more (λ q x. x ≡ neverCell) (l .stops) (l .i) _ (c .loop-test .taken) (l .inv .2) refl)
 
 pub clear-spec : {M : Type 1} → statement M
 clear-spec = tie.close (tie.spec

@@ -18,11 +18,6 @@ loop-again c =
 
 pub offer-sooner-spec : {M : Type 1} → statement M
 offer-sooner-spec = tie.close (tie.spec
-    Inv-loop μ-loop (λ c. search needs) (λ c. (omega arith, lanes-none _ _)) (λ c. omega (arith, c .loop-test .taken))
-    (λ c. omega (arith, c .loop-test .taken)) (λ c. omega (arith, c .loop-test .taken)) (λ c κs. search needs)
-    (λ c. omega (arith, c .before .before .loop-test .taken)) (λ c. omega (arith, c .before .before .loop-test .taken)) (λ c κs. search needs)
-    (λ c. omega (arith, c .before .before .before .before .loop-test .taken))
-    (λ c. omega (arith, c .before .before .before .before .loop-test .taken))
-    (λ c. omega (arith, c .before .before .before .before .loop-test .taken))
-    (λ c. omega (arith, c .before .before .before .before .loop-test .taken)) loop-again
-    (λ c. lanes-all _ _ (c .before .loop .p) (c .before .loop .inv .1) (omega arith)))
+    Inv-loop μ-loop (λ c. search needs) (λ c. (omega arith, lanes-none _ _)) (λ c. search needs) (λ c. search needs) (λ c. search needs)
+    (λ c κs. search needs) (λ c. search needs) (λ c. search needs) (λ c κs. search needs) (λ c. search needs) (λ c. search needs) (λ c. search needs)
+    (λ c. search needs) loop-again (λ c. lanes-all _ _ (c .before .loop .p) (c .before .loop .inv .1) (omega arith)))

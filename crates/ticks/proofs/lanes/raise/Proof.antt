@@ -16,8 +16,6 @@ loop-again c = (omega arith, lanes-next _ _ (c .before .before .before .before .
 
 pub raise-spec : {M : Type 1} → statement M
 raise-spec = tie.close (tie.spec
-    Inv-loop μ-loop (λ c. (omega arith, lanes-none _ _)) (λ c. omega (arith, c .loop-test .taken)) (λ c. omega (arith, c .loop-test .taken))
-    (λ c. omega (arith, c .before .loop-test .taken)) (λ c. omega (arith, c .before .loop-test .taken)) (λ c κs. search needs)
-    (λ c. omega (arith, c .before .before .before .loop-test .taken)) (λ c. omega (arith, c .before .before .before .loop-test .taken))
-    (λ c. omega (arith, c .before .before .before .loop-test .taken)) (λ c. omega (arith, c .before .before .before .loop-test .taken)) loop-again
+    Inv-loop μ-loop (λ c. (omega arith, lanes-none _ _)) (λ c. search needs) (λ c. search needs) (λ c. search needs) (λ c. search needs)
+    (λ c κs. search needs) (λ c. search needs) (λ c. search needs) (λ c. search needs) (λ c. search needs) loop-again
     (λ c. lanes-all _ _ (c .before .loop .p) (c .before .loop .inv .1) (omega arith)))

@@ -13,8 +13,7 @@ abbrev μ-loop : tie.MeasureT-loop
 
 pub widened-spec : {M : Type 1} → statement M
 widened-spec = tie.close (tie.spec
-    Inv-loop μ-loop (λ c. (omega arith, lanes-none _ _)) (λ c. omega (arith, c .loop-test .taken)) (λ c. omega (arith, c .loop-test .taken))
-    (λ c κs. search needs) (λ c. omega (arith, c .before .before .loop-test .taken)) (λ c. omega (arith, c .before .before .loop-test .taken))
-    (λ c. omega (arith, c .before .before .loop-test .taken)) (λ c. omega (arith, c .before .before .loop-test .taken))
+    Inv-loop μ-loop (λ c. (omega arith, lanes-none _ _)) (λ c. search needs) (λ c. search needs) (λ c κs. search needs) (λ c. search needs)
+    (λ c. search needs) (λ c. search needs) (λ c. search needs)
     (λ c. (omega arith, lanes-next _ _ (c .before .before .before .loop .p) (c .widened-tick .result) (c .before .before .before .loop .inv .1) (c .widened-tick .ensures)))
     (λ c. lanes-all _ _ (c .before .loop .p) (c .before .loop .inv .1) (omega arith)))
