@@ -83,7 +83,7 @@ module _ (j : Job) where
   largestDelay p = greatest (map (delay j p) (below (j .processors)))
 
   -- Line 11, the priority values: "top level: 0 for a task without predecessors; else, over predecessors, the largest of (the
-  -- least, over replicas, of early finish + volume × that replica's largest delay to any box), times D".
+  -- least, over copies, of early finish + volume × that copy's largest delay to any box), times D".
   unfoldable pub topLevel : List Outcome → ℕ → ℕ
   topLevel placed t =
       tickOf (largest (map (λ e. least (map (λ d. after (e .volume * largestDelay (d .processor)) (d .time)) (ofTask (e .from) placed))) (incoming j t)))

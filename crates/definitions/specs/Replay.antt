@@ -10,7 +10,7 @@ use Rattle.definitions.specs.Stops.{Stop}
 use Rattle.definitions.specs.Times.{Time, tick, never, same, least, Outcome, ofTask, times, walk, placements, makespan}
 
 -- "In a doubled plan copies run in written order": the outcome of each replica under the stops. "A copy that cannot finish bars
--- every later replica on its box": its box is never ready again. The plan's ticks are not used.
+-- every later copy on its box": its box is never ready again. The plan's ticks are not used.
 unfoldable pub replay : Job → List Stop → List Line → List Outcome
 replay j stops ns = walk j least stops [] (placements j ns)
 

@@ -19,9 +19,22 @@ linksRoom capacity = 68 * capacity
 abbrev pub jobSize : ℕ → ℕ
 jobSize capacity = 177 * capacity
 
+-- The job's cells: its head, then a row for each C line and for each D line, with its own number in front, then a cell for each E line.
+-- Where row r begins if there are m processors, counted over the C lines and then the D lines.
+abbrev pub numbersAt : ℕ → ℕ → ℕ
+numbersAt m r = 4 + r * (1 + m)
+
+-- Where the D lines' cells begin.
+abbrev pub delaysAt : JobHead → ℕ
+delaysAt h = numbersAt (h .processors) (h .tasks)
+
+-- Where the E lines' cells begin.
+abbrev pub edgesAt : JobHead → ℕ
+edgesAt h = numbersAt (h .processors) (h .tasks + h .processors)
+
 -- The cells of a job with this head.
 abbrev pub cellsFor : JobHead → ℕ
-cellsFor h = 4 + (h .tasks + h .processors) * (h .processors + 1) + h .edges
+cellsFor h = edgesAt h + h .edges
 
 -- A job with this head fits a memory of this capacity.
 abbrev pub FitsIn : ℕ → JobHead → Type 0

@@ -4,6 +4,7 @@ ghost use Prim.Native.Nat.{_≤_};
 ghost use Rattle.heads.specs.Layout.{hasRoom};
 ghost use Rattle.heads.specs.Heads.{headOf};
 use crate::Head;
+use crate::layout;
 use crate::layout::JOB;
 
 // A job with this head fits a memory of this capacity.
@@ -23,5 +24,5 @@ pub fn fits(head: Head, capacity: usize) -> bool
     if m > 32 * JOB {
         return false;
     }
-    4 + (v + m) * (m + 1) + e <= JOB * capacity
+    layout::edges_at(v as u16, m as u16) + e <= JOB * capacity
 }

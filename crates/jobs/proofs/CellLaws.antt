@@ -13,7 +13,8 @@ use Rattle.rows.specs.declared.Kind.{Kind}
 use Rattle.rows.specs.declared.Kind.the-variants.{Runs, Delays}
 use Rattle.jobs.specs.Memory.{numbered, jobCells}
 use Rattle.heads.specs.Reading.{jobOf}
-use Rattle.jobs.specs.Stages.{delaysAt, edgesAt, Headed, RunsIn, DelaysIn}
+use Rattle.heads.specs.Layout.{delaysAt, edgesAt, largest}
+use Rattle.jobs.specs.Stages.{Headed, RunsIn, DelaysIn}
 
 -- Edges ---------------------------------------------------------------------------------------------------------
 
@@ -93,14 +94,15 @@ module _ (d x ys : List ℕ) (a : ℕ) (e : x ≡ putMid a (length d - a) d ys) 
 -- A job's cells, stage by stage -------------------------------------------------------------------------------------
 
 module _ {l : Limits} {n : ℕ} {d : List ℕ} (w : Headed l d n) where
-  pub runs-most : nth d 0 * (1 + nth d 1) ≤ l .tasks * (1 + l .processors)
-  runs-most = mul-le-mul {n₁ = nth d 0} {m₁ = 1 + nth d 1} {n₂ = l .tasks} {m₂ = 1 + l .processors} (w .tasks-most) (omega arith)
+  pub runs-most : delaysAt (jobHeadOf d) ≤ delaysAt (largest l)
+  runs-most = omega (arith, mul-le-mul {n₁ = nth d 0} {m₁ = 1 + nth d 1} {n₂ = l .tasks} {m₂ = 1 + l .processors} (w .tasks-most) (omega arith))
 
   delays-most : nth d 1 * (1 + nth d 1) ≤ l .processors * (1 + l .processors)
   delays-most = mul-le-mul {n₁ = nth d 1} {m₁ = 1 + nth d 1} {n₂ = l .processors} {m₂ = 1 + l .processors} (w .processors-most) (omega arith)
 
-  pub rows-most : (nth d 0 + nth d 1) * (1 + nth d 1) ≤ (l .tasks + l .processors) * (1 + l .processors)
-  rows-most = mul-le-mul {n₁ = nth d 0 + nth d 1} {m₁ = 1 + nth d 1} {n₂ = l .tasks + l .processors} {m₂ = 1 + l .processors} (omega arith) (omega arith)
+  pub rows-most : edgesAt (jobHeadOf d) ≤ edgesAt (largest l)
+  rows-most =
+      omega (arith, mul-le-mul {n₁ = nth d 0 + nth d 1} {m₁ = 1 + nth d 1} {n₂ = l .tasks + l .processors} {m₂ = 1 + l .processors} (omega arith) (omega arith))
 
 -- There is room for the C lines after the head, for the D lines after them, and for the E lines after those.
 module _ {l : Limits} {size : ℕ} (d : List ℕ) (w : Headed l d size) (opening s : List ℕ) where
@@ -110,17 +112,16 @@ module _ {l : Limits} {size : ℕ} (d : List ℕ) (w : Headed l d size) (opening
       let r = runs-most w in
       rows-fit _ _ Runs opening (1 + nth d 1) (nth d 0) s (lt-ltb 0 (1 + nth d 1) (omega arith)) (simp (length-take, length-drop) (omega arith))
 
-  pub delays-read : rowsInto l (length (midOf (delaysAt (jobHeadOf d)) (length d - delaysAt (jobHeadOf d)) d)) Delays opening (1 + nth d 1) (nth d 1) s
+  pub delays-read : {a : ℕ} → a ≡ delaysAt (jobHeadOf d) → rowsInto l (length (midOf a (length d - a) d)) Delays opening (1 + nth d 1) (nth d 1) s
       ≡ lines (line l opening (1 + nth d 1)) (ruleOf l Delays) (nth d 1) [] s
-  delays-read =
+  delays-read p =
       let r = runs-most w in
       let t = delays-most w in
       rows-fit _ _ Delays opening (1 + nth d 1) (nth d 1) s (lt-ltb (nth d 1) (1 + nth d 1) (omega arith)) (simp (length-take, length-drop) (omega arith))
 
-pub edges-read : {l : Limits} {n : ℕ} (d : List ℕ) → Headed l d n → (s : List ℕ)
-    → edgesInto l (length (midOf (edgesAt (jobHeadOf d)) (length d - edgesAt (jobHeadOf d)) d)) (nth d 0) (nth d 2) s
-    ≡ lines (edgeLine l) (edgeRule l (nth d 0)) (nth d 2) [] s
-edges-read d w s = edges-enough _ _ (nth d 0) (nth d 2) s (w .tasks-most) (simp (length-take, length-drop) (omega (arith, w .room)))
+pub edges-read : {l : Limits} {n : ℕ} (d : List ℕ) → Headed l d n → (s : List ℕ) → {a : ℕ} → a ≡ edgesAt (jobHeadOf d)
+    → edgesInto l (length (midOf a (length d - a) d)) (nth d 0) (nth d 2) s ≡ lines (edgeLine l) (edgeRule l (nth d 0)) (nth d 2) [] s
+edges-read d w s p = edges-enough _ _ (nth d 0) (nth d 2) s (w .tasks-most) (simp (length-take, length-drop) (omega (arith, p, w .room)))
 
 head-cells : (d : List ℕ) → 4 ≤ length d → take 4 d ≡ nth d 0 ∷ nth d 1 ∷ nth d 2 ∷ nth d 3 ∷ []
 head-cells [] h = absurd (omega arith)
@@ -160,35 +161,31 @@ module _ {l : Limits} {size : ℕ} (d x ys : List ℕ) (w : Headed l d size) whe
       rw (same 0 (omega arith), same 1 (omega arith), lent-take d x ys 4 e h 4 (omega arith), numbers) (lent-cells d x ys 4 e h (nth d 0 * (1 + nth d 1)))
 
   -- The D lines were read.
-  pub delays-in : (runs : List (List ℕ)) → RunsIn d runs → x ≡ putMid (delaysAt (jobHeadOf d)) (length d - delaysAt (jobHeadOf d)) d ys → (s r : List ℕ)
+  pub delays-in : {a : ℕ} → a ≡ delaysAt (jobHeadOf d) → (runs : List (List ℕ)) → RunsIn d runs → x ≡ putMid a (length d - a) d ys → (s r : List ℕ)
       → lines (line l (bytes "D,") (1 + nth d 1)) (ruleOf l Delays) (nth d 1) [] s ≡ found (rows (1 + nth d 1) (nth d 1) ys) r
       → DelaysIn x runs (map (drop 1) (rows (1 + nth d 1) (nth d 1) ys))
-  delays-in runs q e s r f =
-      let a = delaysAt (jobHeadOf d) in
-      let h : a ≤ length d = omega (arith, runs-most w) in
-      let u : 4 + (nth d 0 + nth d 1) * (1 + nth d 1) ≡ a + nth d 1 * (1 + nth d 1) = omega (arith, add-mul (nth d 0) (nth d 1) (1 + nth d 1)) in
+  delays-in {a} p runs q e s r f =
+      let h : a ≤ length d = omega (arith, p, runs-most w) in
+      let u : edgesAt (jobHeadOf d) ≡ a + nth d 1 * (1 + nth d 1) = omega (arith, p, add-mul (nth d 0) (nth d 1) (1 + nth d 1)) in
       let same = lent-nth d x ys a e h in
       let numbers = rows-numbered l Delays (bytes "D,") (nth d 1) (nth d 1) ys s r f in
-      rw (same 0 (omega arith), same 1 (omega arith), lent-take d x ys a e h 4 (omega arith), numbers, u, ← q) (lent-cells d x ys a e h (nth d 1 * (1 + nth d 1)))
+      rw (same 0 (omega arith), same 1 (omega arith), lent-take d x ys a e h 4 (omega arith), numbers, u, ← q, ← p) (lent-cells d x ys a e h (nth d 1 * (1 + nth d 1)))
 
   -- The E lines were read.
-  module _ (e : x ≡ putMid (edgesAt (jobHeadOf d)) (length d - edgesAt (jobHeadOf d)) d ys)
-      (k : length ys ≡ length (midOf (edgesAt (jobHeadOf d)) (length d - edgesAt (jobHeadOf d)) d)) where
-    pub edges-fit : edgesAt (jobHeadOf d) + nth d 2 ≤ length x
-    edges-fit = let a = edgesAt (jobHeadOf d) in rw e (omega (arith, rows-most w, same-len-mid a (length d - a) d ys k))
+  module _ {a : ℕ} (p : a ≡ edgesAt (jobHeadOf d)) (e : x ≡ putMid a (length d - a) d ys) (k : length ys ≡ length (midOf a (length d - a) d)) where
+    pub edges-fit : a + nth d 2 ≤ length x
+    edges-fit = rw e (omega (arith, p, rows-most w, same-len-mid a (length d - a) d ys k))
 
-    pub edges-part : take (edgesAt (jobHeadOf d) + nth d 2 - edgesAt (jobHeadOf d)) (drop (edgesAt (jobHeadOf d)) x) ≡ take (nth d 2) ys
+    pub edges-part : take (a + nth d 2 - a) (drop a x) ≡ take (nth d 2) ys
     edges-part =
-        let a = edgesAt (jobHeadOf d) in
         let m : a + nth d 2 - a ≡ nth d 2 = omega arith in
-        rw (m, e, drop-lent a d ys (omega (arith, rows-most w)))
+        rw (m, e, drop-lent a d ys (omega (arith, p, rows-most w)))
 
     pub edges-in : (runs delays : List (List ℕ)) → DelaysIn d runs delays
-        → take (edgesAt (jobHeadOf d) + nth d 2) x ≡ jobCells (jobOf (jobHeadOf d) runs delays (map edgeIn (take (nth d 2) ys)))
+        → take (a + nth d 2) x ≡ jobCells (jobOf (jobHeadOf d) runs delays (map edgeIn (take (nth d 2) ys)))
     unfolding jobCells
     edges-in runs delays q =
-        let a = edgesAt (jobHeadOf d) in
         let r = rows-most w in
         let g : nth d 2 ≤ length ys = omega (arith, mid-len a (length d) d (omega arith)) in
         let n : length (map edgeIn (take (nth d 2) ys)) ≡ nth d 2 = length-map (take (nth d 2) ys) edgeIn ∙ length-take-le (nth d 2) ys g in
-        lent-cells d x ys a e (omega arith) (nth d 2) ∙ rw (q, head-cells d (omega arith), n, cells-of)
+        lent-cells d x ys a e (omega arith) (nth d 2) ∙ rw (p, q, head-cells d (omega arith), n, cells-of)

@@ -1,11 +1,11 @@
 -- A job that stands in a memory: where its numbers are, and what a change elsewhere leaves as it was.
-use Rattle.lists.proofs.Prelude.{_≡_, refl, ap, _∙_, List, [], map, ℕ, _+_, _*_, _<_, _≤_, arith, mul-le-mul, length, length-map, nth, below, Edge, Job, runTime, delay, incoming, Limits}
+use Rattle.lists.proofs.Prelude.{_≡_, refl, ap, _∙_, List, [], map, ℕ, _+_, _*_, _<_, _≤_, arith, mul-le-mul, length, length-map, nth, below, Edge, Job, jobHeadOf, runTime, delay, incoming, Limits}
 use Rattle.definitions.proofs.Lists.{length-count}
 use Rattle.orders.specs.Edges.{edgeIn}
 use Rattle.orders.specs.Links.{Run, inStartAt, linkIn}
 use Rattle.orders.proofs.LinkIn.{link-in}
 use Rattle.orders.proofs.RunLaws.{run-same}
-use Rattle.heads.specs.Layout.{memorySize, jobSize, replicasMost, lanesMost}
+use Rattle.heads.specs.Layout.{memorySize, jobSize, edgesAt, cellsFor, largest, replicasMost, lanesMost}
 use Rattle.jobs.specs.Tables.{Tabled}
 use Rattle.jobs.specs.Held.{numberAt, runAt, delayAt, edgeAt, jobIn, JobHeld, LinksHeld}
 use Rattle.lists.specs.Kept.{KeptOutside}
@@ -63,8 +63,8 @@ pub record Sizes (l : Limits) (capacity : ℕ) (mem : List ℕ) : Type 0 where
   pub losses-most : nth mem 3 ≤ l .losses
   pub row-fits : nth mem 3 + 1 ≤ replicasMost
   pub enough : nth mem 3 + 1 ≤ nth mem 1
-  pub before-edges : (nth mem 0 + nth mem 1) * (nth mem 1 + 1) ≤ (l .tasks + l .processors) * (l .processors + 1)
-  pub cells-room : edgeAt mem (nth mem 2) ≤ jobSize capacity
+  pub before-edges : edgesAt (jobHeadOf mem) ≤ edgesAt (largest l)
+  pub cells-room : cellsFor (jobHeadOf mem) ≤ jobSize capacity
   pub tabled : Tabled l
 
 pub sizes : {l : Limits} {capacity : ℕ} {mem : List ℕ} → JobHeld l capacity mem → Sizes l capacity mem
@@ -82,17 +82,20 @@ sizes {l} {mem} h =
       losses-most = f .losses-most;
       row-fits = omega (arith, f .losses-most, h .tabled .row-fits);
       enough = f .enough;
-      before-edges = mul-le-mul {n₁ = nth mem 0 + nth mem 1} {m₁ = nth mem 1 + 1} {n₂ = l .tasks + l .processors} {m₂ = l .processors + 1}
-          (omega (arith, f .tasks-most, f .processors-most)) (omega (arith, f .processors-most));
-      cells-room = omega (arith, h .fits .2);
+      before-edges = omega (
+        arith,
+        mul-le-mul {n₁ = nth mem 0 + nth mem 1} {m₁ = 1 + nth mem 1} {n₂ = l .tasks + l .processors} {m₂ = 1 + l .processors}
+            (omega (arith, f .tasks-most, f .processors-most)) (omega (arith, f .processors-most)),
+      );
+      cells-room = h .fits .2;
       tabled = h .tabled;
     }
 
 module _ {l : Limits} {capacity : ℕ} {mem : List ℕ} (s : Sizes l capacity mem) where
   -- The cells of row r, before the edges: the rows of the tasks, then those of the processors.
   pub row-cell : (r p : ℕ) → r < nth mem 0 + nth mem 1 → p < nth mem 1
-      → numberAt mem r p < 4 + (nth mem 0 + nth mem 1) * (nth mem 1 + 1)
-  row-cell r p h g = omega (arith, row-ends r (nth mem 0 + nth mem 1) (nth mem 1 + 1) h)
+      → numberAt mem r p < edgesAt (jobHeadOf mem)
+  row-cell r p h g = omega (arith, row-ends r (nth mem 0 + nth mem 1) (1 + nth mem 1) h)
 
   pub row-below : (r p : ℕ) → r < nth mem 0 + nth mem 1 → p < nth mem 1 → numberAt mem r p < jobSize capacity
   row-below r p h g = omega (arith, row-cell r p h g)

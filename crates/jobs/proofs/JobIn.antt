@@ -9,6 +9,7 @@ use Rattle.orders.proofs.RunLaws.{run-same}
 use Rattle.jobs.specs.Memory.{numbered, jobCells}
 use Rattle.jobs.specs.Answers.{Loaded}
 use Rattle.jobs.specs.Held.{jobIn, LinksHeld}
+use Rattle.heads.specs.Layout.{numbersAt, edgesAt, cellsFor}
 use Rattle.heads.specs.Reading.{fromRuns, closed}
 use Rattle.text.specs.Suited.{Suited}
 use Rattle.edges.proofs.EdgeLaws.{edge-of-cell}
@@ -73,6 +74,10 @@ module _ (j : Job) (mem : List ℕ) (w : JobShape j) (e : take (length (jobCells
   abbrev m : ℕ
   m = j .processors
 
+  -- The job's head, and its cells: the head's, those of the C, the D and the E lines.
+  abbrev heading : JobHead
+  heading = record { tasks = v; processors = m; edges = length (j .edges); losses = j .losses }
+
   abbrev head : List ℕ
   head = v ∷ m ∷ length (j .edges) ∷ j .losses ∷ []
 
@@ -107,34 +112,30 @@ module _ (j : Job) (mem : List ℕ) (w : JobShape j) (e : take (length (jobCells
   head-at i h = let z : i ≡ 0 + i = omega arith in
       ap (nth mem) z ∙ place-at mem [] head (runs ++ (delays ++ edges)) (length (jobCells j)) (e ∙ from-head) (ap length from-head) i h
 
-  run-at : (t p : ℕ) → t < v → p < m → nth mem (4 + t * (m + 1) + (p + 1)) ≡ nth (getD (j .runs) t []) p
+  run-at : (t p : ℕ) → t < v → p < m → nth mem (numbersAt m t + (p + 1)) ≡ nth (getD (j .runs) t []) p
   run-at t p h g =
-      let k : m + 1 ≡ 1 + m = omega arith in
-      let i : 4 + t * (m + 1) + (p + 1) ≡ length head + (t * (1 + m) + (1 + p)) = rw k (omega arith) in
+      let i : numbersAt m t + (p + 1) ≡ length head + (t * (1 + m) + (1 + p)) = omega arith in
       let s : t * (1 + m) + (1 + p) < length runs = omega (arith, row-ends t v (1 + m) h, runs-size) in
       rw i (place-at mem head runs (delays ++ edges) (length (jobCells j)) (e ∙ from-head) (ap length from-head) (t * (1 + m) + (1 + p)) s
       ∙ numbered-at m 0 (j .runs) (w .runs-wide) t p (rw (w .runs-count) h) g)
 
-  delay-at : (p q : ℕ) → p < m → q < m → nth mem (4 + (v + p) * (m + 1) + (q + 1)) ≡ nth (getD (j .delays) p []) q
+  delay-at : (p q : ℕ) → p < m → q < m → nth mem (numbersAt m (v + p) + (q + 1)) ≡ nth (getD (j .delays) p []) q
   delay-at p q h g =
-      let k : m + 1 ≡ 1 + m = omega arith in
-      let i : 4 + (v + p) * (m + 1) + (q + 1) ≡ length (head ++ runs) + (p * (1 + m) + (1 + q)) = rw k (omega (arith, add-mul v p (1 + m), runs-size)) in
+      let i : numbersAt m (v + p) + (q + 1) ≡ length (head ++ runs) + (p * (1 + m) + (1 + q)) = omega (arith, add-mul v p (1 + m), runs-size) in
       let s : p * (1 + m) + (1 + q) < length delays = omega (arith, row-ends p m (1 + m) h, delays-size) in
       rw i (place-at mem (head ++ runs) delays edges (length (jobCells j)) (e ∙ from-delays) (ap length from-delays) (p * (1 + m) + (1 + q)) s
       ∙ numbered-at m 0 (j .delays) (w .delays-wide) p q (rw (w .delays-count) h) g)
 
-  edge-at : (i : ℕ) → i < length (j .edges) → nth mem (4 + (v + m) * (m + 1) + i) ≡ nth edges i
+  edge-at : (i : ℕ) → i < length (j .edges) → nth mem (edgesAt heading + i) ≡ nth edges i
   edge-at i h =
-      let k : m + 1 ≡ 1 + m = omega arith in
-      let n : 4 + (v + m) * (m + 1) + i ≡ length (head ++ runs ++ delays) + i =
-      rw k (omega (arith, add-mul v m (1 + m), runs-size, delays-size, length-append runs delays)) in
+      let n : edgesAt heading + i ≡ length (head ++ runs ++ delays) + i = omega (arith, add-mul v m (1 + m), runs-size, delays-size, length-append runs delays) in
       rw n (place-at mem (head ++ runs ++ delays) edges [] (length (jobCells j)) (e ∙ from-edges) (ap length from-edges) i (rw (length-map (j .edges) edgeCell) h))
 
   pub job-in : {l : Limits} → Suited l → JobFacts l j → jobIn mem ≡ j
   unfolding jobIn
   job-in u f =
       let none : Edge = record { from = 0; to = 0; volume = 0 } in
-      let edge : (i : ℕ) → i < length (j .edges) → edgeIn (nth mem (4 + (v + m) * (m + 1) + i)) ≡ getD (j .edges) i none =
+      let edge : (i : ℕ) → i < length (j .edges) → edgeIn (nth mem (edgesAt heading + i)) ≡ getD (j .edges) i none =
       λ i h.
       let k = getD-in (j .edges) i none h in
       ap edgeIn (edge-at i h ∙ List·getD-map edgeCell (j .edges) i none)
@@ -144,9 +145,9 @@ module _ (j : Job) (mem : List ℕ) (w : JobShape j) (e : take (length (jobCells
         head-at 1 (omega arith),
         head-at 2 (omega arith),
         head-at 3 (omega arith),
-        table (λ t p. nth mem (4 + t * (m + 1) + (p + 1))) v m (j .runs) (w .runs-count) (w .runs-wide) run-at,
-        table (λ p q. nth mem (4 + (v + p) * (m + 1) + (q + 1))) m m (j .delays) (w .delays-count) (w .delays-wide) delay-at,
-        members (λ i. edgeIn (nth mem (4 + (v + m) * (m + 1) + i))) none (length (j .edges)) (j .edges) refl edge,
+        table (λ t p. nth mem (numbersAt m t + (p + 1))) v m (j .runs) (w .runs-count) (w .runs-wide) run-at,
+        table (λ p q. nth mem (numbersAt m (v + p) + (q + 1))) m m (j .delays) (w .delays-count) (w .delays-wide) delay-at,
+        members (λ i. edgeIn (nth mem (edgesAt heading + i))) none (length (j .edges)) (j .edges) refl edge,
       )
 
   -- The links of its edges are links of the job in the memory.
@@ -155,9 +156,8 @@ module _ (j : Job) (mem : List ℕ) (w : JobShape j) (e : take (length (jobCells
   links-in u f {links} r =
       let q : map edgeIn edges ≡ jobIn mem .edges = edges-back _ u v (f .tasks-most) (j .edges) (λ e i. (f .from-task e i, f .to-task e i)) ∙ ap (λ (i : Job). i .edges) (sym (job-in u f)) in
       let n : length edges ≡ length (j .edges) = length-map (j .edges) edgeCell in
-      let full : 4 + (v + m) * (m + 1) + length (j .edges) ≤ length mem =
-      let k : m + 1 ≡ 1 + m = omega arith in
-      rw k (omega (
+      let full : cellsFor heading ≤ length mem =
+      omega (
         arith,
         length-take (length (jobCells j)) mem,
         ap length e,
@@ -171,7 +171,7 @@ module _ (j : Job) (mem : List ℕ) (w : JobShape j) (e : take (length (jobCells
         add-mul v m (1 + m),
         runs-size,
         delays-size,
-      )) in
+      ) in
       let v0 : nth mem 0 ≡ v = head-at 0 (omega arith) in
       let m0 : nth mem 1 ≡ m = head-at 1 (omega arith) in
       let n0 : nth mem 2 ≡ length (j .edges) = head-at 2 (omega arith) in
@@ -181,7 +181,7 @@ module _ (j : Job) (mem : List ℕ) (w : JobShape j) (e : take (length (jobCells
             let o = r .runs .outs t (omega (arith, h, v0)) in
             let a = nth links t in
             let b = nth links (t + 1) in
-            let g = 4 + (v + m) * (m + 1) in
+            let g = edgesAt heading in
             let s : g + b - (g + a) ≡ b - a = omega (arith, o .rises) in
             rw (v0, m0)
             (record {
@@ -194,8 +194,8 @@ module _ (j : Job) (mem : List ℕ) (w : JobShape j) (e : take (length (jobCells
         order = rw (v0, ← q) (r .order);
       }
     where
-      edge-cell : (a i : ℕ) → a + i < length (j .edges) → nth mem (4 + (v + m) * (m + 1) + a + i) ≡ nth edges (a + i)
-      edge-cell a i l = let z : 4 + (v + m) * (m + 1) + a + i ≡ 4 + (v + m) * (m + 1) + (a + i) = omega arith in rw z (edge-at (a + i) l)
+      edge-cell : (a i : ℕ) → a + i < length (j .edges) → nth mem (edgesAt heading + a + i) ≡ nth edges (a + i)
+      edge-cell a i l = let z : edgesAt heading + a + i ≡ edgesAt heading + (a + i) = omega arith in rw z (edge-at (a + i) l)
 
 -- After a good answer of the reader the memory holds the job of the head and the text, and the links are its links.
 pub loaded-in : {l : Limits} → Suited l → (h : JobHead) (s mem links : List ℕ) (n : ℕ) → jobHeadRule l h ≡ 0 → Loaded (closed (fromRuns l h s)) mem links (Next n)

@@ -28,9 +28,8 @@ module _ {l : Limits} (mem : List ℕ) (links : ℕ) (h : JobHead) (q : jobHeadO
   pub headed : jobHeadRule l h ≡ 0 → cellsFor h ≤ length mem → linksSize (h .tasks) (h .edges) ≤ links → Headed l mem links
   headed z room more =
       let (v1, v2, _, m2, e2, _, _) = job-head-parts l (jobHeadOf mem) (subst (λ (g : JobHead). jobHeadRule l g ≡ 0) (sym q) z) in
-      let k : nth mem 1 + 1 ≡ 1 + nth mem 1 = omega arith in
       let r = subst (λ (g : JobHead). cellsFor g ≤ length mem) (sym q) room in
-      record { some-task = v1; tasks-most = v2; processors-most = m2; edges-most = e2; room = rw k at r; links-room = subst (λ (g : JobHead). linksSize (g .tasks) (g .edges) ≤ links) (sym q) more }
+      record { some-task = v1; tasks-most = v2; processors-most = m2; edges-most = e2; room = r; links-room = subst (λ (g : JobHead). linksSize (g .tasks) (g .edges) ≤ links) (sym q) more }
 
 pub runs-as : (l : Limits) (g h : JobHead) (s mem links : List ℕ) (r : Step) → g ≡ h → Loaded (closed (fromRuns l g s)) mem links r → Loaded (closed (fromRuns l h s)) mem links r
 runs-as l g h s mem links r q k = rw q at k

@@ -1,7 +1,7 @@
 -- A job at the front of a memory, and links between its edges.
 use mathlib.Core.Path.{_≡_}
 use mathlib.Core.List.{List, map}
-use Prim.Native.Nat.{ℕ, _+_, _*_, _<_, _≤_}
+use Prim.Native.Nat.{ℕ, _+_, _<_, _≤_}
 use lib.ListN.{length, drop}
 use Rattle.definitions.specs.Lists.{nth, below}
 use Rattle.definitions.specs.Limits.{Limits}
@@ -11,12 +11,12 @@ use Rattle.orders.specs.Edges.{edgeIn}
 use Rattle.orders.specs.Order.{Arranged}
 use Rattle.orders.specs.Links.{Run, outStartAt, inStartAt, orderAt, linksSize}
 use Rattle.text.specs.Suited.{Suited}
-use Rattle.heads.specs.Layout.{memorySize, FitsIn}
+use Rattle.heads.specs.Layout.{memorySize, numbersAt, edgesAt, FitsIn}
 use Rattle.jobs.specs.Tables.{Tabled}
 
 -- The cell of number p of row r, counted over the C lines and then the D lines; a row begins with its own number.
 abbrev pub numberAt : List ℕ → ℕ → ℕ → ℕ
-numberAt mem r p = 4 + r * (nth mem 1 + 1) + (p + 1)
+numberAt mem r p = numbersAt (nth mem 1) r + (p + 1)
 
 -- The cell of the run time of task t on processor p.
 abbrev pub runAt : List ℕ → ℕ → ℕ → ℕ
@@ -28,7 +28,7 @@ delayAt mem p q = numberAt mem (nth mem 0 + p) q
 
 -- The cell of edge i.
 abbrev pub edgeAt : List ℕ → ℕ → ℕ
-edgeAt mem i = 4 + (nth mem 0 + nth mem 1) * (nth mem 1 + 1) + i
+edgeAt mem i = edgesAt (jobHeadOf mem) + i
 
 -- The job that the cells hold.
 unfoldable pub jobIn : List ℕ → Job

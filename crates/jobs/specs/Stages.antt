@@ -1,15 +1,16 @@
 -- The stages of reading a job into a memory: what the memory holds at each of them.
-use Prim.Native.Nat.{ℕ, _+_, _*_, _≤_}
+use Prim.Native.Nat.{ℕ, _≤_}
 use mathlib.Core.Path.{_≡_}
 use mathlib.Core.List.{List, _++_}
 use mathlib.Core.Bool.{Bool, true, false}
 use lib.ListN.{length, take}
 use Rattle.definitions.specs.Lists.{nth}
 use Rattle.definitions.specs.Limits.{Limits}
-use Rattle.definitions.specs.Job.{JobHead, jobHeadOf}
+use Rattle.definitions.specs.Job.{jobHeadOf}
 use Rattle.text.specs.declared.Step.{Step}
 use Rattle.text.specs.declared.Step.the-variants.{Next, Refused}
 use Rattle.orders.specs.Links.{linksSize}
+use Rattle.heads.specs.Layout.{delaysAt, edgesAt, cellsFor}
 use Rattle.jobs.specs.Memory.{numbered}
 
 -- The answer after the last line: whether there is a line left over, whether there is a circle, and the place after the job's cells.
@@ -18,20 +19,13 @@ closing true b end = Refused 2
 closing false true end = Refused 7
 closing false false end = Next end
 
--- The places of the first D line's and of the first E line's cells.
-abbrev pub delaysAt : JobHead → ℕ
-delaysAt h = 4 + h .tasks * (1 + h .processors)
-
-abbrev pub edgesAt : JobHead → ℕ
-edgesAt h = 4 + (h .tasks + h .processors) * (1 + h .processors)
-
 -- A memory with a head within its limits in front, and room for the job, and for its links in so many cells.
 pub record Headed (l : Limits) (mem : List ℕ) (links : ℕ) : Type 0 where
   pub some-task : 1 ≤ nth mem 0
   pub tasks-most : nth mem 0 ≤ l .tasks
   pub processors-most : nth mem 1 ≤ l .processors
   pub edges-most : nth mem 2 ≤ l .edges
-  pub room : edgesAt (jobHeadOf mem) + nth mem 2 ≤ length mem
+  pub room : cellsFor (jobHeadOf mem) ≤ length mem
   pub links-room : linksSize (nth mem 0) (nth mem 2) ≤ links
 
 -- The C lines' cells stand after the head; the C and D lines' cells do.

@@ -18,6 +18,7 @@ ghost use Rattle.jobs.specs.Answers.{Loaded};
 ghost use Rattle.jobs.specs.Stages.{Headed, closing, RunsIn, DelaysIn};
 use heads::Head;
 use heads::Opening;
+use heads::layout;
 use orders::Linking;
 use rows::Kind;
 use text::Step;
@@ -44,9 +45,8 @@ fn load_edges(s: &[u8], at: usize, mem: &mut [u64], links: &mut [u64]) -> Step
         → Loaded (closed (fromEdges document01 (jobHeadOf (now (mem .entry))) runs delays (drop at (now (s .entry))))) (now (mem .exit)) (now (links .exit)) r) ⌝ }
 {
     let v = mem[0];
-    let m = mem[1] as usize;
     let e = mem[2] as usize;
-    let a = 4 + (v as usize + m) * (1 + m);
+    let a = layout::edges_at(v as u16, mem[1] as u16);
     match edges::read_edges(s, at, v, e, &mut mem[a..]) {
         Step::Next(p) => {
             let end = a + e;
@@ -62,11 +62,9 @@ fn load_delays(s: &[u8], at: usize, mem: &mut [u64], links: &mut [u64]) -> Step
     ensures { λ r. ⌜ ((runs : List (List ℕ)) → RunsIn (now (mem .entry)) runs
         → Loaded (closed (fromDelays document01 (jobHeadOf (now (mem .entry))) runs (drop at (now (s .entry))))) (now (mem .exit)) (now (links .exit)) r) ⌝ }
 {
-    let v = mem[0] as usize;
     let m = mem[1] as usize;
-    let k = 1 + m;
-    let a = 4 + v * k;
-    match rows::read_rows(s, at, b"D,", Kind::Delays, m, k, &mut mem[a..]) {
+    let a = layout::numbers_at(m as u32, mem[0] as u32);
+    match rows::read_rows(s, at, b"D,", Kind::Delays, m, 1 + m, &mut mem[a..]) {
         Step::Next(p) => load_edges(s, p, mem, links),
         Step::Refused(n) => Step::Refused(n),
     }

@@ -7,6 +7,7 @@ ghost use Rattle.definitions.specs.Limits.{document01};
 ghost use Rattle.definitions.specs.Job as Job;
 ghost use Rattle.jobs.specs.Held.{numberAt, jobIn, SomeJobHeld};
 ghost use Rattle.rounds.specs.Levels.{rowSum, rowMost};
+use heads::layout;
 use ticks::lanes;
 
 // The cell of number p of row r, counted over the C lines and then the D lines.
@@ -14,7 +15,7 @@ fn number_at(mem: &[u64], r: usize, p: usize) -> usize
     requires { ⌜ SomeJobHeld document01 (now mem) × (r < nth (now mem) 0 + nth (now mem) 1) × (p < nth (now mem) 1) ⌝ }
     ensures { λ i. ⌜ (i ≡ numberAt (now (mem .entry)) r p) × (i < length (now (mem .entry))) ⌝ }
 {
-    4 + r * (mem[1] as usize + 1) + (p + 1)
+    layout::numbers_at(mem[1] as u32, r as u32) + (p + 1)
 }
 
 // The run time of task t on processor p.

@@ -5,15 +5,14 @@ ghost use Rattle.orders.specs.Edges.{edgeIn};
 ghost use Rattle.jobs.specs.Held.{edgeAt, JobHeld, SomeJobHeld};
 ghost use Rattle.rounds.specs.Walks.{Feeds, Entered};
 use crate::row;
+use heads::layout;
 
 // Where the edges stand among the job's cells.
 pub fn edges_at(mem: &[u64]) -> usize
     requires { ⌜ SomeJobHeld document01 (now mem) ⌝ }
     ensures { λ r. ⌜ r ≡ edgeAt (now (mem .entry)) 0 ⌝ }
 {
-    let v = mem[0];
-    let m = mem[1];
-    (4 + (v + m) * (m + 1)) as usize
+    layout::edges_at(mem[0] as u16, mem[1] as u16)
 }
 
 // What an edge needs that enters a task: the line of the task that it leaves, and its volume.
