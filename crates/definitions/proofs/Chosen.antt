@@ -56,16 +56,16 @@ module _ (j : Job) (finishes : List ℕ) where
 
   rank-below : (p : ℕ) → p < j .processors → rank p < j .processors
   rank-below p h =
-      let boxes = below (j .processors) in
+      let processors = below (j .processors) in
       rw (length-count 0 (j .processors)) at
-      (fewer (goesBefore finishes p) p boxes boxes (distinct-count 0 (j .processors)) (goes-apart p) (below-in (j .processors) p h) (λ q i g. i))
+      (fewer (goesBefore finishes p) p processors processors (distinct-count 0 (j .processors)) (goes-apart p) (below-in (j .processors) p h) (λ q i g. i))
 
   rank-less : (p q : ℕ) → q < j .processors → goesBefore finishes p q ≡ true → rank q < rank p
   rank-less p q h g =
-      let boxes = below (j .processors) in
-      fewer (goesBefore finishes q) q boxes (keep (goesBefore finishes p) boxes) (distinct-count 0 (j .processors)) (goes-apart q)
-      (keep-in (goesBefore finishes p) q boxes (below-in (j .processors) q h) g)
-      (λ r i f. keep-in (goesBefore finishes p) r boxes i (goes-past p q r g f))
+      let processors = below (j .processors) in
+      fewer (goesBefore finishes q) q processors (keep (goesBefore finishes p) processors) (distinct-count 0 (j .processors)) (goes-apart q)
+      (keep-in (goesBefore finishes p) q processors (below-in (j .processors) q h) g)
+      (λ r i f. keep-in (goesBefore finishes p) r processors i (goes-past p q r g f))
 
   rank-apart : (p q : ℕ) → p < j .processors → q < j .processors → rank p ≡ rank q → p ≡ q
   rank-apart p q h g e = by (eqb p q) refl
@@ -82,32 +82,33 @@ module _ (j : Job) (finishes : List ℕ) where
   ranks : (r : ℕ) → r < j .processors → (p : ℕ) × In p (below (j .processors)) × (rank p ≡ r)
   ranks r h =
       let m = j .processors in
-      let boxes = below m in
-      in-map rank r boxes
-      (full m (map rank boxes)
-      (distinct-map rank boxes (λ p q i k. rank-apart p q (in-below m p i) (in-below m q k)) (distinct-count 0 m))
-      (λ x i. let s = in-map rank x boxes i in let b = rank-below (s .0) (in-below m (s .0) (s .1)) in rw (s .2) at b)
-      (length-map boxes rank ∙ length-count 0 m)
+      let processors = below m in
+      in-map rank r processors
+      (full m (map rank processors)
+      (distinct-map rank processors (λ p q i k. rank-apart p q (in-below m p i) (in-below m q k)) (distinct-count 0 m))
+      (λ x i. let s = in-map rank x processors i in let b = rank-below (s .0) (in-below m (s .0) (s .1)) in rw (s .2) at b)
+      (length-map processors rank ∙ length-count 0 m)
       r h)
 
   pub chosen-count : (k : ℕ) → k ≤ j .processors → length (chosen j k finishes) ≡ k
   unfolding chosen
   chosen-count k h =
       let m = j .processors in
-      let boxes = below m in
+      let processors = below m in
       let few : ℕ → Bool = λ p. ltb (rank p) k in
-      let kept = keep few boxes in
+      let kept = keep few processors in
       let most : length (map rank kept) ≤ length (below k) =
       fits (map rank kept) (below k)
-      (distinct-map rank kept (λ p q i l. rank-apart p q (in-below m p (in-keep few p boxes i .0)) (in-below m q (in-keep few q boxes l .0))) (distinct-keep few boxes (distinct-count 0 m)))
-      (λ x i. let s = in-map rank x kept i in let b = ltb-true (rank (s .0)) k (in-keep few (s .0) boxes (s .1) .1) in below-in k x (rw (s .2) at b)) in
+      (distinct-map rank kept (λ p q i l. rank-apart p q (in-below m p (in-keep few p processors i .0)) (in-below m q (in-keep few q processors l .0)))
+      (distinct-keep few processors (distinct-count 0 m)))
+      (λ x i. let s = in-map rank x kept i in let b = ltb-true (rank (s .0)) k (in-keep few (s .0) processors (s .1) .1) in below-in k x (rw (s .2) at b)) in
       let least : length (below k) ≤ length (map rank kept) =
       fits (below k) (map rank kept) (distinct-count 0 k)
       (λ x i.
       let b = in-below k x i in
       let s = ranks x (omega arith) in
       let t : rank (s .0) < k = omega (arith, s .2) in
-      rw (s .2) at (map-in rank (s .0) kept (keep-in few (s .0) boxes (s .1) (lt-ltb (rank (s .0)) k t)))) in
+      rw (s .2) at (map-in rank (s .0) kept (keep-in few (s .0) processors (s .1) (lt-ltb (rank (s .0)) k t)))) in
       omega (arith, length-map kept rank, length-count 0 k)
 
   pub chosen-below : (k p : ℕ) → In p (chosen j k finishes) → p < j .processors

@@ -31,7 +31,7 @@ doubled-line t ns h =
     let (k, d) = in-keep (λ n. not (distinct (processorsOf n))) n ns i in
     (n, k, not-true (distinct (processorsOf n)) d, e)
 
--- Boxes, each taken once --------------------------------------------------------------------------------------
+-- Processors, each taken once --------------------------------------------------------------------------------------
 
 pub in-once : (x : ℕ) (ps : List ℕ) → In x ps → In x (once ps)
 unfolding once
@@ -62,7 +62,7 @@ once-fewer (p ∷ ps) h = by (has p ps) h (once-fewer ps)
     by true h f = omega (arith, length-once ps)
     by false h f = omega (arith, f h)
 
--- Boxes that do not descend: the first is the least.
+-- Processors that do not descend: the first is the least.
 pub rising : (p : ℕ) (ps : List ℕ) → descends (p ∷ ps) ≡ false → ((q : ℕ) → In q ps → p ≤ q) × (descends ps ≡ false)
 unfolding descends
 rising p [] h = ((λ q i. absurd i), refl)
@@ -107,27 +107,27 @@ stops-at-zero x (p ∷ ps) i = by (eqb p x) refl i (stops-at-zero x ps)
 -- Lines in order ----------------------------------------------------------------------------------------------
 
 -- The processors of a task are those of its one line.
-pub line-boxes :
+pub line-processors :
     (j : Job) (seen : List ℕ) (ns : List Line) → Ordered j seen ns → (n : Line) → In n ns → (t : ℕ) → n .task ≡ t
     → taskProcessors t ns ≡ processorsOf n
 unfolding taskProcessors
-line-boxes j seen (m ∷ ns) (o, os) n (inl e) t q = rw (eq-eqb (m .task) t (ap (λ n. n .task) e ∙ q)) (ap processorsOf e)
-line-boxes j seen (m ∷ ns) (o, os) n (inr i) t q =
+line-processors j seen (m ∷ ns) (o, os) n (inl e) t q = rw (eq-eqb (m .task) t (ap (λ n. n .task) e ∙ q)) (ap processorsOf e)
+line-processors j seen (m ∷ ns) (o, os) n (inr i) t q =
     let (before, f, g) = line-facts j (m .task ∷ seen) ns os n i in
-    rw (ne-eqb (m .task) t (λ e. f .new (g (n .task) (inl (e ∙ sym q))))) (line-boxes j (m .task ∷ seen) ns os n i t q)
+    rw (ne-eqb (m .task) t (λ e. f .new (g (n .task) (inl (e ∙ sym q))))) (line-processors j (m .task ∷ seen) ns os n i t q)
 
 -- What a walk gives -------------------------------------------------------------------------------------------
 
 -- c is a replica of line n's task: on a processor of the line, with the table's run time.
 pub record PlacementOf (j : Job) (n : Line) (c : Placement) : Type 0 where
   pub same-task : c .task ≡ n .task
-  pub on-box : In (c .processor) (processorsOf n)
+  pub on-processor : In (c .processor) (processorsOf n)
   pub run-time : c .run ≡ runTime j (n .task) (c .processor)
 
 line-placement : (j : Job) (n : Line) (c : Placement) → In c (placementsOf j (n .task) (processorsOf n)) → PlacementOf j n c
 line-placement j n c i =
     let (p, k, e) = in-map (placementOf j (n .task)) c (processorsOf n) i in
-    rw (← e) (record { same-task = refl; on-box = k; run-time = refl })
+    rw (← e) (record { same-task = refl; on-processor = k; run-time = refl })
 
 -- A replica of lines is a replica of one of them.
 pub placements-in : (j : Job) (ns : List Line) (c : Placement) → In c (placements j ns) → (n : Line) × In n ns × PlacementOf j n c
@@ -192,10 +192,10 @@ module _ (l : Limits) (j : Job) (ns : List Line) (t : ℕ) (f : JobFacts l j) (o
       → finish j least (haltingOf t ns) placed c ≡ never
   replica-undone placed n c i g e =
       let (before, h, g′) = line-facts j [] ns o n i in
-      let on-box : In (c .processor) (taskProcessors t ns) = rw (line-boxes j [] ns o n i t e) (g .on-box) in
+      let on-processor : In (c .processor) (taskProcessors t ns) = rw (line-processors j [] ns o n i t e) (g .on-processor) in
       finish-never j least (haltingOf t ns) placed c
-      (stops-at-zero (c .processor) (once (taskProcessors t ns)) (in-once (c .processor) (taskProcessors t ns) on-box))
-      (rw (g .run-time) (f .run-least (n .task) (c .processor) (h .task-below) (h .processors-below (c .processor) (g .on-box))))
+      (stops-at-zero (c .processor) (once (taskProcessors t ns)) (in-once (c .processor) (taskProcessors t ns) on-processor))
+      (rw (g .run-time) (f .run-least (n .task) (c .processor) (h .task-below) (h .processors-below (c .processor) (g .on-processor))))
 
   pub halted-undone : firstFinish t (replay j (haltingOf t ns) ns) ≡ never
   unfolding replay
@@ -216,10 +216,10 @@ pub doubled-undone :
 doubled-undone l j p t f g i =
     let (n, k, d, e) = doubled-line t (p .lines) i in
     let (before, h, g′) = line-facts j [] (p .lines) (g .ordered) n k in
-    let boxes = line-boxes j [] (p .lines) (g .ordered) n k t e in
+    let processors = line-processors j [] (p .lines) (g .ordered) n k t e in
     let never-done = halted-undone l j (p .lines) t f (g .ordered) in (
-      rw boxes (once-ascends l j 0 (processorsOf n) (h .ascends) (λ q i. omega arith) (h .processors-below)),
-      rw boxes (omega (arith, length-halted (once (processorsOf n)), once-fewer (processorsOf n) d, length-map (n .replicas) (λ r. r .processor), h .width)),
+      rw processors (once-ascends l j 0 (processorsOf n) (h .ascends) (λ q i. omega arith) (h .processors-below)),
+      rw processors (omega (arith, length-halted (once (processorsOf n)), once-fewer (processorsOf n) d, length-map (n .replicas) (λ r. r .processor), h .width)),
       never-done,
       λ x. round-undone j t (replay j (haltingOf t (p .lines)) (p .lines)) x never-done,
     )

@@ -81,10 +81,10 @@ module _ (j : Job) where
   lineFor t ps es ls = record { task = t; replicas = replicas (walked least t ps es) (walked largest t ps ls) }
 
   -- The processors of the line are those that were chosen.
-  boxes-read : (t : ℕ) (ps : List ℕ) (es ls : List Outcome) → processorsOf (lineFor t ps es ls) ≡ ps
+  processors-read : (t : ℕ) (ps : List ℕ) (es ls : List Outcome) → processorsOf (lineFor t ps es ls) ≡ ps
   unfolding walk replicas
-  boxes-read t [] es ls = refl
-  boxes-read t (p ∷ ps) es ls = ap {B = List ℕ} (λ r. p ∷ r) (boxes-read t ps _ _)
+  processors-read t [] es ls = refl
+  processors-read t (p ∷ ps) es ls = ap {B = List ℕ} (λ r. p ∷ r) (processors-read t ps _ _)
 
   walked-length : (choose : List Time → Time) (t : ℕ) (ps : List ℕ) (ds : List Outcome) → length (walked choose t ps ds) ≡ length ps
   unfolding walk
@@ -182,7 +182,7 @@ module _ (j : Job) where
       → length ps ≡ j .losses + 1 → ((p : ℕ) → In p ps → p < j .processors) → descends ps ≡ false → LineFacts j seen (lineFor t ps es ls)
   written-line seen t ps es ls low new f width below ascends =
       let n = lineFor t ps es ls in
-      let read = boxes-read t ps es ls in
+      let read = processors-read t ps es ls in
       record {
         task-below = low;
         width = sym (length-map (n .replicas) (λ r. r .processor)) ∙ ap length read ∙ width;
@@ -200,7 +200,7 @@ module _ (j : Job) where
       → Placed (suc n) seen es ls (lineFor t ps es ls ∷ ns)
   line-more n seen us es ls t ps ns s i f width low ascends apart r =
       let n₁ = lineFor t ps es ls in
-      let read = boxes-read t ps es ls in
+      let read = processors-read t ps es ls in
       let early = walked least t ps es in
       let late = walked largest t ps ls in
       let level = walked-length least t ps es ∙ sym (walked-length largest t ps ls) in

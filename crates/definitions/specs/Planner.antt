@@ -53,8 +53,8 @@ module _ (j : Job) where
   -- "The sum of all delays between different boxes".
   unfoldable pub totalDelay : ℕ
   totalDelay =
-      let boxes = below (j .processors) in
-      sum (map (λ p. sum (map (delay j p) (keep (λ q. not (eqb q p)) boxes))) boxes)
+      let processors = below (j .processors) in
+      sum (map (λ p. sum (map (delay j p) (keep (λ q. not (eqb q p)) processors))) processors)
 
   -- "Scaled average message: volume × the sum" (m = 1: 0, there is no such delay).
   abbrev pub scaledMessage : Edge → ℕ
@@ -110,8 +110,8 @@ module _ (j : Job) where
   -- Line 9: "it goes on the ε + 1 boxes of least early finish; ties go to the lowest box": those before which fewer than k boxes go.
   unfoldable pub chosen : ℕ → List ℕ → List ℕ
   chosen k finishes =
-      let boxes = below (j .processors) in
-      keep (λ p. ltb (length (keep (goesBefore finishes p) boxes)) k) boxes
+      let processors = below (j .processors) in
+      keep (λ p. ltb (length (keep (goesBefore finishes p) processors)) k) processors
 
   -- Lines 6 to 14: n tasks more, of those that wait, after what is placed, with its early and its late ticks; losses is ε.
   unfoldable pub place : ℕ → ℕ → List Waiting → List Outcome → List Outcome → List Line

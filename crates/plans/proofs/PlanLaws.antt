@@ -90,11 +90,11 @@ ascend-each (p ∷ []) h = refl
 ascend-each (p ∷ q ∷ ps) h = neither-false (le-ltb q p (h 0 (omega arith))) (ascend-each (q ∷ ps) (λ i l. h (suc i) (omega arith)))
 
 module _ (mem : List ℕ) (a : ℕ) where
-  abbrev boxes : List ℕ
-  boxes = processorsOf (lineIn a mem)
+  abbrev processors : List ℕ
+  processors = processorsOf (lineIn a mem)
 
   -- Of two neighbours, replicas c and n.
-  neighbours : (c : ℕ) → c < nth mem 3 → (nth boxes c ≡ nth mem (processorAt a c)) × (nth boxes (suc c) ≡ nth mem (processorAt a (suc c))) × (suc c < length boxes)
+  neighbours : (c : ℕ) → c < nth mem 3 → (nth processors c ≡ nth mem (processorAt a c)) × (nth processors (suc c) ≡ nth mem (processorAt a (suc c))) × (suc c < length processors)
   neighbours c l = (
     processor-at mem a (nth mem 3 + 1) c (omega arith),
     processor-at mem a (nth mem 3 + 1) (suc c) (omega arith),
@@ -102,15 +102,15 @@ module _ (mem : List ℕ) (a : ℕ) where
   )
 
   pub descends-here : (c : ℕ) → c < nth mem 3 → nth mem (processorAt a (suc c)) < nth mem (processorAt a c) → true ≡ descends (processorsOf (lineIn a mem))
-  descends-here c l h = by (descends boxes) refl
+  descends-here c l h = by (descends processors) refl
     where
-      by : (b : Bool) → descends boxes ≡ b → true ≡ b
+      by : (b : Bool) → descends processors ≡ b → true ≡ b
       by true d = refl
-      by false d = let (e, f, g) = neighbours c l in absurd (omega (arith, ascends-at boxes c d g, e, f, h))
+      by false d = let (e, f, g) = neighbours c l in absurd (omega (arith, ascends-at processors c d g, e, f, h))
 
   pub descends-none : ((c : ℕ) → c < nth mem 3 → nth mem (processorAt a c) ≤ nth mem (processorAt a (suc c))) → false ≡ descends (processorsOf (lineIn a mem))
   descends-none h =
-      sym (ascend-each boxes (λ i g. let l : i < nth mem 3 = omega (arith, g, processors-length mem a (nth mem 3 + 1)) in let (e, f, _) = neighbours i l in omega (arith, e, f, h i l)))
+      sym (ascend-each processors (λ i g. let l : i < nth mem 3 = omega (arith, g, processors-length mem a (nth mem 3 + 1)) in let (e, f, _) = neighbours i l in omega (arith, e, f, h i l)))
 
 -- Lines of predecessors -----------------------------------------------------------------------------------------------
 

@@ -5,7 +5,7 @@ use Rattle.definitions.proofs.Reading.{andThen-good, job-facts, plan-facts}
 use Rattle.console.proofs.Shown.{refusal-most}
 use Rattle.rounds.proofs.Longest.{text-most, longest}
 
--- Boxes ---------------------------------------------------------------------------------------------------------------
+-- Processors ---------------------------------------------------------------------------------------------------------------
 
 -- An outcome is on the processor of its replica, and a replica is on a processor of its line.
 walk-on : (j : Job) (ss : List Stop) (placed : List Outcome) (cs : List Placement) (d : Outcome) → In d (walk j least ss placed cs)

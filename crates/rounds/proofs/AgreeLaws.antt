@@ -155,8 +155,8 @@ module _ {lim : Limits} {capacity k a c : ℕ} {mem es ls : List ℕ} (x : Compa
       on-here : p ≡ nth mem (processorAt (rowAt capacity k) c)
       on-here = rw (x .row) at e
 
-      pub box-most : p < lanesMost
-      box-most = omega (arith, on-here, x .plan .standing .row k (x .line) .processor-of c g, sizes (x .plan .standing .job) .lanes-fit)
+      pub processor-most : p < lanesMost
+      processor-most = omega (arith, on-here, x .plan .standing .row k (x .line) .processor-of c g, sizes (x .plan .standing .job) .lanes-fit)
 
       tick-same : (late : Bool) (y : ℕ) → y ≡ nth mem (timeAt late a c) → nth (if late then ls else es) p ≡ y → finishIn capacity late k c mem ≡ timeIn (cellOf late (rowAt capacity k) c mem)
       tick-same late y f q =

@@ -137,25 +137,25 @@ module _ {lim : Limits} {capacity k t : ℕ} {early late : List ℕ} {d : List �
 
   -- Those below p were asked, of which c are chosen and have their replicas.
   module _ {p c : ℕ} {mem : List ℕ} (l : p < nth d 1) (b : (c ≡ length (keep takes (below p))) × Begun capacity k t (keep takes (below p)) d mem) where
-    pub pass-box : takes p ≡ false → (c ≡ length (keep takes (below (p + 1)))) × Begun capacity k t (keep takes (below (p + 1))) d mem
-    pass-box f = rw (below-more p, keep-no takes (below p) p f) b
+    pub pass-processor : takes p ≡ false → (c ≡ length (keep takes (below (p + 1)))) × Begun capacity k t (keep takes (below (p + 1))) d mem
+    pass-processor f = rw (below-more p, keep-no takes (below p) p f) b
 
     module _ (f : takes p ≡ true) where
-      pub box-room : c < replicasMost
+      pub processor-room : c < replicasMost
       unfolding jobIn
-      box-room = let w = sizes (o .drawn .standing .job) in omega (arith, b .0, chosen-room (jobIn d) early (nth d 3 + 1) p (w .enough) l f)
+      processor-room = let w = sizes (o .drawn .standing .job) in omega (arith, b .0, chosen-room (jobIn d) early (nth d 3 + 1) p (w .enough) l f)
 
-      pub box-within : replicaEnd (rowAt capacity k) c ≤ length mem
-      box-within = omega (arith, few-tasks, box-room, b .1 .kept .size, o .drawn .standing .job .size)
+      pub processor-within : replicaEnd (rowAt capacity k) c ≤ length mem
+      processor-within = omega (arith, few-tasks, processor-room, b .1 .kept .size, o .drawn .standing .job .size)
 
-      pub take-box : {e : List ℕ} → Wrote (rowAt capacity k) c p (nth early p) (nth late p) mem e
+      pub take-processor : {e : List ℕ} → Wrote (rowAt capacity k) c p (nth early p) (nth late p) mem e
           → (c + 1 ≡ length (keep takes (below (p + 1)))) × Begun capacity k t (keep takes (below (p + 1))) d e
       unfolding rowReplicas finishOn
-      take-box {e} y =
+      take-processor {e} y =
           let ps = keep takes (below p) in
           let at = rowAt capacity k in
           let (n, g) = b in
-          let m : length ps < replicasMost = omega (arith, box-room) in
+          let m : length ps < replicasMost = omega (arith, processor-room) in
           let low = few-tasks in
           let x = rw n at y in
           let more : length (ps ++ p ∷ []) ≡ suc (length ps) = length-append ps (p ∷ []) ∙ add-one (length ps) in
@@ -170,9 +170,9 @@ module _ {lim : Limits} {capacity k t : ℕ} {early late : List ℕ} {d : List �
           )
 
   -- All processors have been asked.
-  pub boxes-taken : {p : ℕ} {mem : List ℕ} → p ≡ nth d 1 → Begun capacity k t (keep takes (below p)) d mem → Begun capacity k t (processorsFor capacity k t d) d mem
+  pub processors-taken : {p : ℕ} {mem : List ℕ} → p ≡ nth d 1 → Begun capacity k t (keep takes (below p)) d mem → Begun capacity k t (processorsFor capacity k t d) d mem
   unfolding jobIn finishOn
-  boxes-taken {p} {mem} e b =
+  processors-taken {p} {mem} e b =
       let same = chosen-same (jobIn d) (nth d 3 + 1) early (trial (jobIn d) (earliesIn capacity k d) t)
       (λ q l. ap tickOf (o .early-finishes q l) ∙ sym (trial-nth (jobIn d) (earliesIn capacity k d) t q l)) in
       rw (← same) (rw e at b)

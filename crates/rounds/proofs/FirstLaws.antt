@@ -154,7 +154,7 @@ module _ {lim : Limits} {capacity : ℕ} {mem : List ℕ} (s : LinesHeld lim cap
       let of-line = placed-rowOf s false w (nth mem 0) (omega arith) t h (all-placed s t h) (row-of-task s t h .1) in
       record {
         finish = rw of-line (f .least-time);
-        box = λ n.
+        lowest-on = λ n.
             let (i, l, e, q) = f .found n in
             let here : In (nth mem (processorAt own i)) (map on (keep same-time ds)) =
             map-in on (rowOutcome false own i mem) (keep same-time ds) (keep-in same-time _ ds (row-in false mem own w i l) (rw e (time-same (timeIn x)))) in

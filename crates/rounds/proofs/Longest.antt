@@ -24,7 +24,7 @@ end-most : (lim : Limits) → 2 ≤ lim .powers → (x : Time) → length (endLi
 end-most lim w (tick x) = simp (length-line, length-numbers, length-none) (omega (arith, width-powers lim x (omega (arith, w))))
 end-most lim w never = omega (arith, w)
 
--- Boxes ---------------------------------------------------------------------------------------------------------------
+-- Processors ---------------------------------------------------------------------------------------------------------------
 
 lowest-within : (b : ℕ) (ps : List ℕ) → ((p : ℕ) → In p ps → p ≤ b) → lowest ps ≤ b
 unfolding lowest
@@ -33,9 +33,9 @@ lowest-within b (p ∷ []) h = h p (inl refl)
 lowest-within b (p ∷ q ∷ ps) h = omega (arith, h p (inl refl))
 
 module _ (lim : Limits) (w : 2 ≤ lim .powers) (ds : List Outcome) (h : (d : Outcome) → In d ds → d .processor ≤ lim .processors) where
-  box-most : (t : ℕ) (x : Time) → firstProcessor t x ds ≤ lim .processors
+  processor-most : (t : ℕ) (x : Time) → firstProcessor t x ds ≤ lim .processors
   unfolding firstProcessor
-  box-most t x =
+  processor-most t x =
       lowest-within (lim .processors) (map (λ d. d .processor) (keep (λ d. same (d .time) x) (ofTask t ds)))
       (λ p i.
       let (d, k, e) = in-map (λ d. d .processor) p (keep (λ d. same (d .time) x) (ofTask t ds)) i in
@@ -47,7 +47,7 @@ module _ (lim : Limits) (w : 2 ≤ lim .powers) (ds : List Outcome) (h : (d : Ou
   lines-most [] g = omega (arith, zero-mul (resultBytes lim))
   lines-most (t ∷ ts) g =
       let x = firstFinish t ds in
-      let line = result-most lim w t (firstProcessor t x ds) x (g t (inl refl)) (box-most t x) in
+      let line = result-most lim w t (firstProcessor t x ds) x (g t (inl refl)) (processor-most t x) in
       simp length-append (omega (arith, line, lines-most ts (λ u i. g u (inr i)), suc-mul (length ts) (resultBytes lim)))
 
   pub text-most : (j : Job) → j .tasks ≤ lim .tasks → length (replayText lim j ds) ≤ replayBytes lim

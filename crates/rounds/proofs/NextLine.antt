@@ -52,18 +52,18 @@ module _ {lim : Limits} {capacity k t : ℕ} {d : List ℕ} (g : Critical lim ca
   few : (t < 8 * capacity) × (k < 8 * capacity)
   few = omega (arith, task-below g, w .tasks-most, g .more)
 
-  abbrev boxes : List ℕ
-  boxes = processorsFor capacity k t d
+  abbrev processors : List ℕ
+  processors = processorsFor capacity k t d
 
-  box-below : (p : ℕ) → In p boxes → p < nth d 1
-  box-below p i = rw (processors-in d) at (chosen-below (jobIn d) (trial (jobIn d) (earliesIn capacity k d) t) (nth d 3 + 1) p i)
+  processor-below : (p : ℕ) → In p processors → p < nth d 1
+  processor-below p i = rw (processors-in d) at (chosen-below (jobIn d) (trial (jobIn d) (earliesIn capacity k d) t) (nth d 3 + 1) p i)
 
-  pub laid : (mem : List ℕ) → Begun capacity k t boxes d mem → Laid capacity k t d (set (set mem (rowAt capacity k) t) (lineAt capacity + t) (k + 1))
+  pub laid : (mem : List ℕ) → Begun capacity k t processors d mem → Laid capacity k t d (set (set mem (rowAt capacity k) t) (lineAt capacity + t) (k + 1))
   unfolding jobIn
   laid mem b =
       let one = set mem (rowAt capacity k) t in
       let e = set one (lineAt capacity + t) (k + 1) in
-      let n : length boxes ≡ nth d 3 + 1 = chosen-count (jobIn d) (trial (jobIn d) (earliesIn capacity k d) t) (nth d 3 + 1) (w .enough) in
+      let n : length processors ≡ nth d 3 + 1 = chosen-count (jobIn d) (trial (jobIn d) (earliesIn capacity k d) t) (nth d 3 + 1) (w .enough) in
       let (m, l) = few in
       let z : length one ≡ memorySize capacity = length-set mem (rowAt capacity k) t ∙ b .kept .size ∙ w .size in
       record {
@@ -76,7 +76,7 @@ module _ {lim : Limits} {capacity k t : ℕ} {d : List ℕ} (g : Critical lim ca
         line = getD-set-same one (lineAt capacity + t) (k + 1) 0 (omega arith) ∙ add-one k;
         task = getD-set-other one (lineAt capacity + t) (rowAt capacity k) (k + 1) 0 (λ q. omega arith) ∙ getD-set-same mem (rowAt capacity k) t 0 (omega (arith, b .kept .size, w .size));
         replicas = ap (λ (c : ℕ). rowReplicas (rowAt capacity k) c e) (sym n)
-            ∙ row-replicas mem e (rowAt capacity k) (length boxes)
+            ∙ row-replicas mem e (rowAt capacity k) (length processors)
             (λ i p. getD-set-other one (lineAt capacity + t) i (k + 1) 0 (λ f. omega arith) ∙ getD-set-other mem (rowAt capacity k) i t 0 (λ f. omega arith))
             ∙ b .replicas;
       }
@@ -131,8 +131,8 @@ module _ {lim : Limits} {capacity k t : ℕ} {d : List ℕ} (g : Critical lim ca
         × (nth e (earlyAt (rowAt capacity k) c) ≤ suc k * lineTicks lim) × (nth e (lateAt (rowAt capacity k) c) ≤ suc k * lineTicks lim)
     unfolding finishOn
     new-cells c l =
-        let (p, i, q) = in-map (replicaOn capacity k d t) (replicaIn (rowAt capacity k) c e) boxes (rw (← x .replicas) (in-replicas (rowAt capacity k) (nth d 3 + 1) c e l)) in
-        let m = box-below p i in
+        let (p, i, q) = in-map (replicaOn capacity k d t) (replicaIn (rowAt capacity k) c e) processors (rw (← x .replicas) (in-replicas (rowAt capacity k) (nth d 3 + 1) c e l)) in
+        let m = processor-below p i in
         let early = tick-most (finish-comes s t p (task-predecessors g) (task-below g) m false) in
         let late = tick-most (finish-comes s t p (task-predecessors g) (task-below g) m true) in
         (rw (← ap (λ r. r .processor) q) m, rw (← ap (λ r. r .early) q) (omega arith), rw (← ap (λ r. r .late) q) (omega arith))
@@ -179,12 +179,12 @@ module _ {lim : Limits} {capacity k t : ℕ} {d : List ℕ} (g : Critical lim ca
 
     -- What the definition places.
     abbrev line : Bool → List Outcome
-    line late = walk (jobIn d) (choiceOf late) [] (placed late) (placementsOf (jobIn d) t boxes)
+    line late = walk (jobIn d) (choiceOf late) [] (placed late) (placementsOf (jobIn d) t processors)
 
     -- Task t does not feed itself, so each of its replicas is as if it were alone.
-    line-apart : (late : Bool) → line late ≡ map (outcomeOn (jobIn d) (choiceOf late) (placed late) t) boxes
+    line-apart : (late : Bool) → line late ≡ map (outcomeOn (jobIn d) (choiceOf late) (placed late) t) processors
     line-apart late =
-        walk-apart (jobIn d) (choiceOf late) t (λ a i q. let z : 0 < nth d (lineAt capacity + t) = rw q (task-predecessors g a i) in omega (arith, task-waits g)) boxes
+        walk-apart (jobIn d) (choiceOf late) t (λ a i q. let z : 0 < nth d (lineAt capacity + t) = rw q (task-predecessors g a i) in omega (arith, task-waits g)) processors
         (chosen-distinct (jobIn d) (trial (jobIn d) (earliesIn capacity k d) t) (nth d 3 + 1)) (placed late)
 
     cell-time : {y : Time} → Comes (k * lineTicks lim + lineTicks lim) y → timeIn (tickOf y) ≡ y
@@ -202,8 +202,8 @@ module _ {lim : Limits} {capacity k t : ℕ} {d : List ℕ} (g : Critical lim ca
         let new : rowOutcomes late (rowAt capacity k) (nth d 3 + 1) e ≡ reverse (line late) =
         outcomes-row late (rowAt capacity k) (nth d 3 + 1) e
         ∙ rw (x .task, x .replicas) (ap reverse
-        (map-map (outcomeOf late t) (replicaOn capacity k d t) boxes
-        ∙ map-same (λ p. outcomeOf late t (replicaOn capacity k d t p)) (outcomeOn (jobIn d) (choiceOf late) (placed late) t) boxes (λ p i. outcome-kind late p (box-below p i))
+        (map-map (outcomeOf late t) (replicaOn capacity k d t) processors
+        ∙ map-same (λ p. outcomeOf late t (replicaOn capacity k d t p)) (outcomeOn (jobIn d) (choiceOf late) (placed late) t) processors (λ p i. outcome-kind late p (processor-below p i))
         ∙ sym (line-apart late))) in
         rw (placed-kept (s .standing .job) laid-kept (omega arith) k old-rows late, losses-same, new) (sym (reverseAux-eq (line late) (placed late)))
 
@@ -213,7 +213,7 @@ module _ {lim : Limits} {capacity k t : ℕ} {d : List ℕ} (g : Critical lim ca
     unfolding finishOn
     new-line =
         x .replicas
-        ∙ sym (replicas-map (outcomeOn (jobIn d) least (placed false) t) (outcomeOn (jobIn d) largest (placed true) t) boxes)
+        ∙ sym (replicas-map (outcomeOn (jobIn d) least (placed false) t) (outcomeOn (jobIn d) largest (placed true) t) processors)
         ∙ rw (line-apart false, line-apart true)
 
     waiting-next : keep (λ u. not (eqb (u .task) t)) (waitingIn capacity d) ≡ waitingIn capacity e

@@ -48,9 +48,9 @@ module _ {ds es : List Outcome} (a : Alike ds es) where
   unfolding firstFinish
   finish-alike t = let b = alike-map (task-alike t) (λ d. d .time) in least-same _ _ (b .there) (b .back)
 
-  box-alike : (t : ℕ) (x : Time) → firstProcessor t x ds ≡ firstProcessor t x es
+  processor-alike : (t : ℕ) (x : Time) → firstProcessor t x ds ≡ firstProcessor t x es
   unfolding firstProcessor
-  box-alike t x = let b = alike-map (alike-keep (task-alike t) (λ d. same (d .time) x)) (λ d. d .processor) in lowest-same _ _ (b .there) (b .back)
+  processor-alike t x = let b = alike-map (alike-keep (task-alike t) (λ d. same (d .time) x)) (λ d. d .processor) in lowest-same _ _ (b .there) (b .back)
 
   makespan-alike : (j : Job) → replayMakespan j ds ≡ replayMakespan j es
   unfolding replayMakespan makespan firstFinish
@@ -59,7 +59,7 @@ module _ {ds es : List Outcome} (a : Alike ds es) where
   lines-alike : (l : Limits) (ts : List ℕ) → resultLines l ts ds ≡ resultLines l ts es
   unfolding resultLines
   lines-alike l [] = refl
-  lines-alike l (t ∷ ts) = rw (finish-alike t, box-alike t (firstFinish t es), lines-alike l ts)
+  lines-alike l (t ∷ ts) = rw (finish-alike t, processor-alike t (firstFinish t es), lines-alike l ts)
 
   text-alike : (l : Limits) (j : Job) → replayText l j ds ≡ replayText l j es
   unfolding replayText

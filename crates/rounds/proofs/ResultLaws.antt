@@ -19,7 +19,7 @@ unfolding taskLine
 task-line lim {t} {x} {p} f =
     ⊎-elim
     (λ (e : x ≡ neverCell). rw (← f .finish, e))
-    (λ n. rw (← f .finish, ← f .box n))
+    (λ n. rw (← f .finish, ← f .lowest-on n))
     (equal-or-not x neverCell)
 
 -- The R lines of the first k tasks.

@@ -111,18 +111,19 @@ module _ {lim : Limits} {capacity : ℕ} (k c : ℕ) {cells mem : List ℕ} (r :
   abbrev runner : ℕ
   runner = nth mem (rowAt capacity k)
 
-  abbrev box : ℕ
-  box = nth mem (processorAt (rowAt capacity k) c)
+  abbrev processor : ℕ
+  processor = nth mem (processorAt (rowAt capacity k) c)
 
-  pub box-below : box < nth mem 1
-  box-below = r .standing .row k a .processor-of c b
+  pub processor-below : processor < nth mem 1
+  processor-below = r .standing .row k a .processor-of c b
 
   -- The data comes from the lines before.
-  data-ran : dataReady (jobIn mem) least (ranIn capacity k c mem) runner box ≡ dataIn capacity false runner box mem
+  data-ran : dataReady (jobIn mem) least (ranIn capacity k c mem) runner processor ≡ dataIn capacity false runner processor mem
   unfolding dataReady arrival ranIn
   data-ran =
       ap largest
-      (map-same (arrival (jobIn mem) least (ranIn capacity k c mem) box) (arrival (jobIn mem) least (placedIn capacity false (nth mem 3 + 1) k mem) box) (incoming (jobIn mem) runner) λ e i.
+      (map-same (arrival (jobIn mem) least (ranIn capacity k c mem) processor)
+      (arrival (jobIn mem) least (placedIn capacity false (nth mem 3 + 1) k mem) processor) (incoming (jobIn mem) runner) λ e i.
       let l = f e i .1 in
       let own = r .standing .line-of k a in
       rw (
@@ -130,23 +131,23 @@ module _ {lim : Limits} {capacity : ℕ} (k c : ℕ) {cells mem : List ℕ} (r :
         row-none false mem (e .from) (rowAt capacity k) c
             (λ q. let g : nth mem (lineAt capacity + e .from) ≡ suc k = rw q at own in omega arith),
       ))
-      ∙ sym (data-placed (r .standing) k runner (omega arith) f false box)
+      ∙ sym (data-placed (r .standing) k runner (omega arith) f false processor)
 
-  module _ (x : ℕ) (e : timeIn x ≡ after (runTime (jobIn mem) runner box) (later (timeIn (nth cells box)) (dataIn capacity false runner box mem))) where
+  module _ (x : ℕ) (e : timeIn x ≡ after (runTime (jobIn mem) runner processor) (later (timeIn (nth cells processor)) (dataIn capacity false runner processor mem))) where
     -- The finish under stops, from the finish without.
-    pub finish-ran : (ss : List Stop) → finish (jobIn mem) least ss (ranIn capacity k c mem) (placementOf (jobIn mem) runner box) ≡ unlessStopped (stopTime ss box) (timeIn x)
+    pub finish-ran : (ss : List Stop) → finish (jobIn mem) least ss (ranIn capacity k c mem) (placementOf (jobIn mem) runner processor) ≡ unlessStopped (stopTime ss processor) (timeIn x)
     unfolding finish start
-    finish-ran ss = rw (e, data-ran, r .ready-of box box-below)
+    finish-ran ss = rw (e, data-ran, r .ready-of processor processor-below)
 
     pub finish-small : Small ((k * replicasMost + c) * lineTicks lim + lineTicks lim) x
     unfolding trial stopTime
     finish-small =
         let j = jobIn mem in
         let s = r .standing .job .facts in
-        let here : ℕ = tickOf (finish j least [] (ranIn capacity k c mem) (placementOf j runner box)) in
+        let here : ℕ = tickOf (finish j least [] (ranIn capacity k c mem) (placementOf j runner processor)) in
         let among : In here (trial j (ranIn capacity k c mem) runner) =
-        map-in (λ y. tickOf (finish j least [] (ranIn capacity k c mem) y)) (placementOf j runner box) (placementsOf j runner (below (j .processors)))
-        (map-in (placementOf j runner) box (below (j .processors)) (below-in (j .processors) box (rw (processors-in mem) box-below))) in
+        map-in (λ y. tickOf (finish j least [] (ranIn capacity k c mem) y)) (placementOf j runner processor) (placementsOf j runner (below (j .processors)))
+        (map-in (placementOf j runner) processor (below (j .processors)) (below-in (j .processors) processor (rw (processors-in mem) processor-below))) in
         let most : here ≤ (k * replicasMost + c) * lineTicks lim + lineTicks lim =
         trial-most lim j s ((k * replicasMost + c) * lineTicks lim) (ranIn capacity k c mem) runner (rw (tasks-in mem) (r .standing .task-of k a))
         (r .within) here among in
@@ -158,10 +159,10 @@ module _ {lim : Limits} {capacity : ℕ} (k c : ℕ) {cells mem : List ℕ} (r :
       mem′ = set mem (earlyAt (rowAt capacity k) c) y
 
       abbrev cells′ : List ℕ
-      cells′ = set cells box y
+      cells′ = set cells processor y
 
       abbrev here : Outcome
-      here = record { task = runner; processor = box; time = timeIn y }
+      here = record { task = runner; processor = processor; time = timeIn y }
 
       retimed : Retimed capacity k (suc k) mem mem′
       retimed = let w = sizes (r .standing .job) in retimed-set k c y retimed-none (omega arith) (omega arith) (omega arith)
@@ -200,19 +201,19 @@ module _ {lim : Limits} {capacity : ℕ} (k c : ℕ) {cells mem : List ℕ} (r :
                 set-cell (Small (lim .tick)) mem (earlyAt (rowAt capacity k) c) (earlyAt (rowAt capacity i) q) y (omega arith)
                 (λ e. small-wider ((k * replicasMost + (c + 1)) * lineTicks lim) (lim .tick) y range small-here)
                 (λ e. r .standing .row i h .early-of q g);
-            size = length-set cells box y ∙ r .size;
+            size = length-set cells processor y ∙ r .size;
             ready-of = λ p h.
                 rw (j, ran-next)
-                (set-cell (λ z. timeIn z ≡ ready (jobIn mem) p (here ∷ ranIn capacity k c mem)) cells box p y (omega (arith, box-below, r .size))
-                (λ e. rw (eq-eqb box p (sym e)))
-                (λ e. rw (ne-eqb box p (λ q. e (sym q))) (r .ready-of p (rw m at h))));
+                (set-cell (λ z. timeIn z ≡ ready (jobIn mem) p (here ∷ ranIn capacity k c mem)) cells processor p y (omega (arith, processor-below, r .size))
+                (λ e. rw (eq-eqb processor p (sym e)))
+                (λ e. rw (ne-eqb processor p (λ q. e (sym q))) (r .ready-of p (rw m at h))));
             ready-small = λ p h.
-                set-cell (Small ((k * replicasMost + (c + 1)) * lineTicks lim)) cells box p y (omega (arith, box-below, r .size))
+                set-cell (Small ((k * replicasMost + (c + 1)) * lineTicks lim)) cells processor p y (omega (arith, processor-below, r .size))
                 (λ e. small-here)
                 (λ e. small-wider ((k * replicasMost + c) * lineTicks lim) ((k * replicasMost + (c + 1)) * lineTicks lim) (nth cells p) most (r .ready-small p (rw m at h)));
             within = rw (j, ran-next) (λ d i.
                 ⊎-elim
-                (λ q. rw (← q, processors-in mem) (box-below, small-within ((k * replicasMost + (c + 1)) * lineTicks lim) y small-here))
+                (λ q. rw (← q, processors-in mem) (processor-below, small-within ((k * replicasMost + (c + 1)) * lineTicks lim) y small-here))
                 (λ q. let (g, t) = r .within d q in (g, weaker (d .time) most t))
                 i);
           }
@@ -303,7 +304,7 @@ module _ {lim : Limits} {capacity : ℕ} (k c : ℕ) {stops cells d e : List ℕ
     replica-below = rw (cell-retimed (l .retimed) 3 (omega arith)) b
 
     its-below : its < nth e 1
-    its-below = box-below k c ran line-below replica-below line-predecessors
+    its-below = processor-below k c ran line-below replica-below line-predecessors
 
     pub line-step : LineStep lim (nth d (rowAt capacity k)) its cells d e
     line-step =

@@ -79,4 +79,4 @@ pub record RoundRun (l : Limits) (capacity : ℕ) (stops d e : List ℕ) : Type 
 -- The first finish of t, and the lowest processor that has it.
 pub record FirstIn (capacity t time processor : ℕ) (mem : List ℕ) : Type 0 where
   pub finish : timeIn time ≡ firstFinish t (outcomesIn capacity mem)
-  pub box : (time ≡ neverCell → ⊥) → processor ≡ firstProcessor t (timeIn time) (outcomesIn capacity mem)
+  pub lowest-on : (time ≡ neverCell → ⊥) → processor ≡ firstProcessor t (timeIn time) (outcomesIn capacity mem)

@@ -3,7 +3,7 @@ use Rattle.lists.proofs.Prelude.{refl, _≤_, _-_, arith, needs, true, false, f
 use borrow.Author.Needs.{elem-fits-field}
 use mir.Syntax.{w32, w64}
 use Rattle.jobs.proofs.Held.{sizes}
-use Rattle.rounds.proofs.AgreeLaws.{finishes-asked, short-next, Compared, compared-none, cells-within, box-most, compared-not, compared-next, compared-all}
+use Rattle.rounds.proofs.AgreeLaws.{finishes-asked, short-next, Compared, compared-none, cells-within, processor-most, compared-not, compared-next, compared-all}
 use Rattle.rounds.proofs.checker.line_agrees.Statement.{statement}
 use Rattle.rounds.proofs.checker.line_agrees.Tie as tie
 
@@ -62,9 +62,9 @@ line-agrees-spec = tie.close (tie.spec
     (λ c. let p = c .before .before .before .before .pre in omega (arith, sizes (p .0 .standing .job), p .2, c .row-at .ensures))
     (λ c. let p = c .before .before .before .before .before .pre in omega (arith, sizes (p .0 .standing .job), p .2, c .before .row-at .ensures))
     finishes-requires loop-holds (λ c κs. cells-within (c .before .loop .inv .1) (c .loop-test .taken))
-    (λ c. omega (arith, box-most (c .before .before .loop .inv .1) (c .before .loop-test .taken) (c .replica-at .ensures .0)))
-    (λ c. box-most (c .before .before .loop .inv .1) (c .before .loop-test .taken) (c .replica-at .ensures .0)) (λ c. search needs) returns
-    (λ c. let h = c .before .before .before in omega (arith, box-most (h .before .before .loop .inv .1) (h .before .loop-test .taken) (h .replica-at .ensures .0)))
-    (λ c. let h = c .before .before .before in box-most (h .before .before .loop .inv .1) (h .before .loop-test .taken) (h .replica-at .ensures .0)) cast-if2 returns-2
+    (λ c. omega (arith, processor-most (c .before .before .loop .inv .1) (c .before .loop-test .taken) (c .replica-at .ensures .0)))
+    (λ c. processor-most (c .before .before .loop .inv .1) (c .before .loop-test .taken) (c .replica-at .ensures .0)) (λ c. search needs) returns
+    (λ c. let h = c .before .before .before in omega (arith, processor-most (h .before .before .loop .inv .1) (h .before .loop-test .taken) (h .replica-at .ensures .0)))
+    (λ c. let h = c .before .before .before in processor-most (h .before .before .loop .inv .1) (h .before .loop-test .taken) (h .replica-at .ensures .0)) cast-if2 returns-2
     (λ c. let s = sizes (c .before .before .before .before .before .before .before .before .loop .inv .1 .plan .standing .job) in omega arith)
     (λ c. omega arith) loop-again returns-3)

@@ -5,7 +5,7 @@ use Rattle.choices.proofs.ChoiceLaws.{among}
 use Rattle.heads.specs.Layout.{rowAt, lanesMost}
 use Rattle.jobs.proofs.Held.{sizes}
 use Rattle.rounds.proofs.DrawLaws.{isChosen}
-use Rattle.rounds.proofs.Drawing.{begun-none, pass-box, box-room, box-within, take-box, boxes-taken}
+use Rattle.rounds.proofs.Drawing.{begun-none, pass-processor, processor-room, processor-within, take-processor, processors-taken}
 use Rattle.rounds.proofs.planner.fill_line.Statement.{statement}
 use Rattle.rounds.proofs.planner.fill_line.Tie as tie
 
@@ -34,22 +34,27 @@ put-replica-requires : tie.Need-put-replica-requires Inv-loop μ-loop
 put-replica-requires c κs =
     let (_, b, at, _) = c .before .before .before .before .before .loop .inv in
     let h = c .before .before .before .before .loop-test .taken in
-    rw at (box-within (c .before .before .before .before .before .before .before .before .before .before .pre) h b (asked (c .before .before) ∙ c .before .if1 .taken))
+    rw at (processor-within (c .before .before .before .before .before .before .before .before .before .before .pre) h b (asked (c .before .before) ∙ c .before .if1 .taken))
 
 add-c : tie.Need-add-c Inv-loop μ-loop
 add-c c =
     let h = c .before .before .before .before .before .before .before .loop-test .taken in
     let e = asked (c .before .before .before .before .before) ∙ c .before .before .before .before .if1 .taken in
     let b = c .before .before .before .before .before .before .before .before .loop .inv .1 in
-    omega (arith, box-room (c .before .before .before .before .before .before .before .before .before .before .before .before .before .pre) h b e)
+    omega (arith, processor-room (c .before .before .before .before .before .before .before .before .before .before .before .before .before .pre) h b e)
 
 loop-again : tie.Need-loop-again Inv-loop μ-loop
 loop-again c =
     let o = c .before .before .before .before .before .before .before .before .before .pre in
     let (most, b, at, _) = c .before .before .before .before .loop .inv in
     let h = c .before .before .before .loop-test .taken in
-    let e = asked (c .before) in
-    (most, ⊎-elim (λ w. rw (w .5, w .6) (take-box o h b (e ∙ w .0 .taken) (rw at at (w .2 .ensures)))) (λ w. rw (w .1, w .2) (pass-box o h b (e ∙ w .0 .left))) (c .if1 .came), at, search needs)
+    let e = asked (c .before) in (
+      most,
+      ⊎-elim (λ w. rw (w .5, w .6) (take-processor o h b (e ∙ w .0 .taken) (rw at at (w .2 .ensures))))
+          (λ w. rw (w .1, w .2) (pass-processor o h b (e ∙ w .0 .left))) (c .if1 .came),
+      at,
+      search needs,
+    )
 
 pub fill-line-spec : {M : Type 1} → statement M
 fill-line-spec = tie.close (tie.spec
@@ -59,4 +64,4 @@ fill-line-spec = tie.close (tie.spec
     (λ c κs. omega (arith, sizes (c .before .before .before .pre .drawn .standing .job), c .before .before .before .pre .more)) loop-holds
     (λ c κs. search needs) (λ c. search needs) (λ c. search needs) (λ c. search needs) (λ c. search needs) (λ c. search needs) (λ c. search needs)
     put-replica-requires add-c (λ c. search needs) (λ c. search needs) loop-again (λ c. search needs)
-    (λ c. boxes-taken (c .before .before .before .before .before .before .pre) (omega arith) (c .before .loop .inv .1 .1)))
+    (λ c. processors-taken (c .before .before .before .before .before .before .pre) (omega arith) (c .before .loop .inv .1 .1)))
