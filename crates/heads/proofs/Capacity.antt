@@ -70,11 +70,6 @@ capacity-fits l u h z = capacity-cases h (λ n. FitsIn n h) (room-fits 1 h) (roo
 pub capacity-most : (h : JobHead) → capacityFor h ≤ 32
 capacity-most h = capacity-cases h (λ n. n ≤ 32) (λ _. omega arith) (λ _. omega arith) (λ _. omega arith) (omega arith)
 
-pub capacity-last : (h : JobHead) → (capacityFor h ≡ 1 → ⊥) → (capacityFor h ≡ 2 → ⊥) → (capacityFor h ≡ 8 → ⊥) → capacityFor h ≡ 32
-capacity-last h =
-    capacity-cases h (λ n. (n ≡ 1 → ⊥) → (n ≡ 2 → ⊥) → (n ≡ 8 → ⊥) → n ≡ 32)
-    (λ _ f g k. absurd (f refl)) (λ _ f g k. absurd (g refl)) (λ _ f g k. absurd (k refl)) (λ f g k. refl)
-
 -- The test of a memory and a head.
 module _ (capacity size links : ℕ) (h : JobHead) where
   pub roomy-parts : roomy capacity size links h ≡ true → (capacity ≤ 32) × (size ≡ memorySize capacity) × (linksRoom capacity ≤ links) × FitsIn capacity h

@@ -8,6 +8,7 @@ ghost use Rattle.heads.specs.Layout.{memorySize, linksRoom};
 ghost use Rattle.jobs.specs.Answers.{resultOf};
 ghost use Rattle.jobs.specs.Loading.{jobFrom};
 ghost use Rattle.rounds.specs.Verdicts.{refusalOf};
+ghost use Rattle.mirguneth.specs.Memories.{madeFor};
 ghost use Rattle.mirguneth.specs.Said.{doneOf, numbersOf, Answers};
 use heads::Head;
 use heads::Opening;
@@ -221,6 +222,36 @@ fn in_all(
     )
 }
 
+// The same in the smallest memory of at least this capacity, if there is one. It calls itself, so the compiler leaves the four
+// memories in the frames of the four functions above: a call takes the stack of the memory that it uses.
+fn in_memory(
+    capacity: usize,
+    tool: Tool,
+    job: &[u8],
+    at: usize,
+    head: Head,
+    plan: &[u8],
+    stops: &[u8],
+    out: &mut [u8],
+) -> Said
+    ensures { λ r. ⌜ Answers tool (jobFrom document01 (madeFor capacity) (memorySize (madeFor capacity)) (linksRoom (madeFor capacity)) (headOf head) (drop at (now (job .entry))))
+        (now (plan .entry)) (now (stops .entry)) (now (out .entry)) (now (out .exit)) r ⌝ }
+{
+    if capacity == 1 {
+        return in_one(tool, job, at, head, plan, stops, out);
+    }
+    if capacity == 2 {
+        return in_two(tool, job, at, head, plan, stops, out);
+    }
+    if capacity == 8 {
+        return in_eight(tool, job, at, head, plan, stops, out);
+    }
+    if capacity >= 32 {
+        return in_all(tool, job, at, head, plan, stops, out);
+    }
+    in_memory(capacity + 1, tool, job, at, head, plan, stops, out)
+}
+
 // A tool's answer to texts, in the smallest working memory that the job fits: of capacity 1, 2, 8 or 32, with 425 cells and 68 for links times that.
 pub fn answer(tool: Tool, job: &[u8], plan: &[u8], stops: &[u8], out: &mut [u8]) -> Said
     ensures { λ r. ⌜ Answers tool (readJob document01 (now (job .entry))) (now (plan .entry)) (now (stops .entry)) (now (out .entry)) (now (out .exit)) r ⌝ }
@@ -228,16 +259,7 @@ pub fn answer(tool: Tool, job: &[u8], plan: &[u8], stops: &[u8], out: &mut [u8])
     match heads::read_head(job) {
         Opening::Opened(head, at) => {
             let capacity = heads::capacity_for(head);
-            if capacity == 1 {
-                return in_one(tool, job, at, head, plan, stops, out);
-            }
-            if capacity == 2 {
-                return in_two(tool, job, at, head, plan, stops, out);
-            }
-            if capacity == 8 {
-                return in_eight(tool, job, at, head, plan, stops, out);
-            }
-            in_all(tool, job, at, head, plan, stops, out)
+            in_memory(capacity, tool, job, at, head, plan, stops, out)
         }
         Opening::Refused(x) => Said::Refused(x),
     }
