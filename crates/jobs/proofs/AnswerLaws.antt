@@ -22,19 +22,20 @@ loaded-next (bad k) mem links n e = absurd (let z : _≡_ {A = ℕ} 0 1 = cc in 
 pub loaded-fits : (x : Result Job) (mem links : List ℕ) (n : ℕ) → Loaded x mem links (Next n) → n ≤ length mem
 loaded-fits x mem links n h = let (j, _, l, f, _) = loaded-next x mem links n h in omega (arith, length-take n mem, ap length f)
 
-module _ (l : Limits) (s d mem links : List ℕ) (n : ℕ) where
-  pub answer-no : Loaded (readJob l s) mem links (Refused n) → Answered (jobAnswer l s (length d)) d d (Refusal n)
+module _ (l : Limits) (s d : List ℕ) (n : ℕ) where
+  pub answer-no : readJob l s ≡ bad n → Answered (jobAnswer l s (length d)) d d (Refusal n)
   unfolding jobAnswer
-  answer-no h = rw (loaded-no (readJob l s) mem links n h) (refl, refl)
+  answer-no e = rw e (refl, refl)
 
-  pub answer-short : Loaded (readJob l s) mem links (Next n) → length d < n → Answered (jobAnswer l s (length d)) d d (Refusal 8)
-  unfolding jobAnswer
-  answer-short h g =
-      let (j, e, k, _, _) = loaded-next (readJob l s) mem links n h in
-      rw (e, ← k, lt-ltb (length d) n g) (refl, refl)
+  module _ (mem links : List ℕ) (h : Loaded (readJob l s) mem links (Next n)) where
+    pub answer-short : length d < n → Answered (jobAnswer l s (length d)) d d (Refusal 8)
+    unfolding jobAnswer
+    answer-short g =
+        let (j, e, k, _, _) = loaded-next (readJob l s) mem links n h in
+        rw (e, ← k, lt-ltb (length d) n g) (refl, refl)
 
-  pub answer-done : Loaded (readJob l s) mem links (Next n) → n ≤ length d → Answered (jobAnswer l s (length d)) d (over d 0 (take n mem)) (Done n)
-  unfolding jobAnswer
-  answer-done h g =
-      let (j, e, k, f, _) = loaded-next (readJob l s) mem links n h in
-      rw (e, ← k, le-ltb (length d) n g, f) (ap good k, refl)
+    pub answer-done : n ≤ length d → Answered (jobAnswer l s (length d)) d (over d 0 (take n mem)) (Done n)
+    unfolding jobAnswer
+    answer-done g =
+        let (j, e, k, f, _) = loaded-next (readJob l s) mem links n h in
+        rw (e, ← k, le-ltb (length d) n g, f) (ap good k, refl)

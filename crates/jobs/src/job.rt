@@ -4,12 +4,11 @@ ghost use mathlib.Core.List.{List, map};
 ghost use mathlib.Core.Bool.{true};
 ghost use Prim.Native.Nat.{ℕ, _≤_};
 ghost use lib.Dec.{ltb};
-ghost use lib.ListN.{length, take, drop};
+ghost use lib.ListN.{length, drop};
 ghost use Rattle.definitions.specs.Limits.{document01};
-ghost use Rattle.definitions.specs.Job.{readJob, jobHeadOf, jobHeadRule};
-ghost use Rattle.lists.specs.Over.{over};
+ghost use Rattle.definitions.specs.Job.{jobHeadOf, jobHeadRule};
 ghost use Rattle.heads.specs.Heads.{headOf};
-ghost use Rattle.heads.specs.Layout.{linksRoom, jobSize, cellsFor};
+ghost use Rattle.heads.specs.Layout.{cellsFor};
 ghost use Rattle.heads.specs.Reading.{fromRuns, fromDelays, fromEdges, closed};
 ghost use Rattle.orders.specs.Edges.{edgeIn};
 ghost use Rattle.orders.specs.Links.{linksSize, linkable, circles, Linked};
@@ -17,7 +16,6 @@ ghost use Rattle.text.specs.declared.Step.the-variants.{Next};
 ghost use Rattle.jobs.specs.Answers.{Loaded};
 ghost use Rattle.jobs.specs.Stages.{Headed, closing, RunsIn, DelaysIn};
 use heads::Head;
-use heads::Opening;
 use heads::layout;
 use orders::Linking;
 use rows::Kind;
@@ -102,27 +100,4 @@ pub fn load_rest(s: &[u8], at: usize, head: Head, mem: &mut [u64], links: &mut [
 {
     put_head(mem, head);
     load_runs(s, at, mem, links)
-}
-
-// A job's text. The job's cells then stand at the front of `mem`; the answer is their number, or the refusal.
-pub fn load_text(s: &[u8], mem: &mut [u64], links: &mut [u64]) -> Step
-    requires { ⌜ (jobSize 32 ≤ length (now mem)) × (linksRoom 32 ≤ length (now links)) ⌝ }
-    ensures { λ r. ⌜ Loaded (readJob document01 (now (s .entry))) (now (mem .exit)) (now (links .exit)) r ⌝ }
-{
-    match heads::read_head(s) {
-        Opening::Opened(head, at) => load_rest(s, at, head, mem, links),
-        Opening::Refused(x) => Step::Refused(x),
-    }
-}
-
-// The first n cells of `from`, copied to the front of `cells`.
-pub fn copy_cells(cells: &mut [u64], from: &[u64], n: usize)
-    requires { ⌜ (n ≤ length (now cells)) × (n ≤ length (now from)) ⌝ }
-    ensures { λ _. ⌜ now (cells .exit) ≡ over (now (cells .entry)) 0 (take n (now (from .entry))) ⌝ }
-{
-    let mut i = 0;
-    while i < n {
-        cells[i] = from[i];
-        i += 1;
-    }
 }

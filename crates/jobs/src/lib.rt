@@ -5,8 +5,10 @@ ghost use Rattle.heads.specs.Heads.{headOf};
 ghost use Rattle.jobs.specs.Answers.{Answered, jobAnswer};
 ghost use Rattle.jobs.specs.Loading.{jobFrom, JobLoaded};
 use heads::Head;
+use heads::Opening;
 use text::Step;
 
+mod cells;
 mod job;
 
 // How many cells or bytes were written, or the number of the refusal.
@@ -41,16 +43,11 @@ pub fn load_job(
 pub fn read_job(text: &[u8], cells: &mut [u64]) -> Answer
     ensures { λ r. do ⌜ Answered (jobAnswer document01 (now (text .entry)) (← ⟦cells.len()⟧ .entry)) (now (cells .entry)) (now (cells .exit)) r ⌝ }
 {
-    let mut mem = [0u64; 5664];
-    let mut links = [0u64; 2176];
-    match job::load_text(text, &mut mem, &mut links) {
-        Step::Next(n) => {
-            if cells.len() < n {
-                return Answer::Refusal(8);
-            }
-            job::copy_cells(cells, &mem, n);
-            Answer::Done(n)
+    match heads::read_head(text) {
+        Opening::Opened(head, at) => {
+            let capacity = heads::capacity_for(head);
+            cells::in_memory(capacity, text, at, head, cells)
         }
-        Step::Refused(x) => Answer::Refusal(x),
+        Opening::Refused(x) => Answer::Refusal(x),
     }
 }

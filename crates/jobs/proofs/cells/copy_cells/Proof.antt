@@ -2,8 +2,8 @@
 use Rattle.lists.proofs.Prelude.{_≡_, refl, _≤_, _-_, arith, needs, length, getD, take, drop, length-set, getD-take, length-take-le}
 use Rattle.lists.specs.Over.{over}
 use Rattle.text.proofs.Writing.{copy-next, copy-end}
-use Rattle.jobs.proofs.job.copy_cells.Statement.{statement}
-use Rattle.jobs.proofs.job.copy_cells.Tie as tie
+use Rattle.jobs.proofs.cells.copy_cells.Statement.{statement}
+use Rattle.jobs.proofs.cells.copy_cells.Tie as tie
 
 abbrev Inv-loop : tie.InvT-loop
 Inv-loop cells₀ from n i₀ cells i = (i ≤ n) × (length cells ≡ length cells₀) × (over cells i (drop i (take n from)) ≡ over cells₀ 0 (take n from))
