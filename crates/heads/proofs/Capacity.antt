@@ -16,6 +16,10 @@ fits-most l (a, b, c) h z =
     let w = mul-le-mul {n₁ = h .tasks + h .processors} {m₁ = h .processors + 1} {n₂ = l .tasks + l .processors} {m₂ = l .processors + 1} (omega (arith, v, m)) (omega (arith, m)) in
     (omega (arith, v, a), omega (arith, e, b), omega (arith, w, e, c))
 
+-- A job fits a larger memory too.
+pub fits-larger : (a b : ℕ) (h : JobHead) → a ≤ b → FitsIn a h → FitsIn b h
+fits-larger a b h l (v, e, k) = (omega (arith, l, v), omega (arith, l, e), omega (arith, l, k))
+
 module _ (capacity : ℕ) (h : JobHead) where
   -- The test finds out whether a job fits.
   room-fits : hasRoom capacity h ≡ true → FitsIn capacity h

@@ -1,5 +1,5 @@
 -- Which memory is made.
-use Rattle.lists.proofs.Prelude.{_≡_, refl, sym, _∙_, Bool, true, false, ℕ, _+_, _<_, _≤_, arith, leb, leb-true, leb-false, le-leb, lt-leb, if_then_else_, JobHead}
+use Rattle.lists.proofs.Prelude.{_≡_, refl, Bool, true, false, ℕ, _+_, _≤_, arith, leb, leb-true, leb-false, le-leb, lt-leb, if_then_else_, JobHead}
 use lib.Arith.{lt-of-le-ne}
 use Rattle.heads.specs.Layout.{hasRoom, capacityFor}
 use Rattle.heads.proofs.Capacity.{capacity-tried}

@@ -1,10 +1,9 @@
 -- The proof of the cycle of calls {in_memory}. The measure is how far the capacity is from the largest.
-use Rattle.lists.proofs.Prelude.{ℕ, _≡_, _-_, _≤_, _<_, arith, needs, JobHead}
+use Rattle.lists.proofs.Prelude.{_≡_, ℕ, _-_, _<_, arith, needs}
 use borrow.Fn.Kinds.{In}
 use borrow.Fn.PlainCycle.{Measures, is, falls, and}
 use Rattle.heads.specs.Heads.{headOf}
-use Rattle.heads.specs.Layout.{FitsIn}
-use Rattle.heads.proofs.Capacity.{largest-fits, fits-most}
+use Rattle.heads.proofs.Capacity.{largest-fits, fits-most, fits-larger}
 use Rattle.jobs.proofs.cells.in_memory.Reads as in-memory
 use Rattle.jobs.proofs.cells.in_memory.Kinds as in-memory-kinds
 use Rattle.jobs.proofs.cells.+in_memory.Lts-in_memory as in-memory-lts
@@ -21,10 +20,6 @@ in-memory-at t = and 2 in-memory-kinds.ps (is 2 in-memory-kinds.ps μ-in-memory 
 
 abbrev in-memory-below : ℕ → In 2 in-memory-kinds.ps
 in-memory-below t = and 2 in-memory-kinds.ps (falls 2 in-memory-kinds.ps _<_ μ-in-memory t) in-memory.Pre
-
--- A job fits a larger memory too.
-fits-larger : (a b : ℕ) (h : JobHead) → a ≤ b → FitsIn a h → FitsIn b h
-fits-larger a b h l (v, e, k) = (omega (arith, l, v), omega (arith, l, e), omega (arith, l, k))
 
 pub +in-memory-spec : {M : Type 1} → statement M
 +in-memory-spec = close μ-in-memory λ t. in-memory-lts.spec (
