@@ -2,15 +2,33 @@
  * Replicated plans for watering rounds: draw up a plan that bears the loss of
  * some boxes, check a plan, and replay one while boxes stop.
  *
- * Link with libexports.a. The functions keep nothing between calls, allocate
- * nothing and do no input or output. A call takes some 185 KB of stack.
+ * Link with libexports.a, which is for Linux on x86-64; beside it only memcpy
+ * and memset are needed. The functions keep nothing between calls, allocate
+ * nothing and do no input or output, and may be called by several threads at
+ * once, each with its own outputs. docs/FORMAT.md says what stands in a text.
+ *
+ * Stack: a call takes as much as the first line of its job asks for, even if
+ * the text is refused further down. A job has v tasks, m boxes, e edges and
+ * c = 4 + (v + m) * (m + 1) + e cells; it is in the first row of which it keeps
+ * all three limits. KB are 1,024 bytes, from the call on, with what the
+ * dynamic linker takes at the first call of all.
+ *
+ *   v up to   e up to   c up to   plan, check, replay   read_job
+ *         8        32       177                 11 KB      20 KB
+ *        16        64       354                 15 KB      20 KB
+ *        64       256     1,416                 39 KB      20 KB
+ *       255     1,024     5,635                132 KB      66 KB
+ *
+ * MIRGUNETH_STACK_BYTES is enough for a thread that calls any of them for any
+ * job, with some 10 KB for its own frames, thread-local data and signals.
  *
  * A text is a pointer to its first byte and its length in bytes; it needs no
  * closing zero. No pointer may be null, even with a length of 0. `out`,
  * `cells`, `written` and `task` must not overlap with each other or with a
  * text.
  *
- * Each function returns 0 or the number of a refusal:
+ * Each function returns 0 or the number of a refusal. The first fault is told:
+ * the job is tried, then the plan, then the stops, then 8.
  *
  *    1  a text is longer than 65,536 bytes
  *    2  a line is badly formed, out of turn, missing or left over
@@ -29,7 +47,8 @@
  *   15  the boxes of the stop list do not ascend
  *   16  an edge line is smaller than the one before (from, then to)
  *
- * After a refusal all output is as it was before the call.
+ * After a refusal all output is as it was before the call. After a good answer
+ * what stands behind the first *written bytes or cells is as it was.
  */
 #ifndef MIRGUNETH_H
 #define MIRGUNETH_H
@@ -40,6 +59,11 @@
 #ifdef __cplusplus
 extern "C" {
 #endif
+
+#define MIRGUNETH_VERSION "0.1.0"
+
+/* The stack of a thread for any call (see above). */
+#define MIRGUNETH_STACK_BYTES 147456
 
 /* Outputs of these sizes hold every answer. */
 #define MIRGUNETH_PLAN_BYTES 65536

@@ -1,14 +1,22 @@
 //! Replicated plans for watering rounds: draw up a plan that bears the loss of
 //! some boxes, check a plan, and replay one while boxes stop.
 //!
-//! The work is done by a proved static library; this crate is a safe layer
-//! over its four functions. Nothing is allocated but by [`plan_to_vec`] and
-//! [`replay_to_vec`]; a call takes some 185 KB of stack.
+//! The work is done by a proved static library, for Linux on x86-64; this crate
+//! is a safe layer over its four functions. What stands in a job, a plan and a
+//! stop list is said in the repository's `docs/FORMAT.md`. Nothing is kept
+//! between calls, and nothing is allocated but by [`plan_to_vec`] and
+//! [`replay_to_vec`]; after a refusal an output is as it was, after a good
+//! answer so is all behind the front that was written. A call takes stack by
+//! the size of its job, at most [`STACK_BYTES`]; `include/mirguneth.h` has the
+//! table.
 
 pub mod raw;
 
 use std::error::Error;
 use std::fmt;
+
+/// The stack of a thread for any call, with some 10 KB for its own frames.
+pub const STACK_BYTES: usize = 147_456;
 
 /// An output of this many bytes holds every plan that the planner draws up.
 pub const PLAN_BYTES: usize = 65_536;
@@ -26,7 +34,7 @@ pub struct Refusal {
 }
 
 impl Refusal {
-    /// The refusal's number, 1 to 16.
+    /// The refusal's number, 1 to 16 but for 12, which is [`Verdict::Doubled`].
     pub fn number(self) -> u64 {
         self.number
     }

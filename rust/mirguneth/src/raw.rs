@@ -1,5 +1,11 @@
 //! The library's functions as C has them. `include/mirguneth.h` says what
-//! each does; no pointer may be null, even with a length of 0.
+//! each does.
+//!
+//! # Safety
+//!
+//! A pointer and its length name memory that may be read, for an output also
+//! written; no pointer may be null, even with a length of 0; outputs overlap
+//! with nothing else.
 
 unsafe extern "C" {
     pub fn mirguneth_read_job(
