@@ -71,9 +71,6 @@ capacity-cases h P = by (hasRoom 1 h) (hasRoom 2 h) (hasRoom 8 h)
 pub capacity-fits : (l : Limits) → FitsIn 32 (largest l) → (h : JobHead) → jobHeadRule l h ≡ 0 → FitsIn (capacityFor h) h
 capacity-fits l u h z = capacity-cases h (λ n. FitsIn n h) (room-fits 1 h) (room-fits 2 h) (room-fits 8 h) (fits-most l u h z)
 
-pub capacity-most : (h : JobHead) → capacityFor h ≤ 32
-capacity-most h = capacity-cases h (λ n. n ≤ 32) (λ _. omega arith) (λ _. omega arith) (λ _. omega arith) (omega arith)
-
 -- The test of a memory and a head.
 module _ (capacity size links : ℕ) (h : JobHead) where
   pub roomy-parts : roomy capacity size links h ≡ true → (capacity ≤ 32) × (size ≡ memorySize capacity) × (linksRoom capacity ≤ links) × FitsIn capacity h

@@ -3,7 +3,7 @@ use Rattle.lists.proofs.Prelude.{_≡_, refl, ap, _∙_, sym, List, true, false
 use Rattle.text.specs.Suited.{Suited}
 use Rattle.text.specs.declared.Step.{Step}
 use Rattle.text.specs.declared.Step.the-variants.{Next, Refused}
-use Rattle.heads.specs.Layout.{memorySize, linksRoom, FitsIn, largest, capacityFor}
+use Rattle.heads.specs.Layout.{memorySize, linksRoom, FitsIn}
 use Rattle.jobs.specs.Answers.{Loaded}
 use Rattle.jobs.specs.Tables.{Tabled}
 use Rattle.jobs.specs.Held.{jobIn, JobHeld, LinksHeld}
@@ -16,7 +16,7 @@ use Rattle.jobs.proofs.Held.{tasks-in, processors-in, length-edges}
 use Rattle.jobs.proofs.AnswerLaws.{loaded-no}
 use Rattle.jobs.proofs.JobShape.{closed-shape}
 use Rattle.jobs.proofs.JobIn.{loaded-in}
-use Rattle.heads.proofs.Capacity.{capacity-fits, capacity-most, roomy-made}
+use Rattle.heads.proofs.Capacity.{roomy-made}
 
 -- The rest of a job's text ----------------------------------------------------------------------------------------
 
@@ -51,13 +51,11 @@ module _ (l : Limits) (capacity size links : ℕ) (h : JobHead) (s : List ℕ) w
     unfolding jobFrom fromHead
     from-room e = rw (e, z)
 
--- The job of a text whose head was read, in a memory of the capacity that it is given.
-pub job-from : (l : Limits) → FitsIn 32 (largest l) → (s : List ℕ) (h : Head) (at capacity size links : ℕ) → HeadRead l s (Opened h at)
-    → capacity ≡ capacityFor (headOf h) → size ≡ memorySize capacity → linksRoom capacity ≤ links
-    → jobFrom l capacity size links (headOf h) (drop at s) ≡ readJob l s
-job-from l most s h at capacity size links (z, q) e w k =
-    let f : FitsIn capacity (headOf h) = rw e (capacity-fits l most (headOf h) z) in
-    from-room l capacity size links (headOf h) (drop at s) z (roomy-made capacity size links (headOf h) (rw e (capacity-most (headOf h))) w k f) ∙ sym q
+-- The job of a text whose head was read, in a memory that it fits.
+pub job-from : (l : Limits) (s : List ℕ) (h : Head) (at capacity size links : ℕ) → HeadRead l s (Opened h at) → capacity ≤ 32 → FitsIn capacity (headOf h)
+    → size ≡ memorySize capacity → linksRoom capacity ≤ links → jobFrom l capacity size links (headOf h) (drop at s) ≡ readJob l s
+job-from l s h at capacity size links (z, q) most f w k =
+    from-room l capacity size links (headOf h) (drop at s) z (roomy-made capacity size links (headOf h) most w k f) ∙ sym q
 
 -- What was loaded -----------------------------------------------------------------------------------------------------
 

@@ -1,14 +1,13 @@
 -- The public answers, from what the tools answer in the memory that a job's head asks for.
-use Rattle.lists.proofs.Prelude.{_≡_, refl, _∙_, List, ℕ, arith, length, drop, document01, Result, good, bad, andThen, Job, readJob, Plan, readPlan, Says, planAnswer, verdictFor, verdict, replayed, replayAnswer}
+use Rattle.lists.proofs.Prelude.{_≡_, refl, _∙_, List, ℕ, _≤_, length, drop, document01, Result, good, bad, andThen, Job, readJob, Plan, readPlan, Says, planAnswer, verdictFor, verdict, replayed, replayAnswer}
 use Rattle.definitions.specs.Tools.{verdictOn}
-use Rattle.heads.specs.Layout.{memorySize, linksRoom, capacityFor}
+use Rattle.heads.specs.Layout.{memorySize, linksRoom, FitsIn}
 use Rattle.jobs.specs.Answers.{resultOf, Answered}
 use Rattle.heads.specs.Heads.{headOf, HeadRead}
 use Rattle.jobs.specs.Loading.{jobFrom}
 use Rattle.jobs.specs.declared.Answer.{Answer}
 use Rattle.heads.specs.declared.Head.{Head}
 use Rattle.heads.specs.declared.Opening.the-variants.{Opened}
-use Rattle.heads.proofs.Capacity.{largest-fits}
 use Rattle.jobs.proofs.Loads.{job-from}
 use Rattle.plans.specs.Loading.{withPlan, readBoth}
 use Rattle.rounds.specs.Tools.{planOf, verdictBoth, replayBoth}
@@ -43,12 +42,13 @@ module _ (job plan : List ℕ) where
   unfolding replayAnswer replayed withPlan
   replay-both stops room = simp then-then
 
--- The memory that the head asks for -----------------------------------------------------------------------------------
+-- A memory that the job fits ------------------------------------------------------------------------------------------
 
-pub tool-page : (tool : Tool) (job : List ℕ) (h : Head) (at capacity : ℕ) → HeadRead document01 job (Opened h at) → capacity ≡ capacityFor (headOf h)
-    → (plan stops d z : List ℕ) (r : Said) → Answers tool (jobFrom document01 capacity (memorySize capacity) (linksRoom capacity) (headOf h) (drop at job)) plan stops d z r
+pub tool-page : (tool : Tool) (job : List ℕ) (h : Head) (at capacity size links : ℕ)
+    → HeadRead document01 job (Opened h at) × (capacity ≤ 32) × FitsIn capacity (headOf h) × (size ≡ memorySize capacity) × (linksRoom capacity ≤ links)
+    → (plan stops d z : List ℕ) (r : Said) → Answers tool (jobFrom document01 capacity size links (headOf h) (drop at job)) plan stops d z r
     → Answers tool (readJob document01 job) plan stops d z r
-tool-page tool job h at capacity o e plan stops d z r a = rw (job-from document01 largest-fits job h at capacity (memorySize capacity) (linksRoom capacity) o e refl (omega arith)) at a
+tool-page tool job h at capacity size links (o, most, f, w, k) plan stops d z r a = rw (job-from document01 job h at capacity size links o most f w k) at a
 
 -- The job's text was refused.
 pub tool-refused : (tool : Tool) (x : Result Job) (n : ℕ) → x ≡ bad n → (plan stops d : List ℕ) → Answers tool x plan stops d d (Said.Refused n)

@@ -1,14 +1,14 @@
 // The working memory for a job, chosen in one place for the three tools.
 ghost use mathlib.Core.Path.{_≡_};
-ghost use lib.ListN.{length, drop};
+ghost use Prim.Native.Nat.{_≤_};
+ghost use lib.ListN.{length};
 ghost use Rattle.definitions.specs.Limits.{document01};
 ghost use Rattle.definitions.specs.Job.{readJob};
-ghost use Rattle.heads.specs.Heads.{headOf};
-ghost use Rattle.heads.specs.Layout.{memorySize, linksRoom};
+ghost use Rattle.heads.specs.Heads.{headOf, HeadRead};
+ghost use Rattle.heads.specs.Layout.{memorySize, linksRoom, FitsIn};
+ghost use Rattle.heads.specs.declared.Opening.the-variants.{Opened};
 ghost use Rattle.jobs.specs.Answers.{resultOf};
-ghost use Rattle.jobs.specs.Loading.{jobFrom};
 ghost use Rattle.rounds.specs.Verdicts.{refusalOf};
-ghost use Rattle.mirguneth.specs.Memories.{madeFor};
 ghost use Rattle.mirguneth.specs.Said.{doneOf, numbersOf, Answers};
 use heads::Head;
 use heads::Opening;
@@ -73,7 +73,7 @@ pub fn checked_of(said: Said) -> Checked
     }
 }
 
-// A tool's answer to texts, the head of the job's being read up to `at`, in a working memory of this capacity.
+// A tool's answer to texts, the head of the job's being read up to `at`, in a working memory that the job fits.
 fn run(
     tool: Tool,
     job: &[u8],
@@ -86,8 +86,9 @@ fn run(
     capacity: usize,
     out: &mut [u8],
 ) -> Said
-    ensures { λ r. ⌜ Answers tool (jobFrom document01 capacity (length (now (mem .entry))) (length (now (links .entry))) (headOf head) (drop at (now (job .entry)))) (now (plan .entry))
-        (now (stops .entry)) (now (out .entry)) (now (out .exit)) r ⌝ }
+    requires { ⌜ HeadRead document01 (now job) (Opened head at) × (capacity ≤ 32) × FitsIn capacity (headOf head) × (length (now mem) ≡ memorySize capacity)
+        × (linksRoom capacity ≤ length (now links)) ⌝ }
+    ensures { λ r. ⌜ Answers tool (readJob document01 (now (job .entry))) (now (plan .entry)) (now (stops .entry)) (now (out .entry)) (now (out .exit)) r ⌝ }
 {
     match tool {
         Tool::Plan => written(rounds::plan_in(job, at, head, mem, links, capacity, out)),
@@ -116,8 +117,8 @@ fn in_one(
     stops: &[u8],
     out: &mut [u8],
 ) -> Said
-    ensures { λ r. ⌜ Answers tool (jobFrom document01 1 (memorySize 1) (linksRoom 1) (headOf head) (drop at (now (job .entry)))) (now (plan .entry)) (now (stops .entry))
-        (now (out .entry)) (now (out .exit)) r ⌝ }
+    requires { ⌜ HeadRead document01 (now job) (Opened head at) × FitsIn 1 (headOf head) ⌝ }
+    ensures { λ r. ⌜ Answers tool (readJob document01 (now (job .entry))) (now (plan .entry)) (now (stops .entry)) (now (out .entry)) (now (out .exit)) r ⌝ }
 {
     let mut mem = [0u64; 425];
     let mut links = [0u64; 68];
@@ -145,8 +146,8 @@ fn in_two(
     stops: &[u8],
     out: &mut [u8],
 ) -> Said
-    ensures { λ r. ⌜ Answers tool (jobFrom document01 2 (memorySize 2) (linksRoom 2) (headOf head) (drop at (now (job .entry)))) (now (plan .entry)) (now (stops .entry))
-        (now (out .entry)) (now (out .exit)) r ⌝ }
+    requires { ⌜ HeadRead document01 (now job) (Opened head at) × FitsIn 2 (headOf head) ⌝ }
+    ensures { λ r. ⌜ Answers tool (readJob document01 (now (job .entry))) (now (plan .entry)) (now (stops .entry)) (now (out .entry)) (now (out .exit)) r ⌝ }
 {
     let mut mem = [0u64; 850];
     let mut links = [0u64; 136];
@@ -174,8 +175,8 @@ fn in_eight(
     stops: &[u8],
     out: &mut [u8],
 ) -> Said
-    ensures { λ r. ⌜ Answers tool (jobFrom document01 8 (memorySize 8) (linksRoom 8) (headOf head) (drop at (now (job .entry)))) (now (plan .entry)) (now (stops .entry))
-        (now (out .entry)) (now (out .exit)) r ⌝ }
+    requires { ⌜ HeadRead document01 (now job) (Opened head at) × FitsIn 8 (headOf head) ⌝ }
+    ensures { λ r. ⌜ Answers tool (readJob document01 (now (job .entry))) (now (plan .entry)) (now (stops .entry)) (now (out .entry)) (now (out .exit)) r ⌝ }
 {
     let mut mem = [0u64; 3400];
     let mut links = [0u64; 544];
@@ -203,8 +204,8 @@ fn in_all(
     stops: &[u8],
     out: &mut [u8],
 ) -> Said
-    ensures { λ r. ⌜ Answers tool (jobFrom document01 32 (memorySize 32) (linksRoom 32) (headOf head) (drop at (now (job .entry)))) (now (plan .entry)) (now (stops .entry))
-        (now (out .entry)) (now (out .exit)) r ⌝ }
+    requires { ⌜ HeadRead document01 (now job) (Opened head at) × FitsIn 32 (headOf head) ⌝ }
+    ensures { λ r. ⌜ Answers tool (readJob document01 (now (job .entry))) (now (plan .entry)) (now (stops .entry)) (now (out .entry)) (now (out .exit)) r ⌝ }
 {
     let mut mem = [0u64; 13600];
     let mut links = [0u64; 2176];
@@ -222,8 +223,8 @@ fn in_all(
     )
 }
 
-// The same in the smallest memory of at least this capacity, if there is one. It calls itself, so the compiler leaves the four
-// memories in the frames of the four functions above: a call takes the stack of the memory that it uses.
+// The same in the smallest memory of at least this capacity. It calls itself, so the compiler leaves the four memories in the frames of
+// the four functions above: a call takes the stack of the memory that it uses.
 fn in_memory(
     capacity: usize,
     tool: Tool,
@@ -234,16 +235,16 @@ fn in_memory(
     stops: &[u8],
     out: &mut [u8],
 ) -> Said
-    ensures { λ r. ⌜ Answers tool (jobFrom document01 (madeFor capacity) (memorySize (madeFor capacity)) (linksRoom (madeFor capacity)) (headOf head) (drop at (now (job .entry))))
-        (now (plan .entry)) (now (stops .entry)) (now (out .entry)) (now (out .exit)) r ⌝ }
+    requires { ⌜ HeadRead document01 (now job) (Opened head at) × FitsIn capacity (headOf head) ⌝ }
+    ensures { λ r. ⌜ Answers tool (readJob document01 (now (job .entry))) (now (plan .entry)) (now (stops .entry)) (now (out .entry)) (now (out .exit)) r ⌝ }
 {
-    if capacity == 1 {
+    if capacity <= 1 {
         return in_one(tool, job, at, head, plan, stops, out);
     }
-    if capacity == 2 {
+    if capacity <= 2 {
         return in_two(tool, job, at, head, plan, stops, out);
     }
-    if capacity == 8 {
+    if capacity <= 8 {
         return in_eight(tool, job, at, head, plan, stops, out);
     }
     if capacity >= 32 {

@@ -16,9 +16,9 @@ use Rattle.ticks.specs.declared.clocks.Clocks.{Clocks}
 use Rattle.rounds.specs.Planning.{waitingIn, replicaOn, Taken, processorsFor, Drawn, Ranked, Tried, Begun, Critical, blocking, entries}
 use Rattle.rounds.specs.Clocks.{earliesIn, latesIn, finishOn, ClocksHeld}
 use Rattle.lists.proofs.Counting.{equal-or-not, last-or-before}
-use Rattle.jobs.proofs.Held.{processors-in, Sizes, sizes, job-kept, held-kept}
+use Rattle.jobs.proofs.Held.{processors-in, Sizes, sizes, job-kept}
 use Rattle.lists.proofs.Kept.{Same, same-part, same-before}
-use Rattle.plans.proofs.Lines.{lines-same, row-held-same}
+use Rattle.plans.proofs.Lines.{lines-same, standing-next}
 use Rattle.rounds.proofs.Tables.{from-below, levels-kept, far-kept, placed-kept, top-kept}
 use Rattle.rounds.proofs.FreeLaws.{free-both, free-yes}
 use Rattle.rounds.proofs.TimeLaws.{time-tick, round-most}
@@ -123,9 +123,6 @@ module _ {lim : Limits} {capacity k t : ℕ} {d : List ℕ} (g : Critical lim ca
     job-laid : jobIn e ≡ jobIn d
     job-laid = job-kept (s .standing .job) laid-kept (omega arith)
 
-    old-task : (i : ℕ) → i < k → nth e (rowAt capacity i) ≡ nth d (rowAt capacity i)
-    old-task i l = old-rows .cell (rowAt capacity i) (omega arith) (omega arith)
-
     -- What the new line's cells hold.
     new-cells : (c : ℕ) → c < nth d 3 + 1 → (nth e (processorAt (rowAt capacity k) c) < nth d 1)
         × (nth e (earlyAt (rowAt capacity k) c) ≤ suc k * lineTicks lim) × (nth e (lateAt (rowAt capacity k) c) ≤ suc k * lineTicks lim)
@@ -141,35 +138,14 @@ module _ {lim : Limits} {capacity k t : ℕ} {d : List ℕ} (g : Critical lim ca
     ticks-in-range : suc k * lineTicks lim ≤ lim .tick
     ticks-in-range = round-most (s .standing .job .tabled) (suc k) (omega (arith, g .more, w .tasks-most)) .1
 
-    standing-next : LinesHeld lim capacity (suc k) e
-    standing-next =
-        let st = s .standing in
-        let old : (i : ℕ) → i < k → nth d (rowAt capacity i) ≡ t → ⊥ = λ i l f. let z : nth d (lineAt capacity + t) ≡ suc i = rw f at (st .line-of i l) in omega (arith, task-waits g) in
+    standing-laid : LinesHeld lim capacity (suc k) e
+    standing-laid =
         let m : nth e 1 ≡ nth d 1 = laid-kept .before 1 (omega (arith, few)) in
-        let most = few in
+        standing-next (s .standing) (g .more) (task-below g) (task-waits g) (x .size) (same-before 0 (levelAt capacity) laid-kept (omega arith)) old-rows line-other (x .line) (x .task)
         record {
-          job = held-kept (st .job) laid-kept (omega arith);
-          count = rw tasks-same (omega (arith, g .more));
-          task-of = λ i l. rw tasks-same (⊎-elim (λ (q : i ≡ k). rw (q, x .task) (task-below g)) (λ q. rw (old-task i q) (st .task-of i q)) (last-or-before k i l));
-          line-of = λ i l. ⊎-elim
-              (λ (q : i ≡ k). rw (q, x .task) (x .line))
-              (λ q. rw (old-task i q, line-other (nth d (rowAt capacity i)) (st .task-of i q) (old i q)) (st .line-of i q))
-              (last-or-before k i l);
-          placed = λ u l.
-              let b : u < nth d 0 = rw tasks-same at l in
-              ⊎-elim
-              (λ (q : u ≡ t). inr (k, omega arith, rw q (x .line), x .task ∙ sym q))
-              (λ o. rw (line-other u b o) (⊎-elim inl (λ y. inr (y .0, omega (arith, y .1), y .2, old-task (y .0) (y .1) ∙ y .3)) (st .placed u b)))
-              (equal-or-not u t);
-          row = λ i l. ⊎-elim
-              (λ (q : i ≡ k). rw q (record {
-                processor-of = λ c n. rw m (new-cells c (rw losses-same at n) .0);
-                early-of = λ c n. inr (omega (arith, new-cells c (rw losses-same at n) .1, ticks-in-range));
-                late-of = λ c n. inr (omega (arith, new-cells c (rw losses-same at n) .2, ticks-in-range));
-              }))
-              (λ q. row-held-same (rowAt capacity i) w (same-before 0 4 laid-kept (omega arith))
-              (same-part (rowAt capacity i) (rowEnd (rowAt capacity i)) old-rows (omega arith) (omega arith)) (st .row i q))
-              (last-or-before k i l);
+          processor-of = λ c n. rw m (new-cells c (rw losses-same at n) .0);
+          early-of = λ c n. inr (omega (arith, new-cells c (rw losses-same at n) .1, ticks-in-range));
+          late-of = λ c n. inr (omega (arith, new-cells c (rw losses-same at n) .2, ticks-in-range));
         }
 
     -- The outcomes of the line, and of all lines with it --------------------------------------------------------------
@@ -248,7 +224,7 @@ module _ {lim : Limits} {capacity k t : ℕ} {d : List ℕ} (g : Critical lim ca
         let job = s .standing .job in
         rw (add-one k)
         (record {
-          standing = standing-next;
+          standing = standing-laid;
           far = far-kept job laid-kept (omega arith) (omega arith) (s .far);
           levels = levels-kept job laid-kept (omega arith) (omega arith) (s .levels);
           ticks = λ i c l m.

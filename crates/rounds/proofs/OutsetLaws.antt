@@ -10,6 +10,7 @@ use Rattle.lists.specs.Kept.{KeptOutside}
 use Rattle.rounds.specs.Planning.{waitingIn, Drawn, Ranked, Cleared}
 use Rattle.jobs.proofs.Held.{tasks-in, job-kept, held-kept}
 use Rattle.lists.proofs.Kept.{kept-all, kept-set, kept-then, kept-wider}
+use Rattle.plans.proofs.Lines.{standing-none}
 use Rattle.rounds.proofs.Tables.{from-below, levels-kept, far-kept}
 use Rattle.rounds.proofs.FreeLaws.{free-both}
 use Rattle.rounds.proofs.DrawLaws.{waiting-from}
@@ -82,14 +83,7 @@ module _ {lim : Limits} {capacity : ℕ} {mem : List ℕ} (h : JobHeld lim capac
   outset-drawn c f =
       let n : nth mem 0 - 0 ≡ jobIn mem .tasks = omega (arith, tasks-in mem) in
       record {
-        standing = record {
-          job = h;
-          count = omega arith;
-          task-of = λ i l. absurd (omega arith);
-          line-of = λ i l. absurd (omega arith);
-          placed = λ t l. inl (line t l);
-          row = λ i l. absurd (omega arith);
-        };
+        standing = standing-none h line;
         far = c;
         levels = f;
         ticks = λ i x l. absurd (omega arith);

@@ -1,9 +1,9 @@
 -- The proof of the cycle of calls {in_memory}. The measure is how far the capacity is from the largest.
-use Rattle.lists.proofs.Prelude.{_≡_, sym, ℕ, _-_, _<_, arith, needs}
-use Prim.{tt}
+use Rattle.lists.proofs.Prelude.{_≡_, ℕ, _-_, _<_, arith, needs}
 use borrow.Fn.Kinds.{In}
 use borrow.Fn.PlainCycle.{Measures, is, falls, and}
-use Rattle.mirguneth.proofs.MemoryLaws.{made-one, made-two, made-eight, made-all, made-next}
+use Rattle.heads.specs.Heads.{headOf}
+use Rattle.heads.proofs.Capacity.{largest-fits, fits-most, fits-larger}
 use Rattle.mirguneth.proofs.choice.in_memory.Reads as in-memory
 use Rattle.mirguneth.proofs.choice.in_memory.Kinds as in-memory-kinds
 use Rattle.mirguneth.proofs.choice.+in_memory.Lts-in_memory as in-memory-lts
@@ -37,15 +37,19 @@ pub +in-memory-spec : {M : Type 1} → statement M
   in-memory.Post,
 )
     (in-memory-at t) in-memory.Post
-    (λ c κs. search needs) (λ c. search needs) (λ c. rw (c .before .before .before .before .if1 .taken, made-one) (c .before .before .in-one .ensures))
-    (λ c κs. search needs) (λ c. search needs) (λ c. rw (c .before .before .before .before .if2 .taken, made-two) (c .before .before .in-two .ensures))
-    (λ c κs. search needs) (λ c. search needs) (λ c. rw (c .before .before .before .before .if3 .taken, made-eight) (c .before .before .in-eight .ensures))
-    (λ c κs. search needs) (λ c. search needs) (λ c. rw (made-all _ (c .before .before .before .before .if4 .taken)) (c .before .before .in-all .ensures))
+    (λ c κs. let start = c .before .before .before .before .before .before in
+    (start .pre .1 .0, fits-larger _ 1 (headOf (start .args .head)) (c .before .if1 .taken) (start .pre .1 .1)))
+    (λ c. search needs) (λ c. search needs)
+    (λ c κs. let start = c .before .before .before .before .before .before .before in
+    (start .pre .1 .0, fits-larger _ 2 (headOf (start .args .head)) (c .before .if2 .taken) (start .pre .1 .1)))
+    (λ c. search needs) (λ c. search needs)
+    (λ c κs. let start = c .before .before .before .before .before .before .before .before in
+    (start .pre .1 .0, fits-larger _ 8 (headOf (start .args .head)) (c .before .if3 .taken) (start .pre .1 .1)))
+    (λ c. search needs) (λ c. search needs)
+    (λ c κs. let head = c .before .before .before .before .before .before .before .before .before .pre .1 .0 in (head, fits-most _ largest-fits _ (head .0))) (λ c. search needs) (λ c. search needs)
     (λ c. let l : c .before .before .before .before .before .before .before .before .args .capacity < 32 = c .if4 .left in record { fits = omega (arith, l) })
     (λ c κs. let start = c .before .before .before .before .before .before .before .before .before in
     let l : start .args .capacity < 32 = c .before .if4 .left in
     let e : 32 - start .args .capacity ≡ t = start .pre .0 in
-    (omega (arith, l, e), tt))
-    (λ c. search needs)
-    (λ c. let l = c .before .before .before .before in
-    rw (sym (made-next _ (l .before .before .before .if1 .left) (l .before .before .if2 .left) (l .before .if3 .left))) (c .before .before .in-memory .ensures))
+    (omega (arith, l, e), (start .pre .1 .0, fits-larger _ _ (headOf (start .args .head)) (omega arith) (start .pre .1 .1))))
+    (λ c. search needs) (λ c. search needs)
