@@ -14,7 +14,7 @@ use Rattle.definitions.specs.Limits.{Limits}
 use Rattle.definitions.specs.Job.{Edge, Job, runTime, delay, incoming, outgoing}
 use Rattle.definitions.specs.Plan.{Replica, Line, Plan, processorsOf}
 use Rattle.definitions.specs.Stops.{Stop}
-use Rattle.definitions.specs.Times.{Time, tick, never, later, sooner, after, least, largest, Placement, Outcome, outcome, ofTask, times, ready, message, arrival, dataReady, start, stopTime, unlessStopped, finish, walk, placementsOf, placements, earlies, lates, exits, makespan, lowerBound, upperBound, placementOf}
+use Rattle.definitions.specs.Times.{Time, tick, never, later, sooner, after, least, largest, Placement, Outcome, outcome, ofTask, times, ready, message, feeding, arrival, dataReady, start, stopTime, unlessStopped, finish, walk, placementsOf, placements, earlies, lates, exits, makespan, lowerBound, upperBound, placementOf}
 use Rattle.definitions.specs.Refusals.{replicasOf, sameTimes, ticksAgree, planRefusal}
 use Rattle.definitions.specs.Planner.{tickOf, Waiting, waitingFrom, scale, scaledRun, totalDelay, scaledMessage, raised, settled, bottomLevels, largestDelay, topLevel, ranked, trial}
 use Rattle.definitions.specs.Replay.{replay}
@@ -23,6 +23,7 @@ use Rattle.definitions.proofs.Lists.{both, append-left, append-right, i
 use Rattle.definitions.specs.Facts.{JobFacts, PredecessorsIn, Ordered, Apart}
 use Rattle.definitions.proofs.Tasks.{in-incoming, in-outgoing, in-task, line-facts}
 use Rattle.definitions.proofs.Ready.{first-ready}
+use Rattle.definitions.proofs.Feeding.{in-feeding}
 use Rattle.definitions.proofs.Stopping.{stopped}
 use Rattle.definitions.proofs.Guarantee.{accepted-facts, same-times}
 
@@ -123,14 +124,13 @@ ready-within j b p (d ∷ ds) h = by (eqb (d .processor) p) (ready-within j b p 
     by true r = h d (inl refl) .1
     by false r = r
 
--- The data of a task's replicas, each sent on at w ticks for its processor, of which none passes v.
-predecessors-within : (b v : ℕ) (choose : List Time → Time) → Bounded choose → (w : ℕ → ℕ) (t : ℕ) (ds : List Outcome)
-    → ((d : Outcome) → In d ds → d .task ≡ t → (w (d .processor) ≤ v) × Within b (d .time))
-    → Within (b + v) (choose (map (λ d. after (w (d .processor)) (d .time)) (ofTask t ds)))
-predecessors-within b v choose k w t ds h =
-    chosen-within (b + v) choose k (λ d. after (w (d .processor)) (d .time)) (ofTask t ds) λ d m.
-    let (o, e) = in-task t d ds m in
-    let (u, a) = h d o e in
+-- The data of replicas, each sent on at w ticks for its processor, of which none passes v.
+sent-within : (b v : ℕ) (choose : List Time → Time) → Bounded choose → (w : ℕ → ℕ) (ds : List Outcome)
+    → ((d : Outcome) → In d ds → (w (d .processor) ≤ v) × Within b (d .time))
+    → Within (b + v) (choose (map (λ d. after (w (d .processor)) (d .time)) ds))
+sent-within b v choose k w ds h =
+    chosen-within (b + v) choose k (λ d. after (w (d .processor)) (d .time)) ds λ d m.
+    let (u, a) = h d m in
     let n = w (d .processor) in
     weaker (after n (d .time)) (omega arith) (after-within b n (d .time) a)
 
@@ -143,7 +143,8 @@ module _ (l : Limits) (j : Job) (jf : JobFacts l j) (choose : List Time → Time
       → p < j .processors → Within (b + longest) (arrival j choose ds p e)
   unfolding arrival
   arrival-within b seen ds p e s i f h =
-      predecessors-within b longest choose k (λ q. message j e q p) (e .from) ds λ d o q.
+      sent-within b longest choose k (λ q. message j e q p) (feeding j (e .from) p ds) λ d m.
+      let (o, q) = in-task (e .from) d ds (in-feeding j (e .from) p ds d m) in
       let (g, a) = s d o in
       (mul-le-mul (jf .volume-most e i) (jf .delay-most (d .processor) p g h), a (rw q f))
 
@@ -421,8 +422,8 @@ module _ (l : Limits) (j : Job) (jf : JobFacts l j) where
       all-sent : Within (b + l .volume * l .delay) (largest (map sent (incoming j t)))
       all-sent =
           chosen-within (b + l .volume * l .delay) largest largest-within sent (incoming j t) λ e i.
-          predecessors-within b (l .volume * l .delay) least least-within (λ p. e .volume * largestDelay j p) (e .from) placed λ d o q.
-          let (g, a) = h d o in
+          sent-within b (l .volume * l .delay) least least-within (λ p. e .volume * largestDelay j p) (ofTask (e .from) placed) λ d m.
+          let (g, a) = h d (in-task (e .from) d placed m .0) in
           (mul-le-mul (jf .volume-most e (in-incoming j t e i .0)) (largestDelay-most (d .processor) g), a)
 
   -- A task's early finishes on all processors.

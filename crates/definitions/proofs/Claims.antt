@@ -25,7 +25,9 @@ use Rattle.definitions.specs.Claims.{haltingOf, haltedReplay, placedAfte
 use Rattle.definitions.proofs.Lists.{in-reverse, in-take}
 use Rattle.definitions.specs.Facts.{JobFacts, Ordered, PlanFacts}
 use Rattle.definitions.proofs.Tasks.{line-facts}
+use Rattle.definitions.specs.Shelf.{ShelfTicks, ShelfPlans}
 use Rattle.definitions.proofs.EdgeOrder.{same-order}
+use Rattle.definitions.proofs.Shelf.{earlies-all, lower-all, replays-all, lates-sooner, upper-sooner, plan-redrawn}
 use Rattle.definitions.proofs.Reading.{job-facts, plan-facts}
 use Rattle.definitions.proofs.Guarantee.{accepted-facts, kept, quiet}
 use Rattle.definitions.proofs.Stopping.{late-replay}
@@ -248,6 +250,17 @@ edges-ascend l job j h = job-facts l job j h .ascends
 pub one-order : (l : Limits) → OneOrder l
 one-order l job other j k h g f b = same-order (j .edges) (k .edges) (edges-ascend l job j h) (edges-ascend l other k g) f b
 
+-- Plans on the shelf ------------------------------------------------------------------------------------------
+
+pub shelf-ticks : (l : Limits) → ShelfTicks l
+shelf-ticks l job plan j p h g =
+    let facts = job-facts l job j h in
+    let o = plan-facts l j plan p g .ordered in
+    (earlies-all l j facts (p .lines) o, lower-all l j facts (p .lines) o, replays-all l j facts (p .lines) o, lates-sooner l j facts (p .lines) o, upper-sooner l j facts (p .lines) o)
+
+pub shelf-plans : (l : Limits) → ShelfPlans l
+shelf-plans l job j h = plan-redrawn l j (job-facts l job j h)
+
 -- With the limits of document 01 ------------------------------------------------------------------------------
 
 pub roomy01 : Roomy document01
@@ -292,4 +305,6 @@ claim = (
   one-order document01,
   accepted-obey document01,
   printed-obey document01 roomy01,
+  shelf-ticks document01,
+  shelf-plans document01,
 )

@@ -8,19 +8,20 @@ use native.Mathlib.Omega.{arith}
 use lib.Dec.{eqb}
 use lib.ListN.{length, length-map}
 use borrow.Author.Tests.{eqb-true, eq-eqb, not-false}
-use Rattle.definitions.specs.Lists.{if_then_else_, In, keep, any, has, distinct, below, empty}
+use Rattle.definitions.specs.Lists.{if_then_else_, In, keep, any, has, distinct, below, empty, someOr, lastOf}
 use Rattle.definitions.specs.Limits.{Limits}
 use Rattle.definitions.specs.Text.{firstOf}
 use Rattle.definitions.specs.Job.{Edge, Job, incoming, outgoing}
 use Rattle.definitions.specs.Plan.{Replica, Line, Plan, processorsOf, lineTasks}
 use Rattle.definitions.specs.Stops.{Stop}
-use Rattle.definitions.specs.Times.{Time, tick, never, later, sooner, after, same, least, largest, Placement, Outcome, outcome, ofTask, times, ready, message, feeding, arrival, dataReady, start, stopTime, unlessStopped, finish, walk, placementsOf, placements, earlies, lates, exits, makespan, lowerBound, upperBound, placementOf}
+use Rattle.definitions.specs.Times.{Time, tick, never, later, sooner, after, same, least, largest, Placement, Outcome, outcome, ofTask, onProcessor, times, ready, message, feeding, arrival, dataReady, start, stopTime, unlessStopped, finish, walk, placementsOf, placements, earlies, lates, exits, makespan, lowerBound, upperBound, placementOf}
 use Rattle.definitions.specs.Refusals.{doubledTasks, sameTimes, ticksAgree, boundsAgree, planRefusal}
 use Rattle.definitions.specs.Replay.{replay, firstFinish, replayMakespan}
 use Rattle.definitions.proofs.Lists.{both, both-true, passed, in-some, append-left, append-right, map-in, in-any, in-keep, keep-in, keep-none, has-not, in-below, spare, full}
 use Rattle.definitions.specs.Facts.{Ordered, Apart, PlanFacts}
 use Rattle.definitions.proofs.Tasks.{line-facts}
 use Rattle.definitions.proofs.Ready.{first-ready}
+use Rattle.definitions.proofs.Feeding.{last-cases}
 use Rattle.definitions.proofs.Stopping.{stopped}
 
 -- Between early and late --------------------------------------------------------------------------------------
@@ -133,11 +134,35 @@ module _ (j : Job) (stops : List Stop) where
   safe-free : (t : ℕ) (cs : List Placement) → Safe t cs → any (λ c. free (c .processor)) (keep (λ c. eqb (c .task) t) cs) ≡ true
   safe-free t cs (c, i, e, f) = in-any (λ c. free (c .processor)) c _ (keep-in (λ c. eqb (c .task) t) c cs i (eq-eqb (c .task) t e)) f
 
+  -- The first of two if it has a member, else the second; the last members alone.
+  some-between : {bs cs : List Placement} {es ls fs es′ ls′ fs′ : List Outcome} → Beside bs es ls fs → Beside cs es′ ls′ fs′
+      → Beside (someOr bs cs) (someOr es es′) (someOr ls ls′) (someOr fs fs′)
+  some-between none r = r
+  some-between (next b q) r = next b q
+
+  last-between : {cs : List Placement} {es ls fs : List Outcome} → Beside cs es ls fs → Beside (lastOf cs) (lastOf es) (lastOf ls) (lastOf fs)
+  unfolding lastOf
+  last-between none = none
+  last-between (next b r) = some-between (last-between r) (next b none)
+
   -- The replicas of a safe task that feed p; if p does not stop, one of them is on a processor that does not.
   feeding-between : (t p : ℕ) {cs : List Placement} {es ls fs : List Outcome} → Beside cs es ls fs → Safe t cs
       → (ds : List Placement) × Beside ds (feeding j t p es) (feeding j t p ls) (feeding j t p fs)
       × (free p ≡ true → any (λ c. free (c .processor)) ds ≡ true)
-  feeding-between t p {cs = cs} b s = (keep (λ c. eqb (c .task) t) cs, task-between t b, λ h. safe-free t cs s)
+  unfolding feeding onProcessor
+  feeding-between t p {cs = cs} b s =
+      let all = keep (λ c. eqb (c .task) t) cs in
+      let own = keep (λ c. eqb (c .processor) p) all in
+      let r = task-between t b in (
+        someOr (lastOf own) all,
+        some-between (last-between (keep-between (λ u q. eqb q p) r)) r,
+        λ h. ⊎-elim
+            (λ e. rw e (safe-free t cs s))
+            (λ (l : (c : Placement) × In c own × (lastOf own ≡ c ∷ [])).
+            let on : l .0 .processor ≡ p = eqb-true (l .0 .processor) p (in-keep (λ c. eqb (c .processor) p) (l .0) all (l .1) .1) in
+            rw (l .2) (in-any (λ c. free (c .processor)) (l .0) (l .0 ∷ []) (inl refl) (rw on h)))
+            (last-cases own),
+      )
 
   arrival-between : (p : ℕ) (e : Edge) {cs : List Placement} {es ls fs : List Outcome} → Beside cs es ls fs → Safe (e .from) cs
       → Between (free p) (arrival j least es p e) (arrival j largest ls p e) (arrival j least fs p e)

@@ -2,8 +2,10 @@ pub mod Lists
 pub mod EdgeOrder
 pub mod Tasks
 pub mod Ready
+pub mod Feeding
 pub mod Doubled
 pub mod Stopping
+pub mod Later
 pub mod Circle
 pub mod BottomLevels
 pub mod Reading
@@ -12,6 +14,7 @@ pub mod Decimal
 pub mod RoundTrip
 pub mod Chosen
 pub mod Placing
+pub mod Shelf
 pub mod Bounds
 pub mod Bytes
 pub mod Obeying

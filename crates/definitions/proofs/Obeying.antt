@@ -47,7 +47,7 @@ module _ (j : Job) (choose : List Time → Time) (d : Outcome) (placed : List Ou
   ready-passes p h = rw (ne-eqb (d .processor) p h)
 
   feeding-passes : (t p : ℕ) → (d .task ≡ t → ⊥) → feeding j t p (d ∷ placed) ≡ feeding j t p placed
-  unfolding ofTask keep
+  unfolding feeding ofTask keep
   feeding-passes t p h = rw (ne-eqb (d .task) t h)
 
   data-passes : (t p : ℕ) → ((e : Edge) → In e (incoming j t) → d .task ≡ e .from → ⊥) → dataReady j choose (d ∷ placed) t p ≡ dataReady j choose placed t p

@@ -15,6 +15,7 @@ use Rattle.definitions.specs.Times.{Time, tick, never, Outcome, earlies,
 use Rattle.definitions.specs.Obeys.{Obeys}
 use Rattle.definitions.specs.Planner.{Waiting, waitingFrom, bottomLevels, ranked, trial, planFor}
 use Rattle.definitions.specs.Replay.{replay, firstFinish, replayMakespan, resultLines}
+use Rattle.definitions.specs.Shelf.{ShelfTicks, ShelfPlans}
 use Rattle.definitions.specs.Answers.{accepted, doubled, verdict, planned, replayed}
 
 -- A task's boxes are those of its T line, each taken once.
@@ -240,7 +241,8 @@ Bears job plan stops = KeptAnswer document01 job plan stops
 abbrev pub Breaks : List ℕ → List ℕ → Type 0
 Breaks job plan = DoubledAnswer document01 job plan
 
--- All of this is true with the limits of document 01, the two bounds on ticks are those that it gives, and edges have one order.
+-- All of this is true with the limits of document 01, the two bounds on ticks are those that it gives, edges have one order, and plans on the
+-- shelf keep their boxes, order and early ticks.
 abbrev pub Claim : Type 0
 Claim =
     Kept document01
@@ -258,3 +260,5 @@ Claim =
     × OneOrder document01
     × AcceptedObeys document01
     × PrintedObeys document01
+    × ShelfTicks document01
+    × ShelfPlans document01

@@ -10,6 +10,7 @@ pub mod Obeys
 pub mod Refusals
 pub mod Planner
 pub mod Replay
+pub mod Shelf
 pub mod Answers
 pub mod Tools
 pub mod SmallHouse

@@ -60,6 +60,16 @@ abbrev pub empty : {A : Type 0} → List A → Bool
 empty [] = true
 empty (x ∷ xs) = false
 
+-- The first list if it has a member, else the second.
+abbrev pub someOr : {A : Type 0} → List A → List A → List A
+someOr [] ys = ys
+someOr (x ∷ xs) ys = x ∷ xs
+
+-- The last member alone; none of none.
+unfoldable pub lastOf : {A : Type 0} → List A → List A
+lastOf [] = []
+lastOf (x ∷ xs) = someOr (lastOf xs) (x ∷ [])
+
 -- Two lists have the same numbers in the same order.
 unfoldable pub sameNumbers : List ℕ → List ℕ → Bool
 sameNumbers [] [] = true

@@ -25,7 +25,7 @@ Rising (p ∷ ps) = ((q : ℕ) → In q ps → p < q) × Rising ps
 
 module _ (j : Job) where
   -- The right side of equations (1) and (3): E(t, p) + max(r(p), max over predecessors of (the least, or the largest, over
-  -- their replicas of F + W)). What is placed stands newest first.
+  -- the replicas that feed p of F + W)). What is placed stands newest first.
   abbrev pub equation : (List Time → Time) → List Outcome → ℕ → ℕ → Time
   equation choose placed t p = after (runTime j t p) (later (ready j p placed) (dataReady j choose placed t p))
 

@@ -16,13 +16,13 @@ abbrev pub house : String
 house = "JOB,2,3,1,1\nC,0,4,6,9\nC,1,5,5,3\nD,0,0,1,2\nD,1,1,0,1\nD,2,2,1,0\nE,0,1,2\n"
 
 abbrev pub housePlan : String
-housePlan = "PLAN,2,3,1,9,13\nT,0,0,4,4,1,6,6\nT,1,0,9,13,1,11,11\n"
+housePlan = "PLAN,2,3,1,9,11\nT,0,0,4,4,1,6,6\nT,1,0,9,9,1,11,11\n"
 
 abbrev pub doubledPlan : String
-doubledPlan = "PLAN,2,3,1,9,13\nT,0,0,4,4,0,8,8\nT,1,0,9,13,1,11,11\n"
+doubledPlan = "PLAN,2,3,1,9,11\nT,0,0,4,4,0,8,8\nT,1,0,9,9,1,11,11\n"
 
-abbrev pub loweredPlan : String
-loweredPlan = "PLAN,2,3,1,9,12\nT,0,0,4,4,1,6,6\nT,1,0,9,13,1,11,11\n"
+abbrev pub wrongUpperPlan : String
+wrongUpperPlan = "PLAN,2,3,1,9,12\nT,0,0,4,4,1,6,6\nT,1,0,9,9,1,11,11\n"
 
 -- What is asked of the definitions.
 pub data Given : Type 0 where
@@ -71,7 +71,7 @@ table =
     -- (i) replicas of task 0 on box 0 twice: 12
     ∷ row (checked house doubledPlan) (12 ∷ 0 ∷ [])
     -- (j) M given as 12: 14
-    ∷ row (checked house loweredPlan) (14 ∷ [])
+    ∷ row (checked house wrongUpperPlan) (14 ∷ [])
     -- "the check program answers `OK`" to the plan of (a)
     ∷ row (checked house housePlan) (0 ∷ [])
     ∷ []

@@ -1,9 +1,9 @@
--- "Times": the report's equations (1) to (4), M* and M. The replay is the same walk, with stops.
+-- "Times": the report's equations (1) to (4) with request L2, M* and M. The replay is the same walk, with stops.
 use Prim.Native.Nat.{ℕ, _+_, _*_, max, min}
 use mathlib.Core.List.{List, [], _∷_, _++_, map}
 use mathlib.Core.Bool.{Bool, true, false}
 use lib.Dec.{leb, eqb}
-use Rattle.definitions.specs.Lists.{if_then_else_, keep, below, empty}
+use Rattle.definitions.specs.Lists.{if_then_else_, keep, below, empty, someOr, lastOf}
 use Rattle.definitions.specs.Job.{Edge, Job, runTime, delay, incoming, outgoing}
 use Rattle.definitions.specs.Plan.{Line, processorsOf}
 use Rattle.definitions.specs.Stops.{Stop}
@@ -67,6 +67,10 @@ outcome c x = record { task = c .task; processor = c .processor; time = x }
 unfoldable pub ofTask : ℕ → List Outcome → List Outcome
 ofTask t ds = keep (λ d. eqb (d .task) t) ds
 
+-- The outcomes on processor p.
+unfoldable pub onProcessor : ℕ → List Outcome → List Outcome
+onProcessor p ds = keep (λ d. eqb (d .processor) p) ds
+
 -- The times of some outcomes.
 abbrev pub times : List Outcome → List Time
 times ds = map (λ d. d .time) ds
@@ -96,13 +100,18 @@ module _ (j : Job) where
   abbrev pub message : Edge → ℕ → ℕ → ℕ
   message e q p = e .volume * delay j q p
 
-  -- Which replicas of a predecessor feed a box: all of them, k from 1 to ε + 1 in equations (1) and (3).
-  abbrev pub feeding : ℕ → ℕ → List Outcome → List Outcome
-  feeding t p placed = ofTask t placed
+  -- Which replicas of predecessor t feed box p (request L2): "where the receiving box has an earlier copy of the predecessor, only this
+  -- copy's data counts (in a doubled plan the first one there)", the last here, newest first; else all, k from 1 to ε + 1.
+  unfoldable pub feeding : ℕ → ℕ → List Outcome → List Outcome
+  feeding t p placed = someOr (lastOf (onProcessor p (ofTask t placed))) (ofTask t placed)
 
-  -- When the data of edge e is on p: in equation (1) "the least, over the predecessor's copies, of early finish + W", in (3) the largest.
+  -- When the data of edge e is on p, of one that is chosen among these replicas.
+  abbrev pub arrivalFrom : (List Time → Time) → List Outcome → ℕ → Edge → Time
+  arrivalFrom choose senders p e = choose (map (λ d. after (message e (d .processor) p) (d .time)) senders)
+
+  -- In equation (1) "the least, over the predecessor's copies, of early finish + W", in (3) the largest: over those that feed p.
   unfoldable pub arrival : (List Time → Time) → List Outcome → ℕ → Edge → Time
-  arrival choose placed p e = choose (map (λ d. after (message e (d .processor) p) (d .time)) (feeding (e .from) p placed))
+  arrival choose placed p e = arrivalFrom choose (feeding (e .from) p placed) p e
 
   -- "Over predecessors, the largest of" these, in equations (1) and (3); 0 with no predecessor.
   unfoldable pub dataReady : (List Time → Time) → List Outcome → ℕ → ℕ → Time

@@ -2,13 +2,13 @@
 -- what the tools answer, and its names are passed on; the lists here name all that unfolds when a table computes an answer.
 use Prim.Native.Nat.{ℕ}
 use mathlib.Core.List.{List}
-use Rattle.definitions.specs.Lists.{countFrom, keep, any, all, sameNumbers, distinct, sum, greatest}
+use Rattle.definitions.specs.Lists.{countFrom, keep, any, all, lastOf, sameNumbers, distinct, sum, greatest}
 use Rattle.definitions.specs.Limits.{document01}
 use Rattle.definitions.specs.Text.{firstOf, digits, exactly, number, numbers, line, widthFrom, width, lowDigits, decimal, numbersText, lineText, lines, linesToEnd, good, andThen}
 use Rattle.definitions.specs.Job.{runTime, delay, incoming, outgoing, edgeOrder, preceded, remaining, circular, jobHead, jobHeadRule, runRule, delayRule, edgeLine, edgeRule, jobLines, readJob}
 use Rattle.definitions.specs.Plan.{triples, descends, planHead, planHeadRule, strays, planLine, planLineRule, planLines, readPlan, replicaNumbers, planLinesText, planText}
 use Rattle.definitions.specs.Stops.{stopLine, stopRule, readStops}
-use Rattle.definitions.specs.Times.{least, largest, ofTask, firstReady, ready, arrival, dataReady, start, stopTime, finish, walk, placements, earlies, lates, exits, makespan, lowerBound, upperBound}
+use Rattle.definitions.specs.Times.{least, largest, ofTask, onProcessor, firstReady, ready, feeding, arrival, dataReady, start, stopTime, finish, walk, placements, earlies, lates, exits, makespan, lowerBound, upperBound}
 use Rattle.definitions.specs.Refusals.{doubledTasks, replicasOf, sameTimes, ticksAgree, boundsAgree, planRefusal}
 use Rattle.definitions.specs.Planner.{greatestOf, waitingFrom, scaledRun, totalDelay, raised, settled, bottomLevels, largestDelay, topLevel, freeTasks, ranked, criticalTask, trial, chosen, replicas, place, planFor}
 use Rattle.definitions.specs.Replay.{replay, firstFinish, lowest, firstProcessor, replayMakespan, resultLines, replayText}
@@ -19,7 +19,7 @@ unfoldable pub use Rattle.definitions.specs.Answers.{fitting, Says, plan
 unfoldable pub planPrinted : List ℕ → List ℕ
 unfolding countFrom keep any all sameNumbers distinct sum greatest firstOf digits exactly number numbers line widthFrom width lowDigits
     decimal numbersText lineText lines linesToEnd runTime delay incoming outgoing edgeOrder preceded remaining circular jobHead jobHeadRule
-    runRule delayRule edgeLine edgeRule jobLines readJob replicaNumbers planLinesText planText least largest ofTask firstReady ready arrival dataReady
+    runRule delayRule edgeLine edgeRule jobLines readJob replicaNumbers planLinesText planText least largest lastOf ofTask onProcessor firstReady ready feeding arrival dataReady
     start stopTime finish walk exits makespan placements earlies lates lowerBound upperBound greatestOf waitingFrom scaledRun totalDelay raised settled
     bottomLevels largestDelay topLevel freeTasks ranked criticalTask trial chosen replicas place planFor planned
 planPrinted job = printed document01 (andThen (readJob document01 job) (λ j. good (planned document01 j)))
@@ -29,7 +29,7 @@ unfoldable pub replayPrinted : List ℕ → List ℕ → List ℕ → List ℕ
 unfolding countFrom keep any all sameNumbers distinct sum greatest firstOf digits exactly number numbers line widthFrom width lowDigits
     decimal numbersText lineText lines linesToEnd runTime delay incoming outgoing edgeOrder preceded remaining circular jobHead jobHeadRule
     runRule delayRule edgeLine edgeRule jobLines readJob triples descends planHead planHeadRule strays planLine planLineRule planLines
-    readPlan stopLine stopRule readStops least largest ofTask firstReady ready arrival dataReady start stopTime finish walk exits makespan placements replay
+    readPlan stopLine stopRule readStops least largest lastOf ofTask onProcessor firstReady ready feeding arrival dataReady start stopTime finish walk exits makespan placements replay
     firstFinish lowest firstProcessor replayMakespan resultLines replayText replayed
 replayPrinted job plan stops = printed document01 (replayed document01 job plan stops)
 
@@ -38,6 +38,6 @@ unfoldable pub checkNumber : List ℕ → List ℕ → ℕ × List ℕ
 unfolding countFrom keep any all sameNumbers distinct sum greatest firstOf digits exactly number numbers line widthFrom width lowDigits
     decimal numbersText lineText lines linesToEnd runTime delay incoming outgoing edgeOrder preceded remaining circular jobHead jobHeadRule
     runRule delayRule edgeLine edgeRule jobLines readJob triples descends planHead planHeadRule strays planLine planLineRule planLines
-    readPlan least largest ofTask firstReady ready arrival dataReady start stopTime finish walk exits makespan placements earlies lates lowerBound upperBound
+    readPlan least largest lastOf ofTask onProcessor firstReady ready feeding arrival dataReady start stopTime finish walk exits makespan placements earlies lates lowerBound upperBound
     doubledTasks replicasOf sameTimes ticksAgree boundsAgree planRefusal verdict
 checkNumber job plan = numbered (verdict document01 job plan)

@@ -5,6 +5,7 @@ use Rattle.definitions.specs.Facts.{Apart}
 use Rattle.definitions.specs.Refusals.{replicasOf, sameTimes}
 use Rattle.definitions.specs.Obeys.{writtenOutcome, written}
 use Rattle.definitions.proofs.Lists.{both, both-true, refuted, in-append, map-same}
+use Rattle.definitions.proofs.Shelf.{ready-finish, settled-row}
 use Rattle.definitions.proofs.Bounds.{Bounded, least-within, largest-within, finish-most}
 use Rattle.definitions.proofs.Obeying.{Each, placedBy, placed-more, TicksObey, agreed, obeyed, agrees}
 use Rattle.heads.specs.Layout.{rowAt, processorAt, earlyAt, lateAt, timeAt, lanesMost, replicaEnd}
@@ -14,7 +15,7 @@ use Rattle.ticks.specs.Cells.{timeIn}
 use Rattle.plans.specs.Lines.{replicaIn, rowOutcomes, placedIn, linesIn, LinesHeld}
 use Rattle.rounds.specs.Schedule.{choiceOf, ShortTo}
 use Rattle.rounds.specs.Arrivals.{DelayTable, BothSupplied, ShortClocks, BothFinish}
-use Rattle.rounds.specs.Clocks.{finishOn}
+use Rattle.rounds.specs.Clocks.{SettledTo, finishOn}
 use Rattle.plans.specs.Loading.{lineIn, planIn, PlanHeld}
 use Rattle.plans.proofs.Lines.{lines-below, replica-of, in-replicas}
 use Rattle.rounds.specs.Checking.{ClocksAfter, finishIn, AgreesTo, LineAgrees}
@@ -23,7 +24,7 @@ use Rattle.lists.proofs.Counting.{equal-or-not, last-or-before}
 use Rattle.lists.proofs.Upward.{map-more}
 use Rattle.jobs.proofs.Held.{tasks-in, processors-in, sizes}
 use Rattle.rounds.proofs.TimeLaws.{time-tick}
-use Rattle.rounds.proofs.Placed.{PredecessorsPlacedBy}
+use Rattle.rounds.proofs.Placed.{PredecessorsPlacedBy, in-row}
 use Rattle.rounds.proofs.ClockLaws.{outset-clocks}
 use Rattle.rounds.proofs.PlanLines.{line-among, line-predecessors}
 use Rattle.rounds.proofs.CheckLaws.{none-doubled}
@@ -126,9 +127,10 @@ pub record Compared (lim : Limits) (capacity k a : ℕ) (mem es ls : List ℕ) (
   pub found : (late : Bool) (i : ℕ) → i < nth mem 3 + 1 → tick (nth (if late then ls else es) (nth mem (processorAt (rowAt capacity k) i))) ≡ finishIn capacity late k i mem
   pub agree : AgreesTo capacity k c mem
 
-pub compared-none : {lim : Limits} {capacity k a : ℕ} {mem es ls : List ℕ} {clocks : Clocks} → PlanHeld lim capacity mem → k < nth mem 0 → ClocksAfter capacity k mem clocks → a ≡ rowAt capacity k
+pub compared-none : {lim : Limits} {capacity k a : ℕ} {mem es ls : List ℕ} {clocks : Clocks} → PlanHeld lim capacity mem → k < nth mem 0 → ClocksAfter capacity k mem clocks
+    → SettledTo capacity k mem → a ≡ rowAt capacity k
     → BothFinish capacity (nth mem a) clocks mem es ls → Compared lim capacity k a mem es ls 0
-compared-none {capacity} {k} {a} {mem} {es} {ls} {clocks} h l s e b₀ =
+compared-none {capacity} {k} {a} {mem} {es} {ls} {clocks} h l s z e b₀ =
     record { plan = h; line = l; row = e; found = found; agree = λ late i g. absurd (omega arith) }
   where
     b : BothFinish capacity (nth mem (rowAt capacity k)) clocks mem es ls
@@ -137,10 +139,10 @@ compared-none {capacity} {k} {a} {mem} {es} {ls} {clocks} h l s e b₀ =
     found : (late : Bool) (i : ℕ) → i < nth mem 3 + 1 → tick (nth (if late then ls else es) (nth mem (processorAt (rowAt capacity k) i))) ≡ finishIn capacity late k i mem
     found true i g =
         let m = h .standing .row k l .processor-of i g in
-        b .late-finish _ m ∙ finish-at (h .standing) (omega arith) true (nth mem (rowAt capacity k)) _ _ (predecessors-here h k l) (s .late-ready _ (rw (processors-in mem) m))
+        b .late-finish _ m ∙ finish-at (h .standing) (omega arith) z true (nth mem (rowAt capacity k)) _ _ (predecessors-here h k l) m (s .late-ready _ (rw (processors-in mem) m))
     found false i g =
         let m = h .standing .row k l .processor-of i g in
-        b .early-finish _ m ∙ finish-at (h .standing) (omega arith) false (nth mem (rowAt capacity k)) _ _ (predecessors-here h k l) (s .early-ready _ (rw (processors-in mem) m))
+        b .early-finish _ m ∙ finish-at (h .standing) (omega arith) z false (nth mem (rowAt capacity k)) _ _ (predecessors-here h k l) m (s .early-ready _ (rw (processors-in mem) m))
 
 module _ {lim : Limits} {capacity k a c : ℕ} {mem es ls : List ℕ} (x : Compared lim capacity k a mem es ls c) where
   pub compared-all : nth mem 3 + 1 ≤ c → LineAgrees capacity k mem
@@ -181,6 +183,19 @@ module _ {lim : Limits} {capacity k a c : ℕ} {mem es ls : List ℕ} (x : Compa
           by : (late : Bool) → finishIn capacity late k c mem ≡ timeIn (cellOf late (rowAt capacity k) c mem)
           by true = tick-same true z o r
           by false = tick-same false y f q
+
+-- Lines whose ticks are the equations' leave no processor ready before its replicas have finished.
+pub settled-agreed : (capacity : ℕ) (mem : List ℕ) (k : ℕ) → ((i : ℕ) → i < k → LineAgrees capacity i mem) → SettledTo capacity k mem
+unfolding placedIn finishOn
+settled-agreed capacity mem zero a = λ late d i. absurd i
+settled-agreed capacity mem (suc k) a = λ late.
+    let t = nth mem (rowAt capacity k) in
+    let placed = placedIn capacity late (nth mem 3 + 1) k mem in
+    settled-row (jobIn mem) (finishOn capacity late k mem t) placed (rowOutcomes late (rowAt capacity k) (nth mem 3 + 1) mem)
+    (λ d i.
+    let (c, g, e) = in-row late mem (rowAt capacity k) (nth mem 3 + 1) d i in
+    rw e (sym (a k (omega arith) late c g), ready-finish (jobIn mem) (choiceOf late) [] placed (placementOf (jobIn mem) t (nth mem (processorAt (rowAt capacity k) c)))))
+    (settled-agreed capacity mem k (λ i l. a i (omega arith)) late)
 
 -- One line more.
 pub agreed-next : (capacity : ℕ) (mem : List ℕ) (k : ℕ) → LineAgrees capacity k mem → ((i : ℕ) → i < k → LineAgrees capacity i mem) → (i : ℕ) → i < k + 1 → LineAgrees capacity i mem

@@ -8,7 +8,8 @@ use Rattle.ticks.specs.Cells.{neverCell, timeIn}
 use Rattle.plans.specs.Lines.{placedIn}
 use Rattle.rounds.specs.Schedule.{choiceOf}
 use Rattle.plans.specs.Loading.{planIn, PlanHeld}
-use Rattle.rounds.proofs.TimeLaws.{later-comm, later-zero, largest-reverse}
+use Rattle.definitions.proofs.Later.{later-comm, later-zero}
+use Rattle.rounds.proofs.TimeLaws.{largest-reverse}
 use Rattle.rounds.proofs.FirstLaws.{least-same}
 use Rattle.rounds.proofs.ReplayLaws.{alike-reverse, alike-map}
 use Rattle.rounds.proofs.AgreeLaws.{agreed-walk, ticks-all}

@@ -1,7 +1,9 @@
 -- The memory while a plan is drawn up: its ticks, a line more, and what a change elsewhere leaves as it was.
 use Rattle.lists.proofs.Prelude.{_≡_, refl, ap, _∙_, sym, ⊎-elim, List, [], _∷_, _++_, map, map-map, map-append, append-nil, Bool, true, false, not, _&&_, ℕ, zero, suc, _+_, _*_, _-_, _<_, _≤_, arith, mul-le-mul, add-zero, add-one, eqb-false, eq-eqb, ne-eqb, lt-ltb, not-true, eqb, ltb, length, set, length-append, length-map, length-set, getD-set-same, getD-set-other, In, nth, keep, all, has, below, Limits, Edge, runTime, delay, incoming, after, arrival, dataReady, start, stopTime, finish, placementOf, tickOf, Waiting, freeTasks, ranked, trial, replicas, place, planFor}
 use Rattle.definitions.proofs.Lists.{in-map, in-keep, map-same, map-keep, in-below, all-in}
+use Rattle.definitions.specs.Times.{feeding}
 use Rattle.definitions.proofs.Tasks.{in-incoming}
+use Rattle.definitions.proofs.Feeding.{in-feeding, feeding-some}
 use Rattle.definitions.proofs.Placing.{placed-count}
 use Rattle.heads.specs.Layout.{levelAt, lineAt, blockedAt, priorityAt, replicasMost, rowAt, largestDelayAt, processorAt, earlyAt, lateAt, replicaEnd}
 use Rattle.jobs.specs.Held.{jobIn}
@@ -40,12 +42,15 @@ module _ {lim : Limits} {capacity k : ℕ} {mem : List ℕ} (s : Drawn lim capac
         let n = nth mem (lineAt capacity + e .from) - 1 in
         let g : n < k = omega arith in
         let (o, _) = in-incoming (jobIn mem) t e i in
-        rw (feeding-line (s .standing) k t (omega arith) b late e i)
-        (comes-choice late (λ d. after (e .volume * delay (jobIn mem) (d .processor) p) (d .time)) (rowOutcomes late a wide mem) (omega (arith, row-length late a wide mem)) (λ d i.
+        let all = feeding-line (s .standing) k t (omega arith) b late e i in
+        let senders = feeding (jobIn mem) (e .from) p (placedIn capacity late wide k mem) in
+        let some : 0 < length senders = feeding-some (jobIn mem) (e .from) p (placedIn capacity late wide k mem) (omega (arith, ap length all, row-length late a wide mem)) in
+        comes-choice late (λ d. after (e .volume * delay (jobIn mem) (d .processor) p) (d .time)) senders some (λ d x.
+        let i : In d (rowOutcomes late a wide mem) = rw all at (in-feeding (jobIn mem) (e .from) p (placedIn capacity late wide k mem) d x) in
         comes-after (messageMost lim) (e .volume * delay (jobIn mem) (d .processor) p)
         (mul-le-mul {n₁ = e .volume} {m₁ = delay (jobIn mem) (d .processor) p} {n₂ = lim .volume} {m₂ = lim .delay} (s .standing .job .facts .volume-most e o)
         (s .standing .job .facts .delay-most (d .processor) p (rw (processors-in mem) (row-on late a wide (nth mem 1) mem (s .standing .row n g .processor-of) d i)) (rw (processors-in mem) hp)))
-        (row-come late a wide (k * lineTicks lim) mem (omega (arith, short-most (s .standing) (omega arith) (s .ticks))) (λ c h. cells-most (s .standing) (omega arith) (s .ticks) late n c g h) d i)))
+        (row-come late a wide (k * lineTicks lim) mem (omega (arith, short-most (s .standing) (omega arith) (s .ticks))) (λ c h. cells-most (s .standing) (omega arith) (s .ticks) late n c g h) d i))
 
     -- The finish of t on p.
     pub finish-comes : (late : Bool) → Comes (k * lineTicks lim + lineTicks lim) (finish (jobIn mem) (choiceOf late) [] (placedIn capacity late wide k mem) (placementOf (jobIn mem) t p))
@@ -93,6 +98,7 @@ drawn-choice {capacity} {k} {d} {e} c s =
       ticks = λ i x g m.
           let n : x < nth d 3 + 1 = rw l at m in
           rw (c .behind (earlyAt (rowAt capacity i) x) (omega arith), c .behind (lateAt (rowAt capacity i) x) (omega arith)) (s .ticks i x g n);
+      settled = λ late. rw (placed-kept h c (omega arith) k r late, job-kept h c (omega arith)) (s .settled late);
       rest =
           rw (
             placed-kept h c (omega arith) k r false,

@@ -10,7 +10,7 @@ use Rattle.ticks.specs.Cells.{timeIn}
 use Rattle.plans.specs.Lines.{rowEnd, rowOutcomes, placedIn, rowOf, RowHeld, LinesHeld}
 use Rattle.rounds.specs.Schedule.{choiceOf}
 use Rattle.rounds.proofs.Placed.{placed-rowOf, line-in}
-use Rattle.rounds.proofs.TimeLaws.{later-comm, later-assoc, later-zero}
+use Rattle.definitions.proofs.Later.{later-comm, later-assoc, later-zero}
 
 -- Exit tasks --------------------------------------------------------------------------------------------------------
 

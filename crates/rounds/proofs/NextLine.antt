@@ -4,6 +4,7 @@ use mathlib.Core.List.{reverseAux-eq}
 use lib.Seq.{append-snoc}
 use Rattle.definitions.proofs.Lists.{in-map, map-same, map-keep}
 use Rattle.definitions.proofs.Chosen.{chosen-count, chosen-below, chosen-distinct}
+use Rattle.definitions.proofs.Shelf.{settled-walk}
 use Rattle.heads.specs.Layout.{memorySize, levelAt, lineAt, blockedAt, priorityAt, replicasMost, rowAt, largestDelayAt, processorAt, earlyAt, lateAt}
 use Rattle.jobs.specs.Held.{jobIn}
 use Rattle.jobs.specs.Tables.{lineTicks}
@@ -92,8 +93,8 @@ module _ {lim : Limits} {capacity k t : ℕ} {d : List ℕ} (g : Critical lim ca
         more = g .more;
         early-size = f .early-size;
         late-size = f .late-size;
-        early-finishes = λ p l. f .early-finish p l ∙ finish-at (s .standing) (omega arith) false t p (nth (clocks .early) p) all (c .early-ready p (rw (processors-in d) l));
-        late-finishes = λ p l. f .late-finish p l ∙ finish-at (s .standing) (omega arith) true t p (nth (clocks .late) p) all (c .late-ready p (rw (processors-in d) l));
+        early-finishes = λ p l. f .early-finish p l ∙ finish-at (s .standing) (omega arith) (s .settled) false t p (nth (clocks .early) p) all l (c .early-ready p (rw (processors-in d) l));
+        late-finishes = λ p l. f .late-finish p l ∙ finish-at (s .standing) (omega arith) (s .settled) true t p (nth (clocks .late) p) all l (c .late-ready p (rw (processors-in d) l));
       }
 
   module _ {e : List ℕ} (x : Laid capacity k t d e) where
@@ -236,6 +237,7 @@ module _ {lim : Limits} {capacity k t : ℕ} {d : List ℕ} (g : Critical lim ca
               let (y, z) = s .ticks i c q n in
               rw (old-rows .cell (earlyAt (rowAt capacity i) c) (omega arith) (omega arith), old-rows .cell (lateAt (rowAt capacity i) c) (omega arith) (omega arith)) (omega arith))
               (last-or-before k i l);
+          settled = λ late. rw (placed-next late, job-laid) (settled-walk (jobIn d) (choiceOf late) [] (placed late) (placementsOf (jobIn d) t processors) (s .settled late));
           rest = rest-next;
         })
 

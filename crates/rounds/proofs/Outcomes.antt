@@ -1,6 +1,7 @@
 -- The replicas of a line in memory: their outcomes, the ticks by which they come, and the finishes after them.
 use Rattle.lists.proofs.Prelude.{_≡_, refl, ap, _∙_, inl, inr, List, [], _∷_, _++_, map, map-append, reverse, Bool, true, false, ℕ, zero, suc, _+_, _*_, _-_, _<_, _≤_, max, min, arith, ne-eqb, eqb, length, if_then_else_, In, nth, keep, distinct, Edge, Job, runTime, incoming, Replica, Line, processorsOf, tick, later, after, Outcome, ready, arrival, dataReady, start, stopTime, finish, Time, sooner, least, largest, outcome, ofTask, walk, placementsOf, placements, placementOf, tickOf, Limits}
 use mathlib.Core.List.{reverseAux-append}
+use Rattle.definitions.specs.Times.{feeding}
 use Rattle.definitions.proofs.Ready.{first-ready}
 use Rattle.definitions.proofs.Lists.{map-same, apart-head}
 use Rattle.heads.specs.Layout.{lineAt, rowAt, processorAt, earlyAt, lateAt, timeAt}
@@ -11,7 +12,7 @@ use Rattle.plans.specs.Lines.{replicaIn, rowOutcomes, placedIn, rowReplicas, Li
 use Rattle.rounds.specs.Schedule.{choiceOf, dataIn, ShortTo}
 use Rattle.rounds.specs.Arrivals.{BothSupplied, ShortClocks}
 use Rattle.ticks.specs.declared.clocks.Clocks.{Clocks}
-use Rattle.rounds.specs.Clocks.{earliesIn, latesIn, finishOn, ClocksHeld}
+use Rattle.rounds.specs.Clocks.{earliesIn, latesIn, SettledTo, finishOn, ClocksHeld}
 use Rattle.lists.proofs.ListLaws.{joined-last}
 use Rattle.jobs.proofs.Held.{processors-in, sizes}
 pub use Rattle.plans.proofs.Lines.{in-replicas}
@@ -36,7 +37,7 @@ module _ (j : Job) (choose : List Time → Time) where
   -- A replica that does not feed t, on another processor, changes nothing for t on p.
   finish-other : (placed : List Outcome) (d : Outcome) (t p : ℕ) → ((e : Edge) → In e (incoming j t) → d .task ≡ e .from → ⊥) → (d .processor ≡ p → ⊥)
       → finish j choose [] (d ∷ placed) (placementOf j t p) ≡ finish j choose [] placed (placementOf j t p)
-  unfolding finish start dataReady arrival ready
+  unfolding finish start dataReady arrival feeding ready
   finish-other placed d t p h n =
       let a : map (arrival j choose (d ∷ placed) p) (incoming j t) ≡ map (arrival j choose placed p) (incoming j t) =
       map-same (arrival j choose (d ∷ placed) p) (arrival j choose placed p) (incoming j t) (λ e i. rw (other-task (e .from) d placed (h e i))) in
@@ -138,11 +139,12 @@ pub row-on : (late : Bool) (a c m : ℕ) (mem : List ℕ) → ((i : ℕ) → i <
 row-on late a c m mem h d i = let (k, l, e) = in-row late mem a c d i in rw e (h k l)
 
 -- From the tick at which p is ready: the finish of t on p is that of the definition.
-pub finish-at : {lim : Limits} {capacity n k : ℕ} {mem : List ℕ} → LinesHeld lim capacity n mem → k ≤ n → (late : Bool) (t p x : ℕ) → PredecessorsPlacedBy capacity k t mem
+pub finish-at : {lim : Limits} {capacity n k : ℕ} {mem : List ℕ} → LinesHeld lim capacity n mem → k ≤ n → SettledTo capacity k mem
+    → (late : Bool) (t p x : ℕ) → PredecessorsPlacedBy capacity k t mem → p < nth mem 1
     → tick x ≡ ready (jobIn mem) p (placedIn capacity late (nth mem 3 + 1) k mem)
     → after (runTime (jobIn mem) t p) (later (tick x) (dataIn capacity late t p mem)) ≡ finishOn capacity late k mem t p
 unfolding finishOn finish stopTime
-finish-at {k = k} s l late t p x f e = rw (e, start-placed s k t l f late p)
+finish-at {k = k} s l z late t p x f o e = rw (e, start-placed s k t l f z late p o)
 
 -- The first k lines have ticks that do not pass k times those of a line.
 module _ {lim : Limits} {capacity n k : ℕ} {mem : List ℕ} (s : LinesHeld lim capacity n mem) (l : k ≤ n) (h : ShortTo lim capacity k mem) where

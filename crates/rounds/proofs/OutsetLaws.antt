@@ -87,6 +87,7 @@ module _ {lim : Limits} {capacity : ℕ} {mem : List ℕ} (h : JobHeld lim capac
         far = c;
         levels = f;
         ticks = λ i x l. absurd (omega arith);
+        settled = λ late d i. absurd i;
         rest = rw (n, all-wait f);
       }
 

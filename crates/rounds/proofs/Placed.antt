@@ -1,15 +1,18 @@
 -- What the lines in memory are to the definitions: the placed replicas, the data they send and the levels they give.
-use Rattle.lists.proofs.Prelude.{_≡_, refl, ap, _∙_, sym, inl, inr, ⊎-elim, List, [], _∷_, _++_, map, append-nil, Bool, true, false, ℕ, zero, suc, _+_, _*_, _-_, _<_, _≤_, arith, eq-eqb, ne-eqb, lt-ltb, le-ltb, eqb, ltb, if_then_else_, nth, keep, has, In, below, greatest, Edge, Job, incoming, Time, later, after, least, largest, Outcome, ofTask, ready, arrival, dataReady, start, tickOf, largestDelay, scale, topLevel, Limits}
-use Rattle.definitions.specs.Times.{feeding}
+use Rattle.lists.proofs.Prelude.{_≡_, refl, ap, _∙_, sym, inl, inr, ⊎-elim, List, [], _∷_, _++_, map, append-nil, Bool, true, false, ℕ, zero, suc, _+_, _*_, _-_, _<_, _≤_, arith, eq-eqb, ne-eqb, lt-ltb, le-ltb, eqb, ltb, if_then_else_, nth, keep, has, In, below, greatest, Edge, incoming, Time, later, after, least, largest, Outcome, ofTask, ready, start, tickOf, largestDelay, scale, topLevel, Limits}
+use Rattle.definitions.specs.Times.{arrivalFrom}
+use Rattle.definitions.specs.Shelf.{dataFromAll}
+use Rattle.definitions.proofs.Shelf.{start-all, start-elsewhere}
 use Rattle.definitions.proofs.Lists.{map-same, map-in, in-map, in-append, append-left, append-right, in-has, has-not, keep-every, keep-none, in-below, below-in, greatest-most}
 use Rattle.definitions.proofs.Tasks.{in-incoming}
 use Rattle.heads.specs.Layout.{lineAt, rowAt, processorAt, timeAt}
 use Rattle.jobs.specs.Held.{jobIn}
 use Rattle.ticks.specs.Cells.{timeIn}
-use Rattle.rounds.specs.Schedule.{choiceOf, arrivalIn, lineCount, dataIn, PredecessorsPlaced, topIn, LargestDelaysFilled}
+use Rattle.rounds.specs.Clocks.{SettledTo}
+use Rattle.rounds.specs.Schedule.{choiceOf, sendersOf, arrivalIn, lineCount, dataBy, dataIn, PredecessorsPlaced, topIn, LargestDelaysFilled}
 use Rattle.plans.specs.Lines.{rowOutcomes, placedIn, rowOf, LinesHeld}
 use Rattle.lists.proofs.Counting.{last-or-before, zero-or-more}
-use Rattle.jobs.proofs.Held.{tasks-in}
+use Rattle.jobs.proofs.Held.{tasks-in, processors-in}
 
 -- The replicas of lines ---------------------------------------------------------------------------------------------
 
@@ -57,13 +60,9 @@ ofTask-append u (x ∷ xs) ys = by (eqb (x .task) u) (ofTask-append u xs ys)
 
 module _ (late : Bool) (mem : List ℕ) (u : ℕ) where
   -- A line is of one task.
-  row-all : (a c : ℕ) → nth mem a ≡ u → ofTask u (rowOutcomes late a c mem) ≡ rowOutcomes late a c mem
+  pub row-all : (a c : ℕ) → nth mem a ≡ u → ofTask u (rowOutcomes late a c mem) ≡ rowOutcomes late a c mem
   unfolding ofTask
   row-all a c e = keep-every (λ d. eqb (d .task) u) (rowOutcomes late a c mem) (λ d i. let (_, _, q) = in-row late mem a c d i in rw q (eq-eqb (nth mem a) u e))
-
-  -- All replicas of its line feed a successor.
-  pub feeding-row : (j : Job) (p a c : ℕ) → nth mem a ≡ u → feeding j u p (rowOutcomes late a c mem) ≡ rowOutcomes late a c mem
-  feeding-row j p = row-all
 
   pub row-none : (a c : ℕ) → (nth mem a ≡ u → ⊥) → ofTask u (rowOutcomes late a c mem) ≡ []
   unfolding ofTask
@@ -162,18 +161,24 @@ module _ {lim : Limits} {capacity n : ℕ} {mem : List ℕ} (s : LinesHeld lim c
   -- Data and levels -----------------------------------------------------------------------------------------------
 
   module _ (k t : ℕ) (a : k ≤ n) (f : PredecessorsPlacedBy capacity k t mem) where
-    -- The outcomes of a predecessor are those of its line, and all of them feed t.
+    -- The outcomes of a predecessor are those of its line.
     pub feeding-line : (late : Bool) (e : Edge) → In e (incoming (jobIn mem) t)
         → ofTask (e .from) (placedIn capacity late (nth mem 3 + 1) k mem) ≡ rowOutcomes late (rowOf capacity (e .from) mem) (nth mem 3 + 1) mem
     feeding-line late e i = let (l, g) = f e i in placed-rowOf late (nth mem 3 + 1) k a (e .from) (sender-below t e i) l g
 
     data-lines : (late : Bool) (p : ℕ)
-        → largest (map (arrivalOf capacity late p mem) (incoming (jobIn mem) t)) ≡ dataReady (jobIn mem) (choiceOf late) (placedIn capacity late (nth mem 3 + 1) k mem) t p
-    unfolding dataReady arrivalIn arrival
+        → largest (map (arrivalOf capacity late p mem) (incoming (jobIn mem) t)) ≡ dataBy late (jobIn mem) (placedIn capacity late (nth mem 3 + 1) k mem) t p
+    unfolding arrivalIn
     data-lines late p =
         ap largest
-        (map-same (arrivalOf capacity late p mem) (arrival (jobIn mem) (choiceOf late) (placedIn capacity late (nth mem 3 + 1) k mem) p) (incoming (jobIn mem) t)
-        (λ e i. rw (feeding-line late e i, feeding-row late mem _ (jobIn mem) p (rowOf capacity (e .from) mem) (nth mem 3 + 1) refl)))
+        (map-same (arrivalOf capacity late p mem) (λ e. arrivalFrom (jobIn mem) (choiceOf late) (sendersOf late (e .from) p (placedIn capacity late (nth mem 3 + 1) k mem)) p e)
+        (incoming (jobIn mem) t) (λ e i. ap (λ (ds : List Outcome). arrivalFrom (jobIn mem) (choiceOf late) ds p e) (by late e i)))
+      where
+        by : (late : Bool) (e : Edge) → In e (incoming (jobIn mem) t)
+            → let a = rowOf capacity (e .from) mem in
+            sendersOf late (nth mem a) p (rowOutcomes late a (nth mem 3 + 1) mem) ≡ sendersOf late (e .from) p (placedIn capacity late (nth mem 3 + 1) k mem)
+        by true e i = rw (feeding-line true e i, row-all true mem _ (rowOf capacity (e .from) mem) (nth mem 3 + 1) refl)
+        by false e i = rw (feeding-line false e i, row-all false mem _ (rowOf capacity (e .from) mem) (nth mem 3 + 1) refl)
 
     pub level-placed : LargestDelaysFilled capacity mem → topLevel (jobIn mem) (placedIn capacity false (nth mem 3 + 1) k mem) t ≡ tickOf (topIn capacity t mem) * scale (jobIn mem)
     unfolding topLevel topIn
@@ -196,11 +201,16 @@ module _ {lim : Limits} {capacity n : ℕ} {mem : List ℕ} (s : LinesHeld lim c
       data-lines (lineCount capacity mem) t (greatest-most lineOf (below (nth mem 0)) (λ u i. line-most u (in-below (nth mem 0) u i)))
       (λ e i. (f e i, greatest-least lineOf (e .from) (below (nth mem 0)) (below-in (nth mem 0) (e .from) (sender-below t e i))))
 
-  module _ (k t : ℕ) (a : k ≤ n) (f : PredecessorsPlacedBy capacity k t mem) (late : Bool) (p : ℕ) where
-    pub data-placed : dataIn capacity late t p mem ≡ dataReady (jobIn mem) (choiceOf late) (placedIn capacity late (nth mem 3 + 1) k mem) t p
-    data-placed = sym (data-walked t (λ e i. f e i .0) late p) ∙ data-lines k t a f late p
+  module _ (k t : ℕ) (a : k ≤ n) (f : PredecessorsPlacedBy capacity k t mem) where
+    pub data-placed : (late : Bool) (p : ℕ) → dataIn capacity late t p mem ≡ dataBy late (jobIn mem) (placedIn capacity late (nth mem 3 + 1) k mem) t p
+    data-placed late p = sym (data-walked t (λ e i. f e i .0) late p) ∙ data-lines k t a f late p
 
-    pub start-placed : start (jobIn mem) (choiceOf late) (placedIn capacity late (nth mem 3 + 1) k mem) t p ≡ later
-        (ready (jobIn mem) p (placedIn capacity late (nth mem 3 + 1) k mem)) (dataIn capacity late t p mem)
-    unfolding start
-    start-placed = rw data-placed
+    -- The start of t on p is that of the definition.
+    pub start-placed : SettledTo capacity k mem → (late : Bool) (p : ℕ) → p < nth mem 1
+        → start (jobIn mem) (choiceOf late) (placedIn capacity late (nth mem 3 + 1) k mem) t p
+        ≡ later (ready (jobIn mem) p (placedIn capacity late (nth mem 3 + 1) k mem)) (dataIn capacity late t p mem)
+    unfolding dataFromAll
+    start-placed z true p o =
+        start-elsewhere lim (jobIn mem) (s .job .facts) (placedIn capacity true (nth mem 3 + 1) k mem) (z true) p (rw (processors-in mem) o) t ∙ rw (data-placed true p)
+    start-placed z false p o =
+        start-all lim (jobIn mem) (s .job .facts) (placedIn capacity false (nth mem 3 + 1) k mem) (z false) p (rw (processors-in mem) o) t ∙ rw (data-placed false p)

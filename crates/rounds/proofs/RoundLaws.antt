@@ -47,6 +47,7 @@ round-first stops {mem} s =
         ready-of = λ p h. rw (getD-replicate {A = ℕ} lanesMost p 0 0 (omega arith), first-ready (jobIn mem) p);
         ready-small = λ p h. rw (getD-replicate {A = ℕ} lanesMost p 0 0 (omega arith)) (inr (omega arith));
         within = λ d i. absurd i;
+        settled = λ d i. absurd i;
       };
       retimed = retimed-none;
       outcomes = λ ss h. refl;

@@ -1,10 +1,13 @@
 -- The replay of a plan in memory, replica by replica and line by line.
-use Rattle.lists.proofs.Prelude.{_≡_, refl, ap, _∙_, sym, inl, inr, ⊎-elim, List, [], _∷_, _++_, map, map-append, false, ℕ, zero, suc, _+_, _*_, _<_, _≤_, mul-le-mul, arith, add-one, eq-eqb, ne-eqb, lt-leb, le-leb, eqb, set, length-set, getD-set-same, getD-set-other, if_then_else_, nth, below, In, Limits, Job, runTime, incoming, Stop, tick, later, after, least, largest, Placement, Outcome, outcome, ofTask, ready, arrival, dataReady, start, stopTime, finish, walk, placementsOf, placementOf, tickOf, trial, PlacedWithin}
-use Rattle.definitions.specs.Times.{unlessStopped}
+use Rattle.lists.proofs.Prelude.{_≡_, refl, ap, _∙_, sym, inl, inr, ⊎-elim, List, [], _∷_, _++_, map, map-append, false, ℕ, zero, suc, _+_, _*_, _<_, _≤_, mul-le-mul, arith, add-one, eq-eqb, ne-eqb, lt-leb, le-leb, eqb, set, length-set, getD-set-same, getD-set-other, if_then_else_, nth, below, In, Limits, Edge, Job, runTime, incoming, Stop, Time, tick, later, after, least, largest, Placement, Outcome, outcome, ofTask, ready, stopTime, finish, walk, placementsOf, placementOf, tickOf, trial, PlacedWithin}
+use Rattle.definitions.specs.Times.{unlessStopped, arrivalFrom}
+use Rattle.definitions.specs.Shelf.{dataFromAll, NoLater}
 use Rattle.definitions.specs.Claims.{Within}
 use Rattle.definitions.proofs.Lists.{map-same, map-in, in-keep, below-in}
 use Rattle.definitions.proofs.Tasks.{in-incoming}
 use Rattle.definitions.proofs.Bounds.{weaker, trial-most}
+use Rattle.definitions.proofs.Later.{no-later-then, first-no-later, after-no-later, stopped-no-later}
+use Rattle.definitions.proofs.Shelf.{settled-more, start-all}
 use Rattle.heads.specs.Layout.{lineAt, replicasMost, rowAt, processorAt, earlyAt, lateAt, lanesMost}
 use Rattle.orders.proofs.RunLaws.{set-cell}
 use Rattle.jobs.specs.Held.{jobIn, JobHeld, SomeJobHeld}
@@ -118,12 +121,12 @@ module _ {lim : Limits} {capacity : ℕ} (k c : ℕ) {cells mem : List ℕ} (r :
   processor-below = r .standing .row k a .processor-of c b
 
   -- The data comes from the lines before.
-  data-ran : dataReady (jobIn mem) least (ranIn capacity k c mem) runner processor ≡ dataIn capacity false runner processor mem
-  unfolding dataReady arrival ranIn
+  data-ran : dataFromAll (jobIn mem) least (ranIn capacity k c mem) runner processor ≡ dataIn capacity false runner processor mem
+  unfolding dataFromAll ranIn
   data-ran =
+      let sent : List Outcome → Edge → Time = λ ds e. arrivalFrom (jobIn mem) least (ofTask (e .from) ds) processor e in
       ap largest
-      (map-same (arrival (jobIn mem) least (ranIn capacity k c mem) processor)
-      (arrival (jobIn mem) least (placedIn capacity false (nth mem 3 + 1) k mem) processor) (incoming (jobIn mem) runner) λ e i.
+      (map-same (sent (ranIn capacity k c mem)) (sent (placedIn capacity false (nth mem 3 + 1) k mem)) (incoming (jobIn mem) runner) λ e i.
       let l = f e i .1 in
       let own = r .standing .line-of k a in
       rw (
@@ -136,8 +139,10 @@ module _ {lim : Limits} {capacity : ℕ} (k c : ℕ) {cells mem : List ℕ} (r :
   module _ (x : ℕ) (e : timeIn x ≡ after (runTime (jobIn mem) runner processor) (later (timeIn (nth cells processor)) (dataIn capacity false runner processor mem))) where
     -- The finish under stops, from the finish without.
     pub finish-ran : (ss : List Stop) → finish (jobIn mem) least ss (ranIn capacity k c mem) (placementOf (jobIn mem) runner processor) ≡ unlessStopped (stopTime ss processor) (timeIn x)
-    unfolding finish start
-    finish-ran ss = rw (e, data-ran, r .ready-of processor processor-below)
+    unfolding finish
+    finish-ran ss =
+        let started = start-all lim (jobIn mem) (r .standing .job .facts) (ranIn capacity k c mem) (r .settled) processor (rw (processors-in mem) processor-below) runner in
+        rw (e, started, data-ran, r .ready-of processor processor-below)
 
     pub finish-small : Small ((k * replicasMost + c) * lineTicks lim + lineTicks lim) x
     unfolding trial stopTime
@@ -154,7 +159,7 @@ module _ {lim : Limits} {capacity : ℕ} (k c : ℕ) {cells mem : List ℕ} (r :
         ⊎-elim inl (λ n. let q : here ≡ x = ap tickOf (finish-ran [] ∙ time-tick x n) in inr (omega arith)) (equal-or-not x neverCell)
 
     -- Its outcome y takes the place of its early tick and becomes its processor's ready time.
-    module _ (y : ℕ) (n : (b : ℕ) → Small b x → Small b y) where
+    module _ (y : ℕ) (n : (b : ℕ) → Small b x → Small b y) (v : NoLater (timeIn x) (timeIn y)) where
       abbrev mem′ : List ℕ
       mem′ = set mem (earlyAt (rowAt capacity k) c) y
 
@@ -188,6 +193,15 @@ module _ {lim : Limits} {capacity : ℕ} (k c : ℕ) {cells mem : List ℕ} (r :
             placed-same mem mem′ capacity false (nth mem 3 + 1) k (omega arith) (same-before (rowAt capacity 0) (rowAt capacity k) one (omega arith)),
           )
 
+      -- It finishes no sooner than its processor was ready.
+      started : NoLater (ready (jobIn mem) processor (ranIn capacity k c mem)) (timeIn y)
+      started =
+          let z = ready (jobIn mem) processor (ranIn capacity k c mem) in
+          let begin = later z (dataIn capacity false runner processor mem) in
+          let run = runTime (jobIn mem) runner processor in
+          no-later-then z (timeIn x) (timeIn y)
+          (rw (e, r .ready-of processor processor-below) (no-later-then z begin (after run begin) (first-no-later z (dataIn capacity false runner processor mem)) (after-no-later run begin))) v
+
       running-next : Running lim capacity k (c + 1) cells′ mem′
       unfolding ready
       running-next =
@@ -216,6 +230,7 @@ module _ {lim : Limits} {capacity : ℕ} (k c : ℕ) {cells mem : List ℕ} (r :
                 (λ q. rw (← q, processors-in mem) (processor-below, small-within ((k * replicasMost + (c + 1)) * lineTicks lim) y small-here))
                 (λ q. let (g, t) = r .within d q in (g, weaker (d .time) most t))
                 i);
+            settled = rw (j, ran-next) (settled-more (jobIn mem) here (ranIn capacity k c mem) started (r .settled));
           }
 
 -- A line --------------------------------------------------------------------------------------------------------------
@@ -333,14 +348,15 @@ module _ {lim : Limits} {capacity : ℕ} (k c : ℕ) {stops cells d e : List ℕ
         let own : runTime (jobIn e) (nth e (rowAt capacity k)) its ≡ run = rw (l .retimed .task k) (sym z) in
         let p : timeIn x ≡ after (runTime (jobIn e) (nth e (rowAt capacity k)) its) (later (timeIn (nth cells its)) (dataIn capacity false (nth e (rowAt capacity k)) its e)) = rw
         (line-data its, ← o, own) p₀ in
+        let late : NoLater (timeIn x) (timeIn y) = rw q (stopped-no-later (timeIn (nth stops its)) (timeIn x)) in
         record {
-          running = running-next k c ran g u v x p y n;
+          running = running-next k c ran g u v x p y n late;
           retimed = retimed-set k c y (l .retimed) (omega arith) (omega arith) (omega arith);
           outcomes = λ ss h.
               let j : jobIn e ≡ jobIn d = job-retimed (l .retimed) (s .job) in
               let o : finish (jobIn e) least ss (ranIn capacity k c e) (placementOf (jobIn e) (nth e (rowAt capacity k)) its) ≡ timeIn y =
               finish-ran k c ran g u v x p ss ∙ rw (← h its (line-step .below)) (sym q) in
-              ran-next k c ran g u v x p y n
+              ran-next k c ran g u v x p y n late
               ∙ rw (
                 placements-next capacity k c d,
                 walked-more (jobIn d) ss (placedIn capacity false (nth d 3 + 1) k d) (placementsIn capacity k c d)
@@ -366,6 +382,7 @@ module _ {lim : Limits} {capacity : ℕ} (k c : ℕ) {stops cells d e : List ℕ
           ready-of = λ p g. rw (← same) (ran .ready-of p g);
           ready-small = λ p g. small-wider ((k * replicasMost + c) * lineTicks lim) ((suc k * replicasMost + 0) * lineTicks lim) (nth cells p) most (ran .ready-small p g);
           within = rw (← same) (λ x i. let (g, t) = ran .within x i in (g, weaker (x .time) most t));
+          settled = rw (← same) (ran .settled);
         },
         record { retimed = l .retimed; outcomes = λ ss h. sym same ∙ l .outcomes ss h ∙ rw q },
       )

@@ -1,10 +1,11 @@
 -- Tables of times in cells of 32 bits, one for each processor: the delays, and when data is there.
-use Rattle.lists.proofs.Prelude.{_≡_, refl, ap, _∙_, sym, inl, inr, ⊎-elim, List, Bool, true, false, ℕ, _+_, _-_, _*_, _/_, _%_, _<_, _≤_, max, min, arith, add-one, eq-eqb, ne-eqb, length, set, length-set, replicate, length-replicate, getD-replicate, getD-set-same, getD-set-other, nth, incoming, runTime, delay, Time, tick, later, sooner, after, least, largest, Limits}
+use Rattle.lists.proofs.Prelude.{_≡_, refl, ap, _∙_, sym, inl, inr, ⊎-elim, List, Bool, true, false, ℕ, _+_, _-_, _*_, _/_, _%_, _<_, _≤_, max, min, arith, add-one, eq-eqb, ne-eqb, length, set, length-set, replicate, length-replicate, getD-replicate, getD-set-same, getD-set-other, if_then_else_, nth, any, incoming, runTime, delay, Time, tick, later, sooner, after, least, largest, Limits}
+use Rattle.definitions.proofs.Later.{later-comm, later-assoc, later-zero}
 use Rattle.orders.specs.Edges.{edgeIn}
 use Rattle.orders.proofs.Walk.{Passed}
 use Rattle.heads.specs.Layout.{jobSize, processorAt, earlyAt, lateAt, lanesMost}
-use Rattle.ticks.specs.Lanes.{lanes, arrives, finishes, shortNever, widenedTick}
-use Rattle.rounds.specs.Schedule.{dataIn, PredecessorsPlaced}
+use Rattle.ticks.specs.Lanes.{lanes, arrives, finishes, shortNever, unlessMarked, widenedTick}
+use Rattle.rounds.specs.Schedule.{arrivalIn, dataIn, PredecessorsPlaced}
 use Rattle.rounds.specs.Arrivals.{shortIn, lastArrival, DelayTable, TimeTable, ShortTable, Raised, Supplied, RunsOf, delayCells}
 use Rattle.jobs.specs.Held.{jobIn, JobHeld}
 use Rattle.jobs.specs.Tables.{messageMost, lastShort}
@@ -15,7 +16,7 @@ use Rattle.jobs.proofs.Held.{sizes, job-same}
 use Rattle.lists.proofs.Kept.{Same}
 use Rattle.ticks.proofs.LaneLaws.{lanes-each, arrives-short, finishes-short}
 use Rattle.rounds.proofs.Placed.{arrivalOf, data-walked}
-use Rattle.rounds.proofs.TimeLaws.{time-tick, later-cells, sooner-cells, later-comm, later-assoc, later-zero, chosenBy, arrival-chosen, gathered, gather-none, gather-next, gather-done, message-most}
+use Rattle.rounds.proofs.TimeLaws.{time-tick, later-cells, sooner-cells, chosenBy, ownIn, arrival-first, arrival-last, arrival-own, gathered, gather-none, gather-next, gather-done, message-most}
 
 -- The table of delays -----------------------------------------------------------------------------------------------
 
@@ -108,6 +109,28 @@ module _ {mem : List ℕ} (few : nth mem 1 ≤ lanesMost) where
 
 -- The data of one predecessor ---------------------------------------------------------------------------------------
 
+-- The lanes have a mark for each processor that has one of the first c replicas of the line at a.
+pub record OwnMarks (a c : ℕ) (mem marks : List ℕ) : Type 0 where
+  pub size : length marks ≡ lanesMost
+  pub lane : (p : ℕ) → p < nth mem 1 → nth marks p ≡ (if ownIn p a c mem then 1 else 0)
+
+module _ {mem : List ℕ} (few : nth mem 1 ≤ lanesMost) (a : ℕ) where
+  pub marks-none : OwnMarks a 0 mem (replicate lanesMost 0)
+  unfolding rowOutcomes any
+  marks-none = record { size = length-replicate {A = ℕ} lanesMost 0; lane = λ p h. getD-replicate {A = ℕ} lanesMost p 0 0 (omega arith) }
+
+  -- One replica more, on q.
+  pub marks-next : (c : ℕ) {marks : List ℕ} → OwnMarks a c mem marks → {q : ℕ} → q < nth mem 1 → q ≡ nth mem (processorAt a c) → OwnMarks a (c + 1) mem (set marks q 1)
+  unfolding rowOutcomes any
+  marks-next c {marks} t {q} o on =
+      record {
+        size = length-set marks q 1 ∙ t .size;
+        lane = λ p h. ⊎-elim
+            (λ (e : p ≡ q). rw (e, add-one c, ← on, eq-eqb q q refl) (getD-set-same marks q 1 0 (omega (arith, t .size))))
+            (λ n. rw (add-one c, ← on, ne-eqb q p (λ e. n (sym e)), getD-set-other marks q p 1 0 n) (t .lane p h))
+            (equal-or-not p q);
+      }
+
 -- When the data of the first c replicas of the line at a is on p, by the first of them or by the last.
 abbrev pub offered : Bool → ℕ → ℕ → List ℕ → ℕ → ℕ → Time
 offered late volume a mem c p = chosenBy late (λ q. volume * delay (jobIn mem) q p) a c mem
@@ -178,12 +201,21 @@ module _ {lim : Limits} {capacity : ℕ} {mem : List ℕ} (held : JobHeld lim ca
   pub offer-raise : {b c : ℕ} {low e f : List ℕ} → b ≤ shortNever → c ≡ nth mem 3 + 1 → TimeTable (offered false volume a mem c) b mem low → ShortTable b mem e
       → f ≡ lanes (λ p z. max z (nth low p)) lanesMost e → Raised false b volume a mem e f
   offer-raise {c} {low} {e} {f} m i t s n =
-      table-same (omega arith) (λ p h. rw (arrival-chosen false volume p a c mem i))
+      table-same (omega arith) (λ p h. rw (arrival-first volume p a c mem i))
       (table-later few s m (nth low) (offered false volume a mem c) (λ p h. (t .time p h, t .most p h)) (lanes-each (λ p z. max z (nth low p)) e f n (s .size)))
 
-  pub offer-done : (l : List ℕ) {c : ℕ} {g : List ℕ} → c ≡ nth mem 3 + 1 → TimeTable (λ p. later (shortIn (nth l p)) (offered true volume a mem c p)) (lastArrival lim) mem g
-      → Raised true (lastArrival lim) volume a mem l g
-  offer-done l {c} i t = table-same (omega arith) (λ p h. rw (arrival-chosen true volume p a c mem i)) t
+  -- All replicas were offered, and the processors that have one of them have their times before again.
+  pub offer-done : {l : List ℕ} {c : ℕ} {g marks f : List ℕ} → c ≡ nth mem 3 + 1 → ShortTable (lastArrival lim) mem l
+      → TimeTable (λ p. later (shortIn (nth l p)) (offered true volume a mem c p)) (lastArrival lim) mem g → OwnMarks a c mem marks
+      → f ≡ lanes (λ p z. unlessMarked (nth marks p) (nth l p) z) lanesMost g → Raised true (lastArrival lim) volume a mem l f
+  offer-done {l} {c} {g} {marks} {f} i s t o n =
+      let (size, each) = lanes-each (λ p z. unlessMarked (nth marks p) (nth l p) z) g f n (t .size) in
+      record { size = size; time = λ p h. by p h (ownIn p a c mem) refl (o .lane p h) (each p (omega (arith, few))) .0; most = λ p h. by p h (ownIn p a c mem) refl (o .lane p h) (each p (omega (arith, few))) .1 }
+    where
+      by : (p : ℕ) → p < nth mem 1 → (b : Bool) → ownIn p a c mem ≡ b → nth marks p ≡ (if b then 1 else 0) → nth f p ≡ unlessMarked (nth marks p) (nth l p) (nth g p)
+          → (shortIn (nth f p) ≡ later (shortIn (nth l p)) (arrivalIn true volume p a mem)) × (nth f p ≤ lastArrival lim)
+      by p h true q m e = rw (e, m, arrival-own volume p a c mem i q) (sym (later-comm (shortIn (nth l p)) (tick 0) ∙ later-zero (shortIn (nth l p))), s .most p h)
+      by p h false q m e = rw (e, m, ← arrival-last volume p a c mem i q) (t .time p h, t .most p h)
 
 -- All data of a task ------------------------------------------------------------------------------------------------
 

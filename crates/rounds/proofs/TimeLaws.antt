@@ -1,6 +1,7 @@
 -- Times in cells: the later and the sooner, what comes after, and when data arrives.
-use Rattle.lists.proofs.Prelude.{_≡_, refl, ap, _∙_, sym, _⊎_, inl, inr, ⊎-elim, List, [], _∷_, map, reverseAux, Bool, true, false, ℕ, _+_, _*_, _-_, _<_, _≤_, max, min, arith, mul-le-mul, eq-eqb, ne-eqb, eqb, if_then_else_, nth, In, greatest, Edge, delay, incoming, Time, tick, never, later, sooner, after, least, largest, arrival, Limits}
+use Rattle.lists.proofs.Prelude.{_≡_, refl, ap, _∙_, sym, _⊎_, inl, inr, ⊎-elim, List, [], _∷_, map, reverseAux, Bool, true, false, ℕ, _+_, _*_, _-_, _<_, _≤_, max, min, arith, mul-le-mul, eq-eqb, ne-eqb, eqb, if_then_else_, nth, In, greatest, Edge, delay, incoming, Time, tick, never, later, sooner, after, least, largest, any, Limits}
 use Rattle.definitions.proofs.Tasks.{in-incoming}
+use Rattle.definitions.proofs.Later.{later-comm, later-assoc, later-zero}
 use Rattle.orders.specs.Edges.{edgeIn}
 use Rattle.orders.proofs.Walk.{passed, pass-none, pass-more, Passed, pass-done}
 use Rattle.heads.specs.Layout.{lineAt, replicasMost}
@@ -11,7 +12,7 @@ use Rattle.plans.specs.Lines.{rowOutcomes, LinesHeld}
 use Rattle.rounds.specs.Schedule.{choiceOf, arrivalIn, PredecessorsPlaced}
 use Rattle.rounds.specs.Walks.{Feeds}
 use Rattle.lists.proofs.Counting.{equal-or-not}
-use Rattle.rounds.proofs.Placed.{feeding-row, line-in}
+use Rattle.rounds.proofs.Placed.{row-all, line-in}
 use Rattle.jobs.proofs.Held.{sizes, tasks-in}
 
 -- Times in cells --------------------------------------------------------------------------------------------------
@@ -66,10 +67,25 @@ small-tick b x h = ⊎-elim (λ e. absurd (h e)) (λ l. l)
 unfoldable pub chosenBy : Bool → (ℕ → ℕ) → ℕ → ℕ → List ℕ → Time
 chosenBy late ticks a c mem = choiceOf late (map (λ d. after (ticks (d .processor)) (d .time)) (rowOutcomes late a c mem))
 
-pub arrival-chosen : (late : Bool) (volume p a c : ℕ) (mem : List ℕ) → c ≡ nth mem 3 + 1
-    → chosenBy late (λ q. volume * delay (jobIn mem) q p) a c mem ≡ arrivalIn late volume p a mem
-unfolding chosenBy arrivalIn arrival
-arrival-chosen late volume p a c mem e = rw (e, feeding-row late mem (nth mem a) (jobIn mem) p a (nth mem 3 + 1) refl)
+-- Of the first c replicas of the line at a some is on p.
+abbrev pub ownIn : ℕ → ℕ → ℕ → List ℕ → Bool
+ownIn p a c mem = any (λ d. eqb (d .processor) p) (rowOutcomes true a c mem)
+
+module _ (volume p a c : ℕ) (mem : List ℕ) (e : c ≡ nth mem 3 + 1) where
+  -- Early the choice is among all replicas of the line.
+  pub arrival-first : chosenBy false (λ q. volume * delay (jobIn mem) q p) a c mem ≡ arrivalIn false volume p a mem
+  unfolding chosenBy arrivalIn
+  arrival-first = rw (e, row-all false mem (nth mem a) a (nth mem 3 + 1) refl)
+
+  -- Late too, where none is on p.
+  pub arrival-last : ownIn p a c mem ≡ false → chosenBy true (λ q. volume * delay (jobIn mem) q p) a c mem ≡ arrivalIn true volume p a mem
+  unfolding chosenBy arrivalIn
+  arrival-last o = rw (row-all true mem (nth mem a) a (nth mem 3 + 1) refl, ← e, o)
+
+  -- Else p waits for none.
+  pub arrival-own : ownIn p a c mem ≡ true → arrivalIn true volume p a mem ≡ tick 0
+  unfolding arrivalIn largest
+  arrival-own o = rw (row-all true mem (nth mem a) a (nth mem 3 + 1) refl, ← e, o)
 
 -- The ticks of a message.
 pub message-most : (lim : Limits) (volume n : ℕ) → volume ≤ lim .volume → n ≤ lim .delay → volume * n ≤ messageMost lim
@@ -82,22 +98,6 @@ round-most {lim} u n h =
     (omega (arith, m, u .round-short), omega (arith, m, u .round-range))
 
 -- All data of a task ------------------------------------------------------------------------------------------------
-
-pub later-comm : (x y : Time) → later x y ≡ later y x
-later-comm (tick x) (tick y) = let e : max x y ≡ max y x = omega arith in ap tick e
-later-comm (tick x) never = refl
-later-comm never (tick y) = refl
-later-comm never never = refl
-
-pub later-assoc : (x y z : Time) → later (later x y) z ≡ later x (later y z)
-later-assoc (tick x) (tick y) (tick z) = let e : max (max x y) z ≡ max x (max y z) = omega arith in ap tick e
-later-assoc (tick x) (tick y) never = refl
-later-assoc (tick x) never z = refl
-later-assoc never y z = refl
-
-pub later-zero : (x : Time) → later (tick 0) x ≡ x
-later-zero (tick x) = let e : max 0 x ≡ x = omega arith in ap tick e
-later-zero never = refl
 
 pub largest-reverse : {A : Type 0} (f : A → Time) (xs ys : List A) → largest (map f (reverseAux xs ys)) ≡ later (largest (map f xs)) (largest (map f ys))
 unfolding largest

@@ -8,6 +8,7 @@ use Rattle.definitions.specs.Lists.{nth}
 use Rattle.definitions.specs.Limits.{Limits}
 use Rattle.definitions.specs.Job.{Job}
 use Rattle.definitions.specs.Times.{Time, tick, Outcome, ready, finish, placementOf}
+use Rattle.definitions.specs.Shelf.{Settled}
 use Rattle.heads.specs.Layout.{earlyAt, lateAt, lanesMost}
 use Rattle.jobs.specs.Held.{jobIn, SomeJobHeld}
 use Rattle.rounds.specs.Schedule.{choiceOf}
@@ -20,6 +21,10 @@ earliesIn capacity k mem = placedIn capacity false (nth mem 3 + 1) k mem
 
 abbrev pub latesIn : ℕ → ℕ → List ℕ → List Outcome
 latesIn capacity k mem = placedIn capacity true (nth mem 3 + 1) k mem
+
+-- No replica of the first k lines finishes later than its processor is ready after it, early or late.
+abbrev pub SettledTo : ℕ → ℕ → List ℕ → Type 0
+SettledTo capacity k mem = (late : Bool) → Settled (jobIn mem) (placedIn capacity late (nth mem 3 + 1) k mem)
 
 -- The early or the late finish of task t on p, after the first k lines.
 unfoldable pub finishOn : ℕ → Bool → ℕ → List ℕ → ℕ → ℕ → Time

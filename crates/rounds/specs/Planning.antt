@@ -15,7 +15,7 @@ use Rattle.definitions.specs.Planner.{tickOf, greatestOf, Waiting, waitingFrom,
 use Rattle.heads.specs.Layout.{levelAt, lineAt, blockedAt, priorityAt, rowAt, largestDelayAt, processorAt, earlyAt, lateAt, replicaEnd, lanesMost}
 use Rattle.jobs.specs.Held.{jobIn}
 use Rattle.jobs.specs.Tables.{messageMost}
-use Rattle.rounds.specs.Clocks.{earliesIn, latesIn, finishOn}
+use Rattle.rounds.specs.Clocks.{earliesIn, latesIn, SettledTo, finishOn}
 use Rattle.rounds.specs.Schedule.{topIn, PredecessorsPlaced, LargestDelaysFilled, LevelsFilled, ShortTo}
 use Rattle.plans.specs.Lines.{rowEnd, rowOutcomes, rowReplicas, linesIn, RowHeld, LinesHeld}
 use Rattle.lists.specs.Kept.{KeptOutside}
@@ -109,6 +109,7 @@ pub record Drawn (l : Limits) (capacity k : ℕ) (mem : List ℕ) : Type 0 where
   pub far : LargestDelaysFilled capacity mem
   pub levels : LevelsFilled capacity mem
   pub ticks : ShortTo l capacity k mem
+  pub settled : SettledTo capacity k mem
   pub rest : linesIn capacity (nth mem 3 + 1) k mem
       ++ place (jobIn mem) (nth mem 3) (nth mem 0 - k) (waitingIn capacity mem) (earliesIn capacity k mem) (latesIn capacity k mem)
       ≡ planFor (jobIn mem) (nth mem 3) .lines

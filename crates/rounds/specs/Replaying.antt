@@ -9,6 +9,7 @@ use Rattle.definitions.specs.Limits.{Limits}
 use Rattle.definitions.specs.Job.{Edge, Job, incoming}
 use Rattle.definitions.specs.Stops.{Stop}
 use Rattle.definitions.specs.Times.{least, Placement, Outcome, ready, stopTime, walk, placementsOf}
+use Rattle.definitions.specs.Shelf.{Settled}
 use Rattle.definitions.specs.Replay.{replay, firstFinish, firstProcessor}
 use Rattle.definitions.specs.Claims.{PlacedWithin}
 use Rattle.heads.specs.Layout.{lineAt, replicasMost, rowAt, largestDelayAt, processorAt, lateAt, lanesMost}
@@ -34,6 +35,7 @@ pub record Running (l : Limits) (capacity k c : ℕ) (cells mem : List ℕ) : Ty
   pub ready-of : (p : ℕ) → p < nth mem 1 → timeIn (nth cells p) ≡ ready (jobIn mem) p (ranIn capacity k c mem)
   pub ready-small : (p : ℕ) → p < nth mem 1 → Small ((k * replicasMost + c) * lineTicks l) (nth cells p)
   pub within : PlacedWithin (jobIn mem) ((k * replicasMost + c) * lineTicks l) (ranIn capacity k c mem)
+  pub settled : Settled (jobIn mem) (ranIn capacity k c mem)
 
 -- Every predecessor of the task of line k has its line before it.
 abbrev pub PredecessorsBefore : ℕ → ℕ → List ℕ → Type 0

@@ -14,6 +14,7 @@ ghost use Rattle.plans.specs.Loading.{planIn, PlanHeld};
 ghost use Rattle.rounds.specs.Verdicts.{Judged};
 ghost use Rattle.rounds.specs.Arrivals.{DelayTable};
 ghost use Rattle.replicas.specs.Cells.{doubledIn};
+ghost use Rattle.rounds.specs.Clocks.{SettledTo};
 ghost use Rattle.rounds.specs.Checking.{ClocksAfter, LineAgrees, DoubledBy};
 use crate::Checked;
 use crate::clocks;
@@ -46,7 +47,7 @@ fn line_agrees(
     clocks: Clocks,
 ) -> bool
     requires { ⌜ PlanHeld document01 capacity (now mem) × DelayTable document01 (now delays) (now mem) × (k < nth (now mem) 0) × ShortTo document01 capacity k (now mem)
-        × ClocksAfter capacity k (now mem) clocks
+        × ClocksAfter capacity k (now mem) clocks × SettledTo capacity k (now mem)
         × LinksHeld (now mem) (now links) ⌝ }
     ensures { λ r. ⌜ (r ≡ true → LineAgrees capacity k (now (mem .entry)) × ShortTo document01 capacity (k + 1) (now (mem .entry))) × (LineAgrees capacity k (now (mem .entry)) → r ≡ true) ⌝ }
 {

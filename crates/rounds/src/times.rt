@@ -113,8 +113,8 @@ pub fn finish_of(ready: u64, supplied: u64, n: u64) -> u64
     start + n
 }
 
-// For each processor the later of its tick and of the arrival of the data of a predecessor whose line is at `a`, by its first
-// replica and by its last.
+// For each processor the later of its tick and of the arrival of the data of a predecessor whose line is at `a`: early by the first
+// of its replicas, late by the last; a processor that has one of them waits for none, late.
 fn both_arrivals(
     mem: &[u64],
     delays: &[u16; 256],
@@ -131,24 +131,29 @@ fn both_arrivals(
 {
     let w = mem[3] as usize + 1;
     let mut low = [SHORT_NEVER; 16];
+    let before = *late;
+    let mut marks = [0u32; 16];
     let mut c = 0;
     while c < w {
         let x = row::replica_at(mem, a, c);
+        let q = x.processor;
         lanes::offer_both(
             &mut low,
             late,
             delays,
-            x.processor,
+            q,
             volume,
             x.early as u32,
             x.late as u32,
         );
+        marks[q] = 1;
         c += 1;
     }
     lanes::raise(early, &low);
+    lanes::put_back(late, &before, &marks);
 }
 
-// When all data of t is on each processor, by the first replicas and by the last.
+// When all data of t is on each processor, early and late.
 fn both_data(mem: &[u64], links: &[u64], capacity: usize, delays: &[u16; 256], t: usize) -> Both
     requires { ⌜ ((k : ℕ) × LinesHeld document01 capacity k (now mem)) × LinksHeld (now mem) (now links) × DelayTable document01 (now delays) (now mem)
         × (t < nth (now mem) 0) × BothSupplied capacity t (now mem) ⌝ }

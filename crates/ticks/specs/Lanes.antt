@@ -23,6 +23,10 @@ finishes x y n = (max x y + n) % 2 ^ 32
 abbrev pub shortNever : ℕ
 shortNever = 4_294_967_295
 
+-- Of two ticks the one before, where a mark is set; else the one now.
+abbrev pub unlessMarked : ℕ → ℕ → ℕ → ℕ
+unlessMarked mark before now = if eqb mark 0 then now else before
+
 -- A tick of 32 bits as a cell of 64.
 abbrev pub widenedTick : ℕ → ℕ
 widenedTick x = if eqb x shortNever then neverCell else x

@@ -4,7 +4,7 @@ ghost use Prim.Native.Nat.{_+_, _*_, _%_, _^_, min, max};
 ghost use lib.ListN.{replicate};
 ghost use Rattle.definitions.specs.Lists.{nth, sum};
 ghost use Rattle.ticks.specs.Cells.{neverCell};
-ghost use Rattle.ticks.specs.Lanes.{lanes, arrives, finishes, widenedTick};
+ghost use Rattle.ticks.specs.Lanes.{lanes, arrives, finishes, unlessMarked, widenedTick};
 use crate::clocks::Clocks;
 
 // Never, in a cell of 64 bits and in one of 32.
@@ -92,6 +92,24 @@ pub fn raise(high: &mut [u32; 16], low: &[u32; 16])
     let mut p = 0;
     while p < 16 {
         high[p] = later_tick(high[p], low[p]);
+        p += 1;
+    }
+}
+
+// The tick before where a mark is set, else the tick now.
+fn unless_marked(mark: u32, before: u32, now: u32) -> u32
+    ensures { λ r. ⌜ r ≡ unlessMarked mark before now ⌝ }
+{
+    if mark == 0 { now } else { before }
+}
+
+// Each marked processor gets back in `high` the tick that it has in `before`.
+pub fn put_back(high: &mut [u32; 16], before: &[u32; 16], marks: &[u32; 16])
+    ensures { λ _. ⌜ now (high .exit) ≡ lanes (λ p z. unlessMarked (nth (now (marks .entry)) p) (nth (now (before .entry)) p) z) 16 (now (high .entry)) ⌝ }
+{
+    let mut p = 0;
+    while p < 16 {
+        high[p] = unless_marked(marks[p], before[p], high[p]);
         p += 1;
     }
 }

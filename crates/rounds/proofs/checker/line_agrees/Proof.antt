@@ -18,12 +18,12 @@ finishes-requires c κs =
     let pre = c .before .before .before .before .before .pre in
     let args = c .before .before .before .before .before .args in
     let (a, b, d, e, f) = finishes-asked (pre .0) (args .k) (pre .2) (pre .3) (args .delays .now) (args .clocks) (pre .1) (pre .4) in
-    rw (c .before .row-at .ensures) (a, b, d, e, f, pre .5)
+    rw (c .before .row-at .ensures) (a, b, d, e, f, pre .6)
 
 loop-holds : tie.Need-loop-holds Inv-loop μ-loop
 loop-holds c =
     let pre = c .before .before .before .before .before .before .pre in
-    (omega arith, compared-none (pre .0) (pre .2) (pre .4) (c .before .before .row-at .ensures) (c .finishes .ensures))
+    (omega arith, compared-none (pre .0) (pre .2) (pre .4) (pre .5) (c .before .before .row-at .ensures) (c .finishes .ensures))
 
 returns : tie.Need-returns Inv-loop μ-loop
 returns c =

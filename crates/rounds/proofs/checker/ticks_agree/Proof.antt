@@ -4,7 +4,7 @@ use Rattle.rounds.specs.Schedule.{ShortTo}
 use Rattle.rounds.specs.Checking.{ClocksAfter, LineAgrees}
 use Rattle.jobs.proofs.Held.{sizes}
 use Rattle.rounds.proofs.ClockLaws.{line-timed, clocks-line}
-use Rattle.rounds.proofs.AgreeLaws.{clocks-new, ticks-yes, ticks-no, agreed-next}
+use Rattle.rounds.proofs.AgreeLaws.{clocks-new, settled-agreed, ticks-yes, ticks-no, agreed-next}
 use Rattle.rounds.proofs.checker.ticks_agree.Statement.{statement}
 use Rattle.rounds.proofs.checker.ticks_agree.Tie as tie
 
@@ -25,7 +25,7 @@ line-agrees-requires : tie.Need-line-agrees-requires Inv-loop μ-loop
 line-agrees-requires c κs =
     let pre = c .before .before .before .before .before .before .before .before .pre in
     let inv = c .before .before .loop .inv in
-    (pre .0, c .before .before .before .before .delay-table .ensures, c .before .loop-test .taken, inv .2, inv .3, pre .2)
+    (pre .0, c .before .before .before .before .delay-table .ensures, c .before .loop-test .taken, inv .2, inv .3, settled-agreed _ _ _ (inv .1), pre .2)
 
 advance-line-requires : tie.Need-advance-line-requires Inv-loop μ-loop
 advance-line-requires c κs =
