@@ -3,7 +3,10 @@
 use crate::job::{Job, MAX_PROCESSORS};
 use crate::schedule::Schedule;
 use crate::text::{put_field, put_number};
-use crate::times::Ticks;
+use crate::times::{Ticks, keep_own};
+
+/// Stands for the tick of what does not come; no finish and no data is as late.
+const NEVER: u32 = u32::MAX;
 
 /// A replica that finished.
 #[derive(Clone, Copy)]
@@ -17,33 +20,27 @@ pub struct Round {
     first: Vec<Option<Finish>>,
 }
 
-/// The finishes of each task so far, in lists of equal capacity.
+/// The finish of each replica, as the schedule has them; none for one that
+/// has not finished.
 struct Finishes {
-    capacity: usize,
-    counts: Vec<usize>,
-    finishes: Vec<Finish>,
+    count: usize,
+    ticks: Vec<Option<u32>>,
 }
 
 impl Finishes {
     fn new(job: &Job) -> Finishes {
-        let none = Finish {
-            tick: 0,
-            processor: 0,
-        };
         Finishes {
-            capacity: job.replicas(),
-            counts: vec![0; job.tasks],
-            finishes: vec![none; job.tasks * job.replicas()],
+            count: job.replicas(),
+            ticks: vec![None; job.tasks * job.replicas()],
         }
     }
 
-    fn of(&self, task: usize) -> &[Finish] {
-        &self.finishes[task * self.capacity..][..self.counts[task]]
+    fn of(&self, task: usize) -> &[Option<u32>] {
+        &self.ticks[task * self.count..][..self.count]
     }
 
-    fn push(&mut self, task: usize, finish: Finish) {
-        self.finishes[task * self.capacity + self.counts[task]] = finish;
-        self.counts[task] += 1;
+    fn set(&mut self, task: usize, place: usize, tick: Option<u32>) {
+        self.ticks[task * self.count + place] = tick;
     }
 }
 
@@ -56,28 +53,25 @@ pub fn run(job: &Job, schedule: &Schedule, stops: &Ticks) -> Round {
     for &task in &schedule.order {
         let task = usize::from(task);
         let run_times = job.run_times(task);
-        let data = data(job, &finishes, task);
-        for replica in schedule.replicas(task) {
+        let data = data(job, schedule, &finishes, task);
+        for (place, replica) in schedule.replicas(task).iter().enumerate() {
             let processor = usize::from(replica.processor);
-            let start = ready[processor].zip(data).map(|(r, d)| d[processor].max(r));
+            let data = Some(data[processor]).filter(|&tick| tick != NEVER);
+            let start = ready[processor].zip(data).map(|(r, d)| d.max(r));
             let finish = start.map(|start| start + run_times[processor]);
             ready[processor] = finish.filter(|&tick| tick <= stops[processor]);
-            if let Some(tick) = ready[processor] {
-                finishes.push(
-                    task,
-                    Finish {
-                        tick,
-                        processor: replica.processor,
-                    },
-                );
-            }
+            finishes.set(task, place, ready[processor]);
         }
     }
     let first = |task| {
-        finishes
-            .of(task)
-            .iter()
-            .copied()
+        let replicas = schedule.replicas(task).iter().zip(finishes.of(task));
+        replicas
+            .filter_map(|(replica, tick)| {
+                Some(Finish {
+                    tick: (*tick)?,
+                    processor: replica.processor,
+                })
+            })
             .min_by_key(|f| (f.tick, f.processor))
     };
     Round {
@@ -86,26 +80,30 @@ pub fn run(job: &Job, schedule: &Schedule, stops: &Ticks) -> Round {
 }
 
 /// For each processor the tick at which the first data of every predecessor
-/// of `task` is there; none if a predecessor has not finished at all.
-fn data(job: &Job, finishes: &Finishes, task: usize) -> Option<Ticks> {
+/// of `task` is there, or `NEVER`.
+fn data(job: &Job, schedule: &Schedule, finishes: &Finishes, task: usize) -> Ticks {
     let mut data = [0; MAX_PROCESSORS];
     for link in job.predecessors(task) {
-        let sent = finishes.of(usize::from(link.task));
-        if sent.is_empty() {
-            return None;
-        }
-        let mut first = [u32::MAX; MAX_PROCESSORS];
-        for finish in sent {
-            let delays = job.delays_from(usize::from(finish.processor));
+        let predecessor = usize::from(link.task);
+        let replicas = schedule.replicas(predecessor).iter();
+        let replicas = replicas.zip(finishes.of(predecessor));
+        let mut first = [NEVER; MAX_PROCESSORS];
+        for (replica, finish) in replicas.clone() {
+            let Some(tick) = finish else {
+                continue;
+            };
+            let delays = job.delays_from(usize::from(replica.processor));
             for (first, &delay) in first.iter_mut().zip(delays) {
-                *first = (*first).min(finish.tick + u32::from(link.volume) * u32::from(delay));
+                *first = (*first).min(tick + u32::from(link.volume) * u32::from(delay));
             }
         }
+        let own = replicas.map(|(replica, finish)| (replica.processor, finish.unwrap_or(NEVER)));
+        keep_own(&mut first, own);
         for (data, first) in data.iter_mut().zip(first) {
             *data = (*data).max(first);
         }
     }
-    Some(data)
+    data
 }
 
 impl Round {

@@ -33,13 +33,15 @@ impl Ready {
 pub fn first_data(job: &Job, schedule: &Schedule, task: usize) -> Ticks {
     let mut data = [0; MAX_PROCESSORS];
     for link in job.predecessors(task) {
+        let replicas = schedule.replicas(usize::from(link.task));
         let mut first = [u32::MAX; MAX_PROCESSORS];
-        for replica in schedule.replicas(usize::from(link.task)) {
+        for replica in replicas {
             let delays = job.delays_from(usize::from(replica.processor));
             for (first, &delay) in first.iter_mut().zip(delays) {
                 *first = (*first).min(replica.early + u32::from(link.volume) * u32::from(delay));
             }
         }
+        keep_own(&mut first, replicas.iter().map(|r| (r.processor, r.early)));
         for (data, first) in data.iter_mut().zip(first) {
             *data = (*data).max(first);
         }
@@ -52,14 +54,29 @@ pub fn first_data(job: &Job, schedule: &Schedule, task: usize) -> Ticks {
 pub fn last_data(job: &Job, schedule: &Schedule, task: usize) -> Ticks {
     let mut data = [0; MAX_PROCESSORS];
     for link in job.predecessors(task) {
-        for replica in schedule.replicas(usize::from(link.task)) {
+        let replicas = schedule.replicas(usize::from(link.task));
+        let mut last = [0; MAX_PROCESSORS];
+        for replica in replicas {
             let delays = job.delays_from(usize::from(replica.processor));
-            for (data, &delay) in data.iter_mut().zip(delays) {
-                *data = (*data).max(replica.late + u32::from(link.volume) * u32::from(delay));
+            for (last, &delay) in last.iter_mut().zip(delays) {
+                *last = (*last).max(replica.late + u32::from(link.volume) * u32::from(delay));
             }
+        }
+        keep_own(&mut last, replicas.iter().map(|r| (r.processor, r.late)));
+        for (data, last) in data.iter_mut().zip(last) {
+            *data = (*data).max(last);
         }
     }
     data
+}
+
+/// Where a processor has a replica of the predecessor, only this one's data
+/// counts there, at its finish. `own` has the processors and finishes of the
+/// replicas as they are written; of two on one processor the first counts.
+pub fn keep_own(data: &mut Ticks, own: impl DoubleEndedIterator<Item = (u8, u32)>) {
+    for (processor, finish) in own.rev() {
+        data[usize::from(processor)] = finish;
+    }
 }
 
 /// The makespan's bounds by the exit tasks' replicas.

@@ -1,5 +1,6 @@
 //! The document's worked figures: the small house with its cases, and the
-//! limits that are to be run; the order of edge lines.
+//! limits that are to be run; the order of edge lines; boxes with their own
+//! copy of a predecessor.
 
 use second::Verdict::{self, Accepted, Doubled, Refused};
 
@@ -7,7 +8,7 @@ const JOB: &str = "JOB,2,3,1,1\n\
                    C,0,4,6,9\nC,1,5,5,3\n\
                    D,0,0,1,2\nD,1,1,0,1\nD,2,2,1,0\n\
                    E,0,1,2\n";
-const PLAN: &str = "PLAN,2,3,1,9,13\nT,0,0,4,4,1,6,6\nT,1,0,9,13,1,11,11\n";
+const PLAN: &str = "PLAN,2,3,1,9,11\nT,0,0,4,4,1,6,6\nT,1,0,9,9,1,11,11\n";
 
 fn plan(job: &str) -> Result<String, u32> {
     let mut out = [b'#'; 65_536];
@@ -84,7 +85,7 @@ fn case_i_task_0_on_box_0_twice() {
 
 #[test]
 fn case_j_m_given_as_12() {
-    assert_eq!(check(JOB, &PLAN.replace("9,13\nT", "9,12\nT")), Refused(14));
+    assert_eq!(check(JOB, &PLAN.replace("9,11\nT", "9,12\nT")), Refused(14));
 }
 
 #[test]
@@ -289,19 +290,16 @@ fn refusals_of_a_plan() {
     assert_eq!(with("PLAN,2", "PLAN,3"), Refused(9));
     assert_eq!(with("PLAN,2", "PLAN,256"), Refused(3));
     assert_eq!(with("PLAN,2,3,1", "PLAN,2,3,7"), Refused(9));
-    assert_eq!(with("9,13\n", "9,4294967295\n"), Refused(14));
-    assert_eq!(with("9,13\n", "9,4294967296\n"), Refused(3));
+    assert_eq!(with("9,11\n", "9,4294967295\n"), Refused(14));
+    assert_eq!(with("9,11\n", "9,4294967296\n"), Refused(3));
     assert_eq!(with("T,1", "T,0"), Refused(10));
     assert_eq!(with("T,1", "T,2"), Refused(3));
     assert_eq!(with("T,0", "T,1"), Refused(10));
-    assert_eq!(with("1,0,9,13,1,11,11", "1,1,11,11,0,9,13"), Refused(11));
-    assert_eq!(
-        with("T,1,0,9,13,1,11,11", "T,0,1,11,11,0,9,13"),
-        Refused(11)
-    );
+    assert_eq!(with("1,0,9,9,1,11,11", "1,1,11,11,0,9,9"), Refused(11));
+    assert_eq!(with("T,1,0,9,9,1,11,11", "T,0,1,11,11,0,9,9"), Refused(11));
     assert_eq!(with("1,11,11\n", "1,11,12\n"), Refused(13));
     assert_eq!(with("0,4,4,1,6,6", "1,4,4,1,6,6"), Doubled(vec![0]));
-    assert_eq!(with("T,1,0,9,13,1,11,11\n", ""), Refused(2));
+    assert_eq!(with("T,1,0,9,9,1,11,11\n", ""), Refused(2));
     assert_eq!(with("1,11,11\n", "1,11,11\n\n"), Refused(2));
 }
 
@@ -314,7 +312,7 @@ fn refusals_of_a_stop_list() {
     assert_eq!(replay(JOB, PLAN, "S,0,4294967295\nS,0,1\n"), Err(15));
     assert_eq!(replay(JOB, PLAN, "S,1,3\nS,0,1\n"), Err(15));
     // Wrong ticks and a wrong makespan are no matter of the replay.
-    let other = PLAN.replace("9,13", "0,0");
+    let other = PLAN.replace("9,11", "0,0");
     assert_eq!(replay(JOB, &other, "S,0,3\n"), replay(JOB, PLAN, "S,0,3\n"));
 }
 
@@ -333,4 +331,123 @@ fn a_doubled_plan_runs_in_written_order() {
     let doubled = PLAN.replace("T,0,0,4,4,1,6,6", "T,0,0,1,1,0,1,1");
     let answer = "R,0,0,4\nR,1,1,11\nL,11\n";
     assert_eq!(replay(JOB, &doubled, "").as_deref(), Ok(answer));
+}
+
+#[test]
+fn a_late_tick_beside_a_copy_elsewhere() {
+    // As if box 0 waited for task 0 on box 1 too: 6 + 2 + 5.
+    let waits = "PLAN,2,3,1,9,13\nT,0,0,4,4,1,6,6\nT,1,0,9,13,1,11,11\n";
+    assert_eq!(check(JOB, waits), Refused(13));
+    assert_eq!(check(JOB, &waits.replace("9,13,1", "9,9,1")), Refused(14));
+    assert_eq!(check(JOB, &waits.replace("9,13\n", "9,11\n")), Refused(13));
+    assert_eq!(replay(JOB, waits, "S,0,3\n"), replay(JOB, PLAN, "S,0,3\n"));
+}
+
+#[test]
+fn an_own_copy_and_a_slower_one() {
+    // Box 1 takes 50 ticks for task 0, and a message takes 20.
+    let job = "JOB,2,2,1,1\nC,0,2,50\nC,1,3,3\nD,0,0,4\nD,1,4,0\nE,0,1,5\n";
+    let expected = "PLAN,2,2,1,5,53\nT,0,0,2,2,1,50,50\nT,1,0,5,5,1,53,53\n";
+    assert_eq!(plan(job).as_deref(), Ok(expected));
+    assert_eq!(check(job, expected), Accepted);
+    let slow = "R,0,1,50\nR,1,1,53\nL,53\n";
+    assert_eq!(replay(job, expected, "S,0,1\n").as_deref(), Ok(slow));
+    // Box 0 has finished task 0, but that does not help box 1.
+    let slow = "R,0,0,2\nR,1,1,53\nL,53\n";
+    assert_eq!(replay(job, expected, "S,0,4\n").as_deref(), Ok(slow));
+}
+
+#[test]
+fn boxes_with_and_without_an_own_copy() {
+    let job = "JOB,2,3,1,1\nC,0,2,7,9\nC,1,5,5,5\n\
+               D,0,0,1,3\nD,1,1,0,2\nD,2,3,2,0\nE,0,1,4\n";
+    // Box 1 waits for itself alone; at box 2 data is there at 14 and at 15.
+    let plan = "PLAN,2,3,1,12,20\nT,0,0,2,2,1,7,7\nT,1,1,12,12,2,19,20\n";
+    assert_eq!(check(job, plan), Accepted);
+    assert_eq!(check(job, &plan.replace("2,19,20", "2,19,19")), Refused(13));
+    let ends = |stops: &str, last_line: &str| {
+        let answer = replay(job, plan, stops).expect("a good answer");
+        assert_eq!(answer.lines().last(), Some(last_line), "{stops}");
+    };
+    ends("", "L,12");
+    ends("S,0,0\n", "L,12");
+    ends("S,1,0\n", "L,19");
+    ends("S,1,11\n", "L,19");
+    ends("S,0,1\nS,1,11\n", "L,20");
+}
+
+#[test]
+fn an_own_copy_of_one_predecessor_of_two() {
+    // Task 2 waits for 0 and for 1. On box 0 it has its own copy of 0 only,
+    // on box 2 of both.
+    let job = "JOB,3,3,2,1\nC,0,1,9,1\nC,1,9,2,4\nC,2,1,1,1\n\
+               D,0,0,2,2\nD,1,2,0,2\nD,2,2,2,0\nE,0,2,3\nE,1,2,5\n";
+    let plan = "PLAN,3,3,1,6,16\nT,0,0,1,1,2,1,1\nT,1,1,2,2,2,5,5\nT,2,0,13,16,2,6,6\n";
+    assert_eq!(check(job, plan), Accepted);
+    let late = "R,0,0,1\nR,1,1,2\nR,2,0,13\nL,13\n";
+    assert_eq!(replay(job, plan, "S,2,0\n").as_deref(), Ok(late));
+    let all_on_one = "R,0,0,1\nR,1,2,5\nR,2,2,6\nL,6\n";
+    assert_eq!(replay(job, plan, "S,1,0\n").as_deref(), Ok(all_on_one));
+}
+
+#[test]
+fn late_ticks_along_a_chain() {
+    // Tasks 0 to 2 stay on boxes 0 and 1, so that these wait for nothing.
+    let job = "JOB,4,3,3,1\nC,0,4,6,9\nC,1,5,5,30\nC,2,2,2,30\nC,3,9,1,1\n\
+               D,0,0,1,2\nD,1,1,0,1\nD,2,2,1,0\nE,0,1,2\nE,1,2,3\nE,2,3,1\n";
+    let expected = "PLAN,4,3,1,14,15\nT,0,0,4,4,1,6,6\nT,1,0,9,9,1,11,11\n\
+                    T,2,0,11,11,1,13,13\nT,3,1,14,14,2,14,15\n";
+    assert_eq!(plan(job).as_deref(), Ok(expected));
+    assert_eq!(check(job, expected), Accepted);
+    let answer = "R,0,1,6\nR,1,1,11\nR,2,1,13\nR,3,1,14\nL,14\n";
+    assert_eq!(replay(job, expected, "S,0,3\n").as_deref(), Ok(answer));
+    let answer = "R,0,0,4\nR,1,0,9\nR,2,0,11\nR,3,2,14\nL,14\n";
+    assert_eq!(replay(job, expected, "S,1,13\n").as_deref(), Ok(answer));
+}
+
+#[test]
+fn top_levels_count_every_message() {
+    // Both boxes have task 0, and wait for no message. Task 1 is the more
+    // urgent by its message: 2 * (4 + 10) + 2 against 2 * 4 + 6.
+    let job = "JOB,3,2,2,1\nC,0,4,4\nC,1,1,1\nC,2,3,3\nD,0,0,1\nD,1,1,0\n\
+               E,0,1,10\nE,0,2,0\n";
+    let expected = "PLAN,3,2,1,8,8\nT,0,0,4,4,1,4,4\nT,1,0,5,5,1,5,5\nT,2,0,8,8,1,8,8\n";
+    assert_eq!(plan(job).as_deref(), Ok(expected));
+    assert_eq!(check(job, expected), Accepted);
+}
+
+/// Task 0 is on box 1 twice, where task 1 is too.
+const TWICE: &str = "PLAN,2,3,1,0,0\nT,0,1,0,0,1,0,0\nT,1,0,0,0,1,0,0\n";
+
+#[test]
+fn two_copies_of_a_predecessor_on_the_receiving_box() {
+    assert_eq!(check(JOB, TWICE), Doubled(vec![0]));
+    let answer = |stops: &str| replay(JOB, TWICE, stops).expect("a good answer");
+    // Task 0 is done on box 1 at 6 and at 12, task 1 there at 17; its data is
+    // at box 0 at 8.
+    assert_eq!(answer(""), "R,0,1,6\nR,1,0,13\nL,13\n");
+    assert_eq!(answer("S,0,12\n"), "R,0,1,6\nR,1,1,17\nL,17\n");
+    // The first copy finishes, the second one bars the box.
+    assert_eq!(answer("S,1,11\n"), "R,0,1,6\nR,1,0,13\nL,13\n");
+    assert_eq!(answer("S,0,12\nS,1,11\n"), "R,0,1,6\nR,1,-,-\nL,-\n");
+    // Both finish, task 1 does not.
+    assert_eq!(answer("S,0,12\nS,1,16\n"), "R,0,1,6\nR,1,-,-\nL,-\n");
+    assert_eq!(answer("S,0,12\nS,1,17\n"), "R,0,1,6\nR,1,1,17\nL,17\n");
+    // Not even the first.
+    assert_eq!(answer("S,1,5\n"), "R,0,-,-\nR,1,-,-\nL,-\n");
+}
+
+#[test]
+fn two_copies_on_the_receiving_box_and_one_elsewhere() {
+    let job = JOB.replace("3,1,1\n", "3,1,2\n");
+    let plan = "PLAN,2,3,2,0,0\nT,0,0,0,0,1,0,0,1,0,0\nT,1,1,0,0,1,0,0,2,0,0\n";
+    let answer = |stops: &str| replay(&job, plan, stops).expect("a good answer");
+    // Task 1 on box 1 at 17 and 22, on box 2 at 8 + 3.
+    assert_eq!(answer(""), "R,0,0,4\nR,1,2,11\nL,11\n");
+    assert_eq!(answer("S,2,10\n"), "R,0,0,4\nR,1,1,17\nL,17\n");
+    assert_eq!(answer("S,0,3\nS,2,10\n"), "R,0,1,6\nR,1,1,17\nL,17\n");
+    // Box 0 has finished task 0; box 1 has not, and takes no other data.
+    assert_eq!(answer("S,1,5\nS,2,10\n"), "R,0,0,4\nR,1,-,-\nL,-\n");
+    assert_eq!(answer("S,1,11\nS,2,10\n"), "R,0,0,4\nR,1,-,-\nL,-\n");
+    assert_eq!(answer("S,1,0\n"), "R,0,0,4\nR,1,2,11\nL,11\n");
 }
