@@ -4,10 +4,12 @@ use crate::damage::Damage;
 use crate::edges::EDGE_FAULTS;
 use crate::faults;
 use crate::jobs::{self, Edge, Job, MAX_FAILURES, MAX_PROCESSORS, Size};
+use crate::own::OWN_FAULTS;
 use crate::plans::{self, Plan};
 use crate::rng::Rng;
 use crate::stops::{self, Stop};
 use crate::tally::{Group, HEAVY, HEAVY_DOUBLED, LIMITS, LOWER, Tally};
+use crate::tally::{OWN_M, OWN_TICKS, OWN_TWICE};
 use crate::tools::{Second, Tool};
 use second::Verdict;
 use std::fmt::Write;
@@ -57,12 +59,13 @@ pub struct Cases<'a> {
 }
 
 /// A kind of case, how often it comes, and its name.
-const KINDS: [(Kind, usize, &str); 10] = [
+const KINDS: [(Kind, usize, &str); 11] = [
     (Kind::PlannersPlan, 20, "planner's plan"),
     (Kind::OtherPlan, 20, "other plan"),
     (Kind::DoubledPlan, 12, "doubled plan"),
     (Kind::WrongTick, 6, "wrong tick"),
     (Kind::WrongMakespan, 3, "wrong makespan"),
+    (Kind::AllCopies, 8, "ticks of all copies"),
     (Kind::WrongOrder, 4, "wrong order"),
     (Kind::WrongEdges, 15, "wrong edges"),
     (Kind::FaultsInOrder, 45, "faults in order"),
@@ -77,6 +80,7 @@ enum Kind {
     DoubledPlan,
     WrongTick,
     WrongMakespan,
+    AllCopies,
     WrongOrder,
     WrongEdges,
     FaultsInOrder,
@@ -110,6 +114,7 @@ pub fn run(seed: u64, tool: &dyn Tool, tally: &mut Tally) -> Outcome<u64> {
         Kind::DoubledPlan => cases.doubled_plan(),
         Kind::WrongTick => cases.wrong_tick(),
         Kind::WrongMakespan => cases.wrong_makespan(),
+        Kind::AllCopies => cases.all_copies(),
         Kind::WrongOrder => cases.wrong_order(),
         Kind::WrongEdges => cases.wrong_edges(),
         Kind::FaultsInOrder => cases.faults_in_order(),
@@ -127,7 +132,10 @@ impl Cases<'_> {
         let plan = plan.unwrap_or_default();
         self.compare_check(&text, &plan, &Known::Good)?;
         match Plan::parse(&plan) {
-            Some(parsed) => self.bears_losses(&job, &text, &parsed, &plan),
+            Some(parsed) => {
+                self.count_own(&job, &parsed);
+                self.bears_losses(&job, &text, &parsed, &plan)
+            }
             None => Err(Difference(format!("no plan: {}", shown(&plan)))),
         }
     }
@@ -137,14 +145,12 @@ impl Cases<'_> {
         let plan = plans::random(&mut self.rng, &job);
         let plan_text = plan.to_text();
         self.compare_check(&text, &plan_text, &Known::Good)?;
+        self.count_own(&job, &plan);
         self.bears_losses(&job, &text, &plan, &plan_text)
     }
 
     fn doubled_plan(&mut self) -> Outcome {
-        let (mut job, _) = self.job();
-        if job.processors() > 1 {
-            job.failures = job.failures.max(1);
-        }
+        let job = self.job_with_losses();
         let Some(plan) = plans::random_doubled(&mut self.rng, &job) else {
             return self.one_processor(&job);
         };
@@ -161,6 +167,7 @@ impl Cases<'_> {
             let stops = stops::random(&mut self.rng, &plan, &processors);
             self.compare_stopped(&text, &plan_text, &stops, Lengths::One)?;
         }
+        self.stopped_where_twice(&job, &text, &plan, &plan_text)?;
         self.sharpened(&job, &text, &plan, &plan_text, 2)
     }
 
@@ -194,21 +201,8 @@ impl Cases<'_> {
         *tick = if new == *tick { near[1] } else { new };
         let plan_text = plan.to_text();
         self.compare_check(&text, &plan_text, &Known::Refused(13))?;
-        // The replay does not read the ticks.
         let stops = self.some_stops(&job, &sound);
-        let answer = self.compare_replay(&text, &plan_text, &stops, &Known::Good, Lengths::One)?;
-        let right =
-            self.compare_replay(&text, &sound.to_text(), &stops, &Known::Good, Lengths::One)?;
-        if answer != right {
-            let (answer, right) = (answer.unwrap_or_default(), right.unwrap_or_default());
-            let what = format!(
-                "the plan's ticks change the replay\nto\n{}from\n{}",
-                shown(&answer),
-                shown(&right)
-            );
-            return Err(self.difference(&what, full(&text, &plan_text, &stops)));
-        }
-        Ok(())
+        self.same_replay(&text, &sound.to_text(), &plan_text, &stops)
     }
 
     fn wrong_makespan(&mut self) -> Outcome {
@@ -229,6 +223,23 @@ impl Cases<'_> {
         let stops = self.some_stops(&job, &plan);
         self.compare_replay(&text, &plan_text, &stops, &Known::Good, Lengths::One)?;
         Ok(())
+    }
+
+    /// Ticks or M as if a processor with its own copy of a predecessor waited
+    /// for the others too.
+    fn all_copies(&mut self) -> Outcome {
+        let job = self.job_with_losses();
+        let sound = self.sound_plan(&job);
+        let mut plan = sound.clone();
+        let (fault, name) = self.rng.pick(&OWN_FAULTS);
+        let number = fault.apply(&mut self.rng, &job, &mut plan);
+        self.tally
+            .count_number(Group::Own, name, number.unwrap_or(0));
+        let known = number.map_or(Known::Good, Known::Refused);
+        let (text, plan_text) = (job.to_text(), plan.to_text());
+        self.compare_check(&text, &plan_text, &known)?;
+        let stops = self.some_stops(&job, &sound);
+        self.same_replay(&text, &sound.to_text(), &plan_text, &stops)
     }
 
     /// A task before one of its predecessors.
@@ -429,6 +440,15 @@ impl Cases<'_> {
         (job, text)
     }
 
+    /// A job whose tasks have two copies or more, if it has two processors.
+    fn job_with_losses(&mut self) -> Job {
+        let (mut job, _) = self.job();
+        if job.processors() > 1 {
+            job.failures = job.failures.max(1);
+        }
+        job
+    }
+
     /// The planner's plan, or another one.
     fn sound_plan(&mut self, job: &Job) -> Plan {
         if self.rng.one_in(2) {
@@ -463,6 +483,17 @@ impl Cases<'_> {
             known = Known::Refused(13);
         }
         (plan, known)
+    }
+
+    /// Counts a sound plan whose ticks own copies change.
+    fn count_own(&mut self, job: &Job, plan: &Plan) {
+        let all = plan.waiting_for_all(job);
+        if all.lines != plan.lines {
+            self.tally.count(Group::Own, OWN_TICKS);
+        }
+        if all.upper != plan.upper {
+            self.tally.count(Group::Own, OWN_M);
+        }
     }
 
     fn some_stops(&mut self, job: &Job, plan: &Plan) -> Vec<u8> {
@@ -643,12 +674,51 @@ impl Cases<'_> {
         Err(self.difference(&what, full(text, plan_text, &stops)))
     }
 
+    /// Stops a processor that has a task twice and a successor of it, near a
+    /// finish of the two, and perhaps other processors.
+    fn stopped_where_twice(
+        &mut self,
+        job: &Job,
+        text: &[u8],
+        plan: &Plan,
+        plan_text: &[u8],
+    ) -> Outcome {
+        let places = received_twice(job, plan);
+        if places.is_empty() {
+            return Ok(());
+        }
+        for count in [0, 0, 1, 2] {
+            let (processor, tasks) = self.rng.pick(&places);
+            let mut others = self.rng.subset(job.processors(), count);
+            others.retain(|&other| other != processor);
+            let mut stops = stops::random(&mut self.rng, plan, &others);
+            stops.push(stops::near_tasks(&mut self.rng, plan, processor, &tasks));
+            stops.sort_by_key(|stop| stop.processor);
+            self.compare_stopped(text, plan_text, &stops, Lengths::One)?;
+            self.tally.count(Group::Own, OWN_TWICE);
+        }
+        Ok(())
+    }
+
     /// A job of one processor has no doubled plan; its plan is the one there is.
     fn one_processor(&mut self, job: &Job) -> Outcome {
         let (text, plan) = (job.to_text(), plans::random(&mut self.rng, job));
         self.compare_check(&text, &plan.to_text(), &Known::Good)?;
         self.sharpened(job, &text, &plan, &plan.to_text(), 3)
     }
+}
+
+/// The processors that have a task twice and a successor of it, each with the
+/// two tasks.
+fn received_twice(job: &Job, plan: &Plan) -> Vec<(usize, [usize; 2])> {
+    let mut places = Vec::new();
+    for Edge { from, to, .. } in &job.edges {
+        let receiving = plan.processors_of(*to);
+        let twice = plan.twice(*from).into_iter();
+        let both = twice.filter(|processor| receiving.contains(processor));
+        places.extend(both.map(|processor| (processor, [*from, *to])));
+    }
+    places
 }
 
 /// The R lines of an answer: processor and tick, or none.
@@ -723,6 +793,23 @@ impl Cases<'_> {
         };
         self.tally.count_number(Group::Replay, kind, number);
         Ok(answer.ok())
+    }
+
+    /// The replay does not read the ticks: it is the same for the sound plan
+    /// and for one with others.
+    fn same_replay(&mut self, job: &[u8], sound: &[u8], plan: &[u8], stops: &[u8]) -> Outcome {
+        let right = self.compare_replay(job, sound, stops, &Known::Good, Lengths::One)?;
+        let answer = self.compare_replay(job, plan, stops, &Known::Good, Lengths::One)?;
+        if answer == right {
+            return Ok(());
+        }
+        let (answer, right) = (answer.unwrap_or_default(), right.unwrap_or_default());
+        let what = format!(
+            "the plan's ticks change the replay\nto\n{}from\n{}",
+            shown(&answer),
+            shown(&right)
+        );
+        Err(self.difference(&what, full(job, plan, stops)))
     }
 
     /// Compares verdicts; the doubled task that was named, if any.

@@ -6,6 +6,7 @@ pub mod damage;
 pub mod edges;
 pub mod faults;
 pub mod jobs;
+pub mod own;
 pub mod plans;
 pub mod rng;
 pub mod stops;

@@ -5,20 +5,20 @@ use crate::jobs::Job;
 use crate::rng::Rng;
 use std::fmt::Write;
 
-#[derive(Clone, Debug, Default)]
+#[derive(Clone, Debug, Default, PartialEq, Eq)]
 pub struct Replica {
     pub processor: usize,
     pub early: u64,
     pub late: u64,
 }
 
-#[derive(Clone, Debug)]
+#[derive(Clone, Debug, PartialEq, Eq)]
 pub struct Line {
     pub task: usize,
     pub replicas: Vec<Replica>,
 }
 
-#[derive(Clone, Debug)]
+#[derive(Clone, Debug, PartialEq, Eq)]
 pub struct Plan {
     pub tasks: usize,
     pub processors: usize,
@@ -26,6 +26,15 @@ pub struct Plan {
     pub lower: u64,
     pub upper: u64,
     pub lines: Vec<Line>,
+}
+
+/// Whose data a processor waits for if it has its own copy of a predecessor.
+#[derive(Clone, Copy)]
+enum Waits {
+    /// That copy's alone; of two there the first one's.
+    ForOwn,
+    /// Every copy's.
+    ForAll,
 }
 
 impl Plan {
@@ -108,13 +117,29 @@ impl Plan {
         processors.dedup();
         processors
     }
+
+    /// The processors that have a task twice.
+    pub fn twice(&self, task: usize) -> Vec<usize> {
+        let line = self.lines.iter().find(|line| line.task == task);
+        let neighbours = line.into_iter().flat_map(|line| line.replicas.windows(2));
+        neighbours
+            .filter(|pair| pair[0].processor == pair[1].processor)
+            .map(|pair| pair[0].processor)
+            .collect()
+    }
+
+    /// The same lines with the ticks, M* and M that they would have if a
+    /// processor with its own copy of a predecessor waited for the others too.
+    pub fn waiting_for_all(&self, job: &Job) -> Plan {
+        with_ticks(job, self.lines.clone(), Waits::ForAll)
+    }
 }
 
 /// A plan of `job` in which the line at each place has the given processors.
 pub fn with_processors(rng: &mut Rng, job: &Job, at: impl Fn(usize) -> Vec<usize>) -> Plan {
     let order = random_order(rng, job).into_iter().enumerate();
     let lines = order.map(|(place, task)| line(task, at(place))).collect();
-    with_ticks(job, lines)
+    with_ticks(job, lines, Waits::ForOwn)
 }
 
 /// A random plan of `job`: any order that the edges allow, any different
@@ -124,7 +149,7 @@ pub fn random(rng: &mut Rng, job: &Job) -> Plan {
         .into_iter()
         .map(|task| line(task, rng.subset(job.processors(), job.replicas())))
         .collect();
-    with_ticks(job, lines)
+    with_ticks(job, lines, Waits::ForOwn)
 }
 
 /// A plan of which at least one line has a processor twice; none if tasks
@@ -153,7 +178,7 @@ pub fn random_doubled(rng: &mut Rng, job: &Job) -> Option<Plan> {
         }
         lines.push(line(task, processors));
     }
-    let mut plan = with_ticks(job, lines);
+    let mut plan = with_ticks(job, lines, Waits::ForOwn);
     if rng.one_in(3) {
         for replica in plan.lines.iter_mut().flat_map(|line| &mut line.replicas) {
             replica.early = rng.within(0..=u64::from(u32::MAX));
@@ -198,7 +223,7 @@ fn random_order(rng: &mut Rng, job: &Job) -> Vec<usize> {
 }
 
 /// The plan of these lines with the ticks of the equations.
-fn with_ticks(job: &Job, lines: Vec<Line>) -> Plan {
+fn with_ticks(job: &Job, lines: Vec<Line>, waits: Waits) -> Plan {
     let mut predecessors = vec![Vec::new(); job.tasks()];
     for edge in &job.edges {
         predecessors[edge.to].push((edge.from, edge.volume));
@@ -221,9 +246,9 @@ fn with_ticks(job: &Job, lines: Vec<Line>) -> Plan {
             let mut late_start = late_ready[here];
             for &(predecessor, volume) in &predecessors[line.task] {
                 let message = |r: &Replica| volume * job.delays[r.processor][here];
-                let copies = done[predecessor].iter();
-                let first = copies.clone().map(|r| r.early + message(r)).min();
-                let last = copies.map(|r| r.late + message(r)).max();
+                let copies = counted(&done[predecessor], here, waits);
+                let first = copies.iter().map(|r| r.early + message(r)).min();
+                let last = copies.iter().map(|r| r.late + message(r)).max();
                 early_start = early_start.max(first.expect("a copy"));
                 late_start = late_start.max(last.expect("a copy"));
             }
@@ -241,4 +266,13 @@ fn with_ticks(job: &Job, lines: Vec<Line>) -> Plan {
         }
     }
     plan
+}
+
+/// The copies of a predecessor whose data counts on the processor `here`.
+fn counted(copies: &[Replica], here: usize, waits: Waits) -> &[Replica] {
+    let own = copies.iter().position(|r| r.processor == here);
+    match (waits, own) {
+        (Waits::ForOwn, Some(own)) => &copies[own..=own],
+        _ => copies,
+    }
 }

@@ -50,6 +50,22 @@ fn tick(rng: &mut Rng, plan: &Plan, processor: usize) -> u64 {
     }
 }
 
+/// A stop near a finish that the plan gives one of `tasks` on `processor`.
+pub fn near_tasks(rng: &mut Rng, plan: &Plan, processor: usize, tasks: &[usize]) -> Stop {
+    let lines = plan.lines.iter().filter(|line| tasks.contains(&line.task));
+    let finishes: Vec<u64> = lines
+        .flat_map(|line| &line.replicas)
+        .filter(|r| r.processor == processor)
+        .map(|r| r.early)
+        .collect();
+    let finish = rng.pick(&finishes);
+    let (tick, _) = near(rng, finish);
+    Stop {
+        processor,
+        tick: tick.min(u64::from(u32::MAX)),
+    }
+}
+
 /// `finish`, or its neighbour on either side, and which.
 pub fn near(rng: &mut Rng, finish: u64) -> (u64, &'static str) {
     rng.pick(&[

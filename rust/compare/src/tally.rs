@@ -3,6 +3,7 @@
 use crate::damage::DAMAGES;
 use crate::edges::EDGE_FAULTS;
 use crate::jobs::SHAPES;
+use crate::own::OWN_FAULTS;
 use std::collections::BTreeMap;
 use std::fmt;
 
@@ -16,6 +17,7 @@ pub enum Group {
     Limit,
     Edge,
     Damage,
+    Own,
     Stop,
     Plan,
     Check,
@@ -32,6 +34,7 @@ impl Group {
             Group::Limit => "limits",
             Group::Edge => "edges",
             Group::Damage => "damages",
+            Group::Own => "own copies",
             Group::Stop => "stops",
             Group::Plan => "plan",
             Group::Check => "check",
@@ -56,7 +59,8 @@ impl Tally {
         *self.counts.entry((group, kind, number)).or_default() += 1;
     }
 
-    /// One line: good answers, each refusal number, and output lengths.
+    /// One line: good answers, each refusal number, output lengths, and plans
+    /// with ticks that own copies change.
     pub fn summary(&self) -> String {
         let sum = |kept: &dyn Fn(&Key) -> bool| -> u64 {
             let kept = self.counts.iter().filter(|(key, _)| kept(key));
@@ -76,6 +80,8 @@ impl Tally {
             let count = sum(&|key| key.0 == Group::Length && key.1 == length);
             parts.push(format!("{length} {count}"));
         }
+        let count = sum(&|key| key.0 == Group::Own && key.1 == OWN_TICKS);
+        parts.push(format!("{OWN_TICKS} {count}"));
         parts.join(", ")
     }
 
@@ -159,6 +165,12 @@ fn required() -> Vec<Key> {
     for (_, damage) in DAMAGES {
         add(Group::Damage, damage, &[0]);
     }
+    for (fault, kind) in OWN_FAULTS {
+        add(Group::Own, kind, &[0, fault.number()]);
+    }
+    for kind in [OWN_TICKS, OWN_M, OWN_TWICE] {
+        add(Group::Own, kind, &[0]);
+    }
     for limit in LIMITS.into_iter().chain([HEAVY, HEAVY_DOUBLED]) {
         add(Group::Limit, limit, &[0]);
     }
@@ -191,3 +203,7 @@ pub const LIMITS: [&str; 11] = [
 pub const LOWER: &str = "to a lower task";
 pub const HEAVY: &str = "ticks above 520,000,000";
 pub const HEAVY_DOUBLED: &str = "ticks of a doubled plan above 2,000,000,000";
+
+pub const OWN_TICKS: &str = "plans whose late ticks own copies change";
+pub const OWN_M: &str = "plans whose M own copies change";
+pub const OWN_TWICE: &str = "stops where a predecessor is twice";
