@@ -43,8 +43,8 @@ const SIZES: [(usize, usize, usize, usize); 7] = [
 /// How many jobs of each size have a random shape.
 const SHAPED: usize = 40;
 
-/// One call of one of the functions.
-type Call<'a> = &'a mut dyn FnMut(&dyn Tool);
+/// One call of one of the functions of the implementation at a place.
+type Call<'a> = &'a mut dyn FnMut(usize, &dyn Tool);
 
 struct Texts {
     name: String,
@@ -135,17 +135,22 @@ fn shapes(tools: &[(&str, &dyn Tool)], rng: &mut Rng) {
 /// For each function the least seconds of one call, for each implementation.
 fn times(tools: &[(&str, &dyn Tool)], texts: &Texts) -> [(&'static str, Vec<f64>); 3] {
     let mut out = vec![0; 65_536];
-    let plan = race(tools, &mut |tool| {
+    // Each checks a plan of its own: an earlier library may have other ticks.
+    let plans: Vec<Vec<u8>> = tools
+        .iter()
+        .map(|(_, tool)| drawn_up(*tool, &texts.job))
+        .collect();
+    let plan = race(tools, &mut |_, tool| {
         let mut written = 0;
         let number = tool.plan(black_box(&texts.job), &mut out, &mut written);
         assert_eq!(black_box(number), 0);
     });
-    let check = race(tools, &mut |tool| {
+    let check = race(tools, &mut |place, tool| {
         let mut task = 0;
-        let number = tool.check(black_box(&texts.job), &texts.plan, &mut task);
+        let number = tool.check(black_box(&texts.job), &plans[place], &mut task);
         assert_eq!(black_box(number), 0);
     });
-    let replay = race(tools, &mut |tool| {
+    let replay = race(tools, &mut |_, tool| {
         let mut written = 0;
         let mut out = [0; 8_192];
         let Texts {
@@ -180,12 +185,18 @@ fn name(job: &Job) -> String {
     )
 }
 
-/// The job with its plan and as many stops as it bears.
-fn texts(name: String, job: Vec<u8>, rng: &mut Rng) -> Texts {
+/// The plan of `job`.
+fn drawn_up(tool: &dyn Tool, job: &[u8]) -> Vec<u8> {
     let mut plan = vec![0; 65_536];
     let mut written = 0;
-    assert_eq!(Second.plan(&job, &mut plan, &mut written), 0, "{name}");
+    assert_eq!(tool.plan(job, &mut plan, &mut written), 0);
     plan.truncate(written as usize);
+    plan
+}
+
+/// The job with its plan and as many stops as it bears.
+fn texts(name: String, job: Vec<u8>, rng: &mut Rng) -> Texts {
+    let plan = drawn_up(&Second, &job);
     let parsed = Plan::parse(&plan).expect("a plan");
     let stopped = rng.subset(parsed.processors, parsed.failures);
     let stops = stops::to_text(&stops::random(rng, &parsed, &stopped));
@@ -213,24 +224,25 @@ fn plain_plan(texts: &Texts) -> f64 {
 fn race(tools: &[(&str, &dyn Tool)], call: Call) -> Vec<f64> {
     let mut best = vec![f64::INFINITY; tools.len()];
     let mut counts = vec![1u32; tools.len()];
-    for (&(_, tool), count) in tools.iter().zip(&mut counts) {
-        while time(*count, tool, call) < TURN {
-            *count *= 2;
+    for (place, &(_, tool)) in tools.iter().enumerate() {
+        while time(counts[place], place, tool, call) < TURN {
+            counts[place] *= 2;
         }
     }
     for _ in 0..REPETITIONS {
-        for ((&(_, tool), &count), best) in tools.iter().zip(&counts).zip(&mut best) {
-            let seconds = time(count, tool, call).as_secs_f64() / f64::from(count);
-            *best = best.min(seconds);
+        for (place, &(_, tool)) in tools.iter().enumerate() {
+            let count = counts[place];
+            let seconds = time(count, place, tool, call).as_secs_f64() / f64::from(count);
+            best[place] = best[place].min(seconds);
         }
     }
     best
 }
 
-fn time(count: u32, tool: &dyn Tool, call: Call) -> Duration {
+fn time(count: u32, place: usize, tool: &dyn Tool, call: Call) -> Duration {
     let start = Instant::now();
     for _ in 0..count {
-        call(tool);
+        call(place, tool);
     }
     start.elapsed()
 }

@@ -13,6 +13,9 @@ struct Job {
     outgoing: Vec<Vec<(usize, u64)>>,
 }
 
+/// A box with its early and its late finish of a task.
+type Placed = (usize, u64, u64);
+
 fn read(text: &[u8]) -> Option<Job> {
     let s = std::str::from_utf8(text).ok()?;
     let mut lines = s.lines();
@@ -45,6 +48,14 @@ fn read(text: &[u8]) -> Option<Job> {
         incoming,
         outgoing,
     })
+}
+
+/// The copies whose data counts on box p: its own alone, if it has one.
+fn counting(copies: &[Placed], p: usize) -> &[Placed] {
+    match copies.iter().position(|copy| copy.0 == p) {
+        Some(own) => &copies[own..=own],
+        None => copies,
+    }
 }
 
 pub fn plan(text: &[u8]) -> Option<String> {
@@ -85,7 +96,7 @@ pub fn plan(text: &[u8]) -> Option<String> {
     let mut blocked: Vec<usize> = j.incoming.iter().map(|i| i.len()).collect();
     let mut priority: Vec<u64> = bottom.clone();
     let mut free: Vec<usize> = (0..v).filter(|&t| blocked[t] == 0).collect();
-    let mut copies: Vec<Vec<(usize, u64, u64)>> = vec![Vec::new(); v];
+    let mut copies: Vec<Vec<Placed>> = vec![Vec::new(); v];
     let mut ready = vec![(0u64, 0u64); m];
     let mut order = Vec::with_capacity(v);
     for _ in 0..v {
@@ -99,7 +110,7 @@ pub fn plan(text: &[u8]) -> Option<String> {
                 let data = j.incoming[t]
                     .iter()
                     .map(|&(u, c)| {
-                        copies[u]
+                        counting(&copies[u], p)
                             .iter()
                             .map(|&(q, e, _)| e + c * j.delay[q][p])
                             .min()
@@ -117,7 +128,7 @@ pub fn plan(text: &[u8]) -> Option<String> {
             let data = j.incoming[t]
                 .iter()
                 .map(|&(u, c)| {
-                    copies[u]
+                    counting(&copies[u], p)
                         .iter()
                         .map(|&(q, _, l)| l + c * j.delay[q][p])
                         .max()
