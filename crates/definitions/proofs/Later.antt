@@ -2,7 +2,7 @@
 use mathlib.Core.Path.{_≡_, refl, ap, _∙_, sym}
 use mathlib.Core.Logic.{inl, inr, ⊎-elim}
 use mathlib.Core.List.{List, [], _∷_, map}
-use Prim.Native.Nat.{ℕ, _+_, max, min}
+use Prim.Native.Nat.{ℕ, _+_, _≤_, max, min}
 use native.Mathlib.Omega.{arith}
 use Rattle.definitions.specs.Lists.{In}
 use Rattle.definitions.specs.Times.{Time, tick, never, later, sooner, after, least, largest, unlessStopped}
@@ -24,6 +24,25 @@ later-assoc never y z = refl
 pub later-zero : (x : Time) → later (tick 0) x ≡ x
 later-zero (tick x) = let e : max 0 x ≡ x = omega arith in ap tick e
 later-zero never = refl
+
+pub sooner-assoc : (x y z : Time) → sooner (sooner x y) z ≡ sooner x (sooner y z)
+sooner-assoc (tick x) (tick y) (tick z) = let e : min (min x y) z ≡ min x (min y z) = omega arith in ap tick e
+sooner-assoc (tick x) (tick y) never = refl
+sooner-assoc (tick x) never z = refl
+sooner-assoc never y z = refl
+
+pub sooner-never : (x : Time) → sooner x never ≡ x
+sooner-never (tick x) = refl
+sooner-never never = refl
+
+pub after-zero : (x : Time) → after 0 x ≡ x
+after-zero (tick x) = let e : x + 0 ≡ x = omega arith in ap tick e
+after-zero never = refl
+
+pub after-sooner : (n : ℕ) (x y : Time) → after n (sooner x y) ≡ sooner (after n x) (after n y)
+after-sooner n (tick x) (tick y) = let e : min x y + n ≡ min (x + n) (y + n) = omega arith in ap tick e
+after-sooner n (tick x) never = refl
+after-sooner n never y = refl
 
 -- No later ------------------------------------------------------------------------------------------------------
 
@@ -57,6 +76,10 @@ afters-no-later n (tick x) never h = refl
 afters-no-later n never (tick y) h = let z : _≡_ {A = ℕ} 0 1 = cc in absurd (omega arith)
 afters-no-later n never never h = refl
 
+pub more-no-later : (m n : ℕ) (x : Time) → m ≤ n → NoLater (after m x) (after n x)
+more-no-later m n (tick x) h = let e : max (x + m) (x + n) ≡ x + n = omega arith in ap tick e
+more-no-later m n never h = refl
+
 never-last : (x : Time) → NoLater x never
 never-last (tick x) = refl
 never-last never = refl
@@ -73,6 +96,23 @@ sooner-second : (x y : Time) → NoLater (sooner x y) y
 sooner-second (tick x) (tick y) = let e : max (min x y) y ≡ y = omega arith in ap tick e
 sooner-second (tick x) never = refl
 sooner-second never y = no-later-self y
+
+no-later-sooner : (x y z : Time) → NoLater z x → NoLater z y → NoLater z (sooner x y)
+no-later-sooner (tick x) (tick y) (tick z) h g =
+    let a : max z x ≡ x = cc in let b : max z y ≡ y = cc in let e : max z (min x y) ≡ min x y = omega arith in ap tick e
+no-later-sooner (tick x) (tick y) never h g = let z : _≡_ {A = ℕ} 0 1 = cc in absurd (omega arith)
+no-later-sooner (tick x) never z h g = h
+no-later-sooner never y z h g = g
+
+pub sooner-no-later : (x y u v : Time) → NoLater x u → NoLater y v → NoLater (sooner x y) (sooner u v)
+sooner-no-later x y u v h g =
+    no-later-sooner u v (sooner x y) (no-later-then (sooner x y) x u (sooner-first x y) h) (no-later-then (sooner x y) y v (sooner-second x y) g)
+
+-- Of two times the one that is no later is the sooner.
+pub sooner-of : (x y : Time) → NoLater x y → sooner y x ≡ x
+sooner-of (tick x) (tick y) h = let a : max x y ≡ y = cc in let e : min y x ≡ x = omega arith in ap tick e
+sooner-of (tick x) never h = refl
+sooner-of never y h = sooner-never y ∙ sym h
 
 -- The least is no later than any; none is later than the largest, nor is the largest if all are not.
 pub least-no-later : (x : Time) (xs : List Time) → In x xs → NoLater (least xs) x

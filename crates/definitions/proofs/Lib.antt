@@ -15,6 +15,7 @@ pub mod RoundTrip
 pub mod Chosen
 pub mod Placing
 pub mod Shelf
+pub mod Arrivals
 pub mod Bounds
 pub mod Bytes
 pub mod Obeying

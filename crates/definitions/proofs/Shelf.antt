@@ -27,7 +27,7 @@ use Rattle.definitions.proofs.Doubled.{placements-in}
 use Rattle.definitions.proofs.Chosen.{chosen-below}
 use Rattle.definitions.proofs.Guarantee.{Come}
 use Rattle.definitions.proofs.Placing.{placed-ordered}
-use Rattle.definitions.proofs.Later.{later-comm, later-assoc, later-zero, no-later-self, no-later-then, first-no-later, both-no-later, later-no-later, after-no-later, afters-no-later, stopped-no-later, least-no-later, no-later-largest, largest-no-later, largests-no-later}
+use Rattle.definitions.proofs.Later.{later-comm, later-assoc, later-zero, after-zero, no-later-self, no-later-then, first-no-later, both-no-later, later-no-later, after-no-later, afters-no-later, stopped-no-later, least-no-later, no-later-largest, largest-no-later, largests-no-later}
 
 -- What is ready ---------------------------------------------------------------------------------------------------
 
@@ -102,14 +102,7 @@ later-alike {A} r f g (x ∷ xs) h = by (h x (inl refl)) (later-alike r f g xs (
 module _ (l : Limits) (j : Job) (facts : JobFacts l j) where
   -- A replica's data needs no cable on its own processor.
   pub own-arrival : (e : Edge) (p : ℕ) (x : Time) → p < j .processors → after (message j e p p) x ≡ x
-  own-arrival e p x h = by x
-    where
-      none : message j e p p ≡ 0
-      none = rw (facts .delay-self p h, mul-zero (e .volume))
-
-      by : (x : Time) → after (message j e p p) x ≡ x
-      by (tick x) = let q : x + message j e p p ≡ x = omega (arith, none) in ap tick q
-      by never = refl
+  own-arrival e p x h = rw (facts .delay-self p h, mul-zero (e .volume)) (after-zero x)
 
   module _ (placed : List Outcome) (s : Settled j placed) (p : ℕ) (h : p < j .processors) where
     -- Two times are the same, or both have come when p is ready.

@@ -26,8 +26,8 @@ pub record Tabled (l : Limits) : Type 0 where
   pub round-range : l .tasks * (replicasMost * lineTicks l) ≤ l .tick
   -- a message and a run after a short tick fit 32 bits, of which the greatest number is never
   pub lane-fits : lastShort + lineTicks l < 2 ^ 32 - 1
-  -- a message after any tick fits a cell, of which the greatest number is never
-  pub cell-fits : l .tick + messageMost l < 2 ^ 64 - 1
+  -- a message after any tick is a whole number that a float holds, and so fits a cell, of which the greatest number is never
+  pub cell-fits : l .tick + messageMost l ≤ 2 ^ 53
 
 pub tabled : Tabled document01
 tabled =

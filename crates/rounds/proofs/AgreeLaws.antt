@@ -1,6 +1,7 @@
 -- Ticks that are the equations', line by line; the clocks; and the walk over lines whose ticks are.
 use Rattle.lists.proofs.Prelude.{_≡_, refl, ap, _∙_, sym, ⊎-elim, List, [], map, reverse, Bool, true, false, ℕ, zero, suc, _+_, _*_, _<_, _≤_, arith, add-one, replicate, length, if_then_else_, nth, below, countFrom, In, Limits, Replica, Line, tick, least, largest, times, Outcome, outcome, start, stopTime, finish, walk, placements, earlies, lates, placementOf, tickOf, doubledTasks, ticksAgree, PlacedWithin, Ordered}
 use mathlib.Core.List.{reverseAux-eq}
+use lib.Ieee.{Float}
 use Rattle.definitions.specs.Facts.{Apart}
 use Rattle.definitions.specs.Refusals.{replicasOf, sameTimes}
 use Rattle.definitions.specs.Obeys.{writtenOutcome, written}
@@ -12,9 +13,9 @@ use Rattle.heads.specs.Layout.{rowAt, processorAt, earlyAt, lateAt, timeAt, lan
 use Rattle.jobs.specs.Held.{jobIn, JobHeld}
 use Rattle.jobs.specs.Tables.{lineTicks}
 use Rattle.ticks.specs.Cells.{timeIn}
-use Rattle.plans.specs.Lines.{replicaIn, rowOutcomes, placedIn, linesIn, LinesHeld}
+use Rattle.plans.specs.Lines.{replicaIn, rowOutcomes, placedIn, linesIn}
 use Rattle.rounds.specs.Schedule.{choiceOf, ShortTo}
-use Rattle.rounds.specs.Arrivals.{DelayTable, BothSupplied, ShortClocks, BothFinish}
+use Rattle.rounds.specs.Arrivals.{Ended, Supplied, clockTimes, BothSupplied, ShortClocks, BothFinish}
 use Rattle.rounds.specs.Clocks.{SettledTo, finishOn}
 use Rattle.plans.specs.Loading.{lineIn, planIn, PlanHeld}
 use Rattle.plans.proofs.Lines.{lines-below, replica-of, in-replicas}
@@ -25,6 +26,7 @@ use Rattle.lists.proofs.Upward.{map-more}
 use Rattle.jobs.proofs.Held.{tasks-in, processors-in, sizes}
 use Rattle.rounds.proofs.TimeLaws.{time-tick}
 use Rattle.rounds.proofs.Placed.{PredecessorsPlacedBy, in-row}
+use Rattle.rounds.proofs.EndLaws.{supplied-clocks}
 use Rattle.rounds.proofs.ClockLaws.{outset-clocks}
 use Rattle.rounds.proofs.PlanLines.{line-among, line-predecessors}
 use Rattle.rounds.proofs.CheckLaws.{none-doubled}
@@ -78,15 +80,14 @@ module _ {lim : Limits} {capacity : ℕ} {mem : List ℕ} (h : PlanHeld lim capa
 
 module _ {lim : Limits} {capacity : ℕ} {mem : List ℕ} (h : PlanHeld lim capacity mem) (k : ℕ) (l : k < nth mem 0) (s : ShortTo lim capacity k mem) where
   -- What the code asks for, to compute the finishes of line k.
-  pub finishes-asked : (delays : List ℕ) (clocks : Clocks) → DelayTable lim delays mem → ClocksAfter capacity k mem clocks
-      → ((n : ℕ) × LinesHeld lim capacity n mem) × DelayTable lim delays mem × (nth mem (rowAt capacity k) < nth mem 0)
-      × BothSupplied capacity (nth mem (rowAt capacity k)) mem × ShortClocks clocks mem
-  finishes-asked delays clocks d c = (
-    (nth mem 0, h .standing),
-    d,
+  pub finishes-asked : {ends : List Float} {clocks : Clocks} → Ended lim capacity k mem ends → ClocksAfter capacity k mem clocks → SettledTo capacity k mem
+      → (nth mem (rowAt capacity k) < nth mem 0) × BothSupplied capacity (nth mem (rowAt capacity k)) mem × ShortClocks clocks mem
+      × Supplied lim capacity (nth mem (rowAt capacity k)) (clockTimes clocks) mem ends
+  finishes-asked e c z = (
     h .standing .task-of k l,
     predecessors-short (h .standing) (omega arith) s (nth mem (rowAt capacity k)) (predecessors-here h k l),
     clocks-short (h .standing) (omega arith) s c,
+    supplied-clocks (h .standing) (omega arith) (nth mem (rowAt capacity k)) (predecessors-here h k l) e z c,
   )
 
   -- If the ticks of line k are the equations', they are short too.
@@ -128,9 +129,9 @@ pub record Compared (lim : Limits) (capacity k a : ℕ) (mem es ls : List ℕ) (
   pub agree : AgreesTo capacity k c mem
 
 pub compared-none : {lim : Limits} {capacity k a : ℕ} {mem es ls : List ℕ} {clocks : Clocks} → PlanHeld lim capacity mem → k < nth mem 0 → ClocksAfter capacity k mem clocks
-    → SettledTo capacity k mem → a ≡ rowAt capacity k
+    → a ≡ rowAt capacity k
     → BothFinish capacity (nth mem a) clocks mem es ls → Compared lim capacity k a mem es ls 0
-compared-none {capacity} {k} {a} {mem} {es} {ls} {clocks} h l s z e b₀ =
+compared-none {capacity} {k} {a} {mem} {es} {ls} {clocks} h l s e b₀ =
     record { plan = h; line = l; row = e; found = found; agree = λ late i g. absurd (omega arith) }
   where
     b : BothFinish capacity (nth mem (rowAt capacity k)) clocks mem es ls
@@ -139,10 +140,10 @@ compared-none {capacity} {k} {a} {mem} {es} {ls} {clocks} h l s z e b₀ =
     found : (late : Bool) (i : ℕ) → i < nth mem 3 + 1 → tick (nth (if late then ls else es) (nth mem (processorAt (rowAt capacity k) i))) ≡ finishIn capacity late k i mem
     found true i g =
         let m = h .standing .row k l .processor-of i g in
-        b .late-finish _ m ∙ finish-at (h .standing) (omega arith) z true (nth mem (rowAt capacity k)) _ _ (predecessors-here h k l) m (s .late-ready _ (rw (processors-in mem) m))
+        b .late-finish _ m ∙ finish-at (h .standing) (omega arith) true (nth mem (rowAt capacity k)) _ _ (predecessors-here h k l) (s .late-ready _ (rw (processors-in mem) m))
     found false i g =
         let m = h .standing .row k l .processor-of i g in
-        b .early-finish _ m ∙ finish-at (h .standing) (omega arith) z false (nth mem (rowAt capacity k)) _ _ (predecessors-here h k l) m (s .early-ready _ (rw (processors-in mem) m))
+        b .early-finish _ m ∙ finish-at (h .standing) (omega arith) false (nth mem (rowAt capacity k)) _ _ (predecessors-here h k l) (s .early-ready _ (rw (processors-in mem) m))
 
 module _ {lim : Limits} {capacity k a c : ℕ} {mem es ls : List ℕ} (x : Compared lim capacity k a mem es ls c) where
   pub compared-all : nth mem 3 + 1 ≤ c → LineAgrees capacity k mem

@@ -1,13 +1,14 @@
 -- The clocks, replica by replica and line by line.
-use Rattle.lists.proofs.Prelude.{_≡_, refl, ap, _∙_, sym, List, _∷_, _++_, [], Bool, true, false, ℕ, _+_, _<_, _≤_, arith, add-one, eqb-true, eqb-false, lt-ltb, eqb, ltb, length, set, length-set, replicate, length-replicate, getD-replicate, getD-set-same, getD-set-other, if_then_else_, nth, Job, Limits, tick, Outcome, ready}
+use Rattle.lists.proofs.Prelude.{_≡_, refl, ap, _∙_, sym, List, _∷_, _++_, [], Bool, true, false, ℕ, zero, suc, _+_, _*_, _^_, _%_, _<_, _≤_, arith, add-one, eqb-true, eqb-false, lt-ltb, eqb, ltb, length, set, length-set, replicate, length-replicate, getD-replicate, getD-set-same, getD-set-other, if_then_else_, nth, Job, Limits, tick, Outcome, ready}
 use Rattle.definitions.proofs.Ready.{first-ready}
 use Rattle.heads.specs.Layout.{rowAt, processorAt, earlyAt, lateAt, timeAt, lanesMost}
 use Rattle.jobs.specs.Held.{jobIn}
 use Rattle.plans.specs.Lines.{rowOutcomes, placedIn, LinesHeld}
 use Rattle.rounds.specs.Schedule.{ShortTo}
-use Rattle.rounds.specs.Clocks.{earliesIn, latesIn, ClocksHeld, LineTimed}
+use Rattle.rounds.specs.Clocks.{earliesIn, latesIn, ClocksHeld, LineTimed, Advanced}
 use Rattle.ticks.specs.declared.clocks.Clocks.{Clocks}
 use Rattle.ticks.specs.Cells.{timeIn}
+use Rattle.ticks.specs.Lanes.{advanced}
 use Rattle.jobs.proofs.Held.{sizes}
 use Rattle.rounds.proofs.TimeLaws.{time-tick, round-most}
 
@@ -48,6 +49,28 @@ clocks-next {a} {mem} h clocks next c g e f es ls s =
     let late = clock-more (jobIn mem) (clocks .late) (rowOutcomes true a c mem ++ ls) (at true) (nth mem (lateAt a c)) (jobIn mem .processors) (omega arith)
     (time-tick (nth mem (lateAt a c)) (λ z. omega arith)) f (s .late-size) (s .late-ready) in
     rw (add-one c) (record { early-size = early .0; late-size = late .0; early-ready = early .1; late-ready = late .1 })
+
+-- The clocks after the first c replicas of the line, whose cells these are.
+pub clocks-advanced : {lim : Limits} {a : ℕ} {mem : List ℕ} → LineTimed lim a mem → lim .tick < 2 ^ 32 → (cells : List ℕ)
+    → ((i : ℕ) → i < 3 * (nth mem 3 + 1) → nth cells i ≡ nth mem (a + (1 + i))) → (clocks : Clocks) (c : ℕ) → c ≤ nth mem 3 + 1
+    → (next : Clocks) → next .early ≡ advanced 1 c cells (clocks .early) → next .late ≡ advanced 2 c cells (clocks .late) → Advanced a c mem clocks next
+unfolding advanced
+clocks-advanced {a = a} {mem} h b cells k clocks zero l next e f es ls s =
+    let w = clocks-first clocks a mem es ls s in
+    record { early-size = rw e (w .early-size); late-size = rw f (w .late-size); early-ready = rw e (w .early-ready); late-ready = rw f (w .late-ready) }
+clocks-advanced {lim} {a} {mem} h b cells k clocks (suc c) l next e f es ls s =
+    let before : Clocks = record { early = advanced 1 c cells (clocks .early); late = advanced 2 c cells (clocks .late) } in
+    let (x, y) = h .ticks c (omega arith) in
+    let p : nth cells (3 * c) ≡ nth mem (processorAt a c) = k (3 * c) (omega arith) in
+    let i : a + (1 + (3 * c + 1)) ≡ earlyAt a c = omega arith in
+    let j : a + (1 + (3 * c + 2)) ≡ lateAt a c = omega arith in
+    let u : nth cells (3 * c + 1) ≡ nth mem (earlyAt a c) = k (3 * c + 1) (omega arith) ∙ ap (nth mem) i in
+    let v : nth cells (3 * c + 2) ≡ nth mem (lateAt a c) = k (3 * c + 2) (omega arith) ∙ ap (nth mem) j in
+    let m : nth mem (earlyAt a c) % 2 ^ 32 ≡ nth mem (earlyAt a c) = omega arith in
+    let n : nth mem (lateAt a c) % 2 ^ 32 ≡ nth mem (lateAt a c) = omega arith in
+    rw (← add-one c)
+    (clocks-next h before next c (omega arith) (e ∙ rw (p, u, m)) (f ∙ rw (p, v, n)) es ls
+    (clocks-advanced h b cells k clocks c (omega arith) before refl refl es ls s))
 
 -- A line among those whose ticks are short.
 pub line-timed : {lim : Limits} {capacity n i : ℕ} {mem : List ℕ} → LinesHeld lim capacity n mem → i ≤ n → ShortTo lim capacity i mem → (k : ℕ) → k < i → LineTimed lim (rowAt capacity k) mem

@@ -1,11 +1,14 @@
 pub mod AgreeLaws
 pub mod Bounds
+pub mod CastLaws
 pub mod CheckLaws
 pub mod ClockLaws
 pub mod DrawLaws
 pub mod Drawing
+pub mod EndLaws
 pub mod FirstLaws
 pub mod FreeLaws
+pub mod LaneLoops
 pub mod LevelLaws
 pub mod Longest
 pub mod MakespanLaws
@@ -22,9 +25,9 @@ pub mod ResultLaws
 pub mod RoundLaws
 pub mod RowSums
 pub mod RunLaws
-pub mod ShortLaws
 pub mod Tables
 pub mod TimeLaws
+pub mod TimeTables
 pub mod TopLaws
 pub mod VerdictLaws
 pub mod Walks

@@ -2,6 +2,7 @@
 use Rattle.lists.proofs.Prelude.{_≡_, refl, ap, _∙_, sym, _⊎_, inl, inr, ⊎-elim, List, [], _∷_, _++_, map, map-map, reverse, reverseAux, Bool, true, false, not, _&&_, ℕ, zero, suc, _+_, _*_, _-_, _<_, _≤_, arith, add-zero, add-one, eqb-true, eqb-false, eq-eqb, ne-eqb, eqb, length, set, length-set, getD-set-same, getD-set-other, In, nth, keep, below, Limits, Edge, incoming, outgoing, Line, Time, least, largest, Outcome, walk, placementsOf, tickOf, trial, replicas, place, planFor, and-true}
 use mathlib.Core.List.{reverseAux-eq}
 use lib.Seq.{append-snoc}
+use lib.Ieee.{Float}
 use Rattle.definitions.proofs.Lists.{in-map, map-same, map-keep}
 use Rattle.definitions.proofs.Chosen.{chosen-count, chosen-below, chosen-distinct}
 use Rattle.definitions.proofs.Shelf.{settled-walk}
@@ -12,7 +13,7 @@ use Rattle.ticks.specs.Cells.{timeIn}
 use Rattle.plans.specs.Lines.{rowEnd, replicaIn, rowOutcomes, placedIn, rowReplicas, linesIn, LinesHeld, rowOf}
 use Rattle.rounds.specs.Schedule.{choiceOf, PredecessorsPlaced}
 use Rattle.lists.specs.Kept.{KeptOutside}
-use Rattle.rounds.specs.Arrivals.{BothFinish}
+use Rattle.rounds.specs.Arrivals.{BothFinish, Ended, EndsPut}
 use Rattle.ticks.specs.declared.clocks.Clocks.{Clocks}
 use Rattle.rounds.specs.Planning.{waitingIn, replicaOn, Taken, processorsFor, Drawn, Ranked, Tried, Begun, Critical, blocking, entries}
 use Rattle.rounds.specs.Clocks.{earliesIn, latesIn, finishOn, ClocksHeld}
@@ -24,6 +25,7 @@ use Rattle.rounds.proofs.Tables.{from-below, levels-kept, far-kept, pla
 use Rattle.rounds.proofs.FreeLaws.{free-both, free-yes}
 use Rattle.rounds.proofs.TimeLaws.{time-tick, round-most}
 use Rattle.rounds.proofs.Placed.{predecessors-all}
+use Rattle.rounds.proofs.EndLaws.{ended-same, ended-next}
 use Rattle.lists.proofs.ListLaws.{keep-keep}
 use Rattle.rounds.proofs.DrawLaws.{keep-swap, count-split, count-reverse, place-turn, replicas-map}
 use Rattle.rounds.proofs.Drawing.{waiting-kept, free-ranked, finish-comes, waitingAt, waiting-map, free-predecessors, lines-left, rest-here, task-below, task-waits, task-predecessors}
@@ -93,8 +95,8 @@ module _ {lim : Limits} {capacity k t : ℕ} {d : List ℕ} (g : Critical lim ca
         more = g .more;
         early-size = f .early-size;
         late-size = f .late-size;
-        early-finishes = λ p l. f .early-finish p l ∙ finish-at (s .standing) (omega arith) (s .settled) false t p (nth (clocks .early) p) all l (c .early-ready p (rw (processors-in d) l));
-        late-finishes = λ p l. f .late-finish p l ∙ finish-at (s .standing) (omega arith) (s .settled) true t p (nth (clocks .late) p) all l (c .late-ready p (rw (processors-in d) l));
+        early-finishes = λ p l. f .early-finish p l ∙ finish-at (s .standing) (omega arith) false t p (nth (clocks .early) p) all (c .early-ready p (rw (processors-in d) l));
+        late-finishes = λ p l. f .late-finish p l ∙ finish-at (s .standing) (omega arith) true t p (nth (clocks .late) p) all (c .late-ready p (rw (processors-in d) l));
       }
 
   module _ {e : List ℕ} (x : Laid capacity k t d e) where
@@ -108,6 +110,17 @@ module _ {lim : Limits} {capacity k t : ℕ} {d : List ℕ} (g : Critical lim ca
 
     pub old-rows : Same (rowAt capacity 0) (rowAt capacity k) d e
     old-rows = let (m, l) = few in record { cell = λ i p q. x .other i (inl q) (λ f. omega arith) }
+
+    -- The ends of the lines with this one.
+    pub ended-laid : {ends next : List Float} → Ended lim capacity k d ends → EndsPut lim (rowAt capacity k) t e ends next → Ended lim capacity (k + 1) e next
+    ended-laid v p =
+        let (m, l) = few in
+        let old = ended-same v (laid-kept .before 0 (omega arith)) (laid-kept .before 3 (omega arith)) (w .row-fits) old-rows in
+        rw (add-one k)
+        (ended-next old (x .task) (λ i o q.
+        let here : nth d (rowAt capacity i) ≡ t = sym (old-rows .cell (rowAt capacity i) (omega arith) (omega arith)) ∙ q in
+        let z : nth d (lineAt capacity + t) ≡ suc i = rw here at (s .standing .line-of i o) in
+        omega (arith, task-waits g)) p)
 
     pub taken : Taken capacity t d e
     taken = record { line-new = rw (x .line) (omega arith); other = λ i l. x .other i (inl (omega arith)) }

@@ -1,23 +1,24 @@
 -- The replicas of a line in memory: their outcomes, the ticks by which they come, and the finishes after them.
-use Rattle.lists.proofs.Prelude.{_≡_, refl, ap, _∙_, inl, inr, List, [], _∷_, _++_, map, map-append, reverse, Bool, true, false, ℕ, zero, suc, _+_, _*_, _-_, _<_, _≤_, max, min, arith, ne-eqb, eqb, length, if_then_else_, In, nth, keep, distinct, Edge, Job, runTime, incoming, Replica, Line, processorsOf, tick, later, after, Outcome, ready, arrival, dataReady, start, stopTime, finish, Time, sooner, least, largest, outcome, ofTask, walk, placementsOf, placements, placementOf, tickOf, Limits}
+use Rattle.lists.proofs.Prelude.{_≡_, refl, ap, _∙_, inl, inr, List, [], _∷_, _++_, map, map-append, reverse, Bool, true, false, ℕ, zero, suc, _+_, _*_, _-_, _<_, _≤_, max, min, arith, mul-le-mul, ne-eqb, eqb, length, if_then_else_, In, nth, keep, distinct, Edge, Job, delay, runTime, incoming, Replica, Line, processorsOf, tick, later, after, Outcome, ready, arrival, dataReady, start, stopTime, finish, Time, sooner, least, largest, outcome, ofTask, walk, placementsOf, placements, placementOf, tickOf, Limits}
 use mathlib.Core.List.{reverseAux-append}
 use Rattle.definitions.specs.Times.{feeding}
 use Rattle.definitions.proofs.Ready.{first-ready}
 use Rattle.definitions.proofs.Lists.{map-same, apart-head}
 use Rattle.heads.specs.Layout.{lineAt, rowAt, processorAt, earlyAt, lateAt, timeAt}
 use Rattle.jobs.specs.Held.{jobIn}
-use Rattle.jobs.specs.Tables.{lineTicks, lastShort}
+use Rattle.jobs.specs.Tables.{messageMost, lineTicks, lastShort}
 use Rattle.ticks.specs.Cells.{neverCell, timeIn}
-use Rattle.plans.specs.Lines.{replicaIn, rowOutcomes, placedIn, rowReplicas, LinesHeld}
-use Rattle.rounds.specs.Schedule.{choiceOf, dataIn, ShortTo}
+use Rattle.plans.specs.Lines.{replicaIn, rowOutcomes, placedIn, rowReplicas, rowOf, LinesHeld}
+use Rattle.rounds.specs.Schedule.{choiceOf, dataIn, ShortTo, PredecessorsPlaced}
 use Rattle.rounds.specs.Arrivals.{BothSupplied, ShortClocks}
 use Rattle.ticks.specs.declared.clocks.Clocks.{Clocks}
-use Rattle.rounds.specs.Clocks.{earliesIn, latesIn, SettledTo, finishOn, ClocksHeld}
+use Rattle.rounds.specs.Clocks.{earliesIn, latesIn, finishOn, ClocksHeld}
 use Rattle.lists.proofs.ListLaws.{joined-last}
 use Rattle.jobs.proofs.Held.{processors-in, sizes}
 pub use Rattle.plans.proofs.Lines.{in-replicas}
-use Rattle.rounds.proofs.TimeLaws.{time-tick, round-most}
-use Rattle.rounds.proofs.Placed.{in-row, in-placed, start-placed, PredecessorsPlacedBy}
+use Rattle.definitions.proofs.Feeding.{in-feeding, feeding-some}
+use Rattle.rounds.proofs.TimeLaws.{time-tick, round-most, feeds}
+use Rattle.rounds.proofs.Placed.{in-row, in-placed, row-all, arrivalOf, data-walked, start-placed, PredecessorsPlacedBy}
 
 -- Replicas and their outcomes ---------------------------------------------------------------------------------------
 
@@ -138,13 +139,35 @@ row-length late a (suc c) mem = ap suc (row-length late a c mem)
 pub row-on : (late : Bool) (a c m : ℕ) (mem : List ℕ) → ((i : ℕ) → i < c → nth mem (processorAt a i) < m) → (d : Outcome) → In d (rowOutcomes late a c mem) → d .processor < m
 row-on late a c m mem h d i = let (k, l, e) = in-row late mem a c d i in rw e (h k l)
 
+-- The data of a task comes a message after its predecessors' replicas.
+module _ {lim : Limits} {capacity n : ℕ} {mem : List ℕ} (s : LinesHeld lim capacity n mem) (t p b : ℕ) (f : PredecessorsPlaced capacity t mem) (o : p < nth mem 1) (g : b < neverCell)
+    (h : (late : Bool) (e : Edge) (c : ℕ) → In e (incoming (jobIn mem) t) → c < nth mem 3 + 1 → nth mem (timeAt late (rowOf capacity (e .from) mem) c) ≤ b) where
+  arrival-comes : (late : Bool) (e : Edge) → In e (incoming (jobIn mem) t) → Comes (b + messageMost lim) (arrivalOf capacity late p mem e)
+  unfolding arrival
+  arrival-comes late e i =
+      let wide = nth mem 3 + 1 in
+      let a = rowOf capacity (e .from) mem in
+      let row = rowOutcomes late a wide mem in
+      let w = feeds t s f i in
+      let all = row-all late mem (nth mem a) a wide refl in
+      let some : 0 < length (feeding (jobIn mem) (nth mem a) p row) = feeding-some (jobIn mem) (nth mem a) p row (omega (arith, ap length all, row-length late a wide mem)) in
+      comes-choice late (λ d. after (e .volume * delay (jobIn mem) (d .processor) p) (d .time)) (feeding (jobIn mem) (nth mem a) p row) some (λ d x.
+      let j : In d row = rw all at (in-feeding (jobIn mem) (nth mem a) p row d x) in
+      comes-after (messageMost lim) (e .volume * delay (jobIn mem) (d .processor) p)
+      (mul-le-mul {n₁ = e .volume} {m₁ = delay (jobIn mem) (d .processor) p} {n₂ = lim .volume} {m₂ = lim .delay} (w .volume-most)
+      (s .job .facts .delay-most (d .processor) p (rw (processors-in mem) (row-on late a wide (nth mem 1) mem (w .row .processor-of) d j)) (rw (processors-in mem) o)))
+      (row-come late a wide b mem g (λ c l. h late e c i l) d j))
+
+  pub data-comes : (late : Bool) → Comes (b + messageMost lim) (dataIn capacity late t p mem)
+  data-comes late = rw (← data-walked s t f late p) (comes-largest (arrivalOf capacity late p mem) (incoming (jobIn mem) t) (arrival-comes late))
+
 -- From the tick at which p is ready: the finish of t on p is that of the definition.
-pub finish-at : {lim : Limits} {capacity n k : ℕ} {mem : List ℕ} → LinesHeld lim capacity n mem → k ≤ n → SettledTo capacity k mem
-    → (late : Bool) (t p x : ℕ) → PredecessorsPlacedBy capacity k t mem → p < nth mem 1
+pub finish-at : {lim : Limits} {capacity n k : ℕ} {mem : List ℕ} → LinesHeld lim capacity n mem → k ≤ n
+    → (late : Bool) (t p x : ℕ) → PredecessorsPlacedBy capacity k t mem
     → tick x ≡ ready (jobIn mem) p (placedIn capacity late (nth mem 3 + 1) k mem)
     → after (runTime (jobIn mem) t p) (later (tick x) (dataIn capacity late t p mem)) ≡ finishOn capacity late k mem t p
 unfolding finishOn finish stopTime
-finish-at {k = k} s l z late t p x f o e = rw (e, start-placed s k t l f z late p o)
+finish-at {k = k} s l late t p x f e = rw (e, start-placed s k t l f late p)
 
 -- The first k lines have ticks that do not pass k times those of a line.
 module _ {lim : Limits} {capacity n k : ℕ} {mem : List ℕ} (s : LinesHeld lim capacity n mem) (l : k ≤ n) (h : ShortTo lim capacity k mem) where
@@ -172,8 +195,8 @@ module _ {lim : Limits} {capacity n k : ℕ} {mem : List ℕ} (s : LinesHeld lim
   -- The clocks have short ticks.
   pub clocks-short : {clocks : Clocks} → ClocksHeld clocks (jobIn mem) (earliesIn capacity k mem) (latesIn capacity k mem) → ShortClocks clocks mem
   clocks-short {clocks} c = (
-    record { size = c .early-size; time = λ p o. refl; most = λ p o. clock-most false p (nth (clocks .early) p) (c .early-ready p (rw (processors-in mem) o)) },
-    record { size = c .late-size; time = λ p o. refl; most = λ p o. clock-most true p (nth (clocks .late) p) (c .late-ready p (rw (processors-in mem) o)) },
+    (c .early-size, λ p o. clock-most false p (nth (clocks .early) p) (c .early-ready p (rw (processors-in mem) o))),
+    (c .late-size, λ p o. clock-most true p (nth (clocks .late) p) (c .late-ready p (rw (processors-in mem) o))),
   )
 
   -- The lines of a task's predecessors have short ticks.

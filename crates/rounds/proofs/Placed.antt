@@ -1,18 +1,15 @@
 -- What the lines in memory are to the definitions: the placed replicas, the data they send and the levels they give.
 use Rattle.lists.proofs.Prelude.{_≡_, refl, ap, _∙_, sym, inl, inr, ⊎-elim, List, [], _∷_, _++_, map, append-nil, Bool, true, false, ℕ, zero, suc, _+_, _*_, _-_, _<_, _≤_, arith, eq-eqb, ne-eqb, lt-ltb, le-ltb, eqb, ltb, if_then_else_, nth, keep, has, In, below, greatest, Edge, incoming, Time, later, after, least, largest, Outcome, ofTask, ready, start, tickOf, largestDelay, scale, topLevel, Limits}
-use Rattle.definitions.specs.Times.{arrivalFrom}
-use Rattle.definitions.specs.Shelf.{dataFromAll}
-use Rattle.definitions.proofs.Shelf.{start-all, start-elsewhere}
+use Rattle.definitions.specs.Times.{feeding, arrival, dataReady}
 use Rattle.definitions.proofs.Lists.{map-same, map-in, in-map, in-append, append-left, append-right, in-has, has-not, keep-every, keep-none, in-below, below-in, greatest-most}
 use Rattle.definitions.proofs.Tasks.{in-incoming}
 use Rattle.heads.specs.Layout.{lineAt, rowAt, processorAt, timeAt}
 use Rattle.jobs.specs.Held.{jobIn}
 use Rattle.ticks.specs.Cells.{timeIn}
-use Rattle.rounds.specs.Clocks.{SettledTo}
-use Rattle.rounds.specs.Schedule.{choiceOf, sendersOf, arrivalIn, lineCount, dataBy, dataIn, PredecessorsPlaced, topIn, LargestDelaysFilled}
+use Rattle.rounds.specs.Schedule.{choiceOf, arrivalIn, lineCount, dataIn, PredecessorsPlaced, topIn, LargestDelaysFilled}
 use Rattle.plans.specs.Lines.{rowOutcomes, placedIn, rowOf, LinesHeld}
 use Rattle.lists.proofs.Counting.{last-or-before, zero-or-more}
-use Rattle.jobs.proofs.Held.{tasks-in, processors-in}
+use Rattle.jobs.proofs.Held.{tasks-in}
 
 -- The replicas of lines ---------------------------------------------------------------------------------------------
 
@@ -37,7 +34,7 @@ module _ (late : Bool) (mem : List ℕ) where
       ⊎-elim (λ j. (k, omega arith, j)) (λ j. let (n, l, m) = in-placed capacity w k d j in (n, omega arith, m))
       (in-append d (rowOutcomes late (rowAt capacity k) w mem) (placedIn capacity late w k mem) i)
 
-  placed-in : (capacity w k n : ℕ) (d : Outcome) → n < k → In d (rowOutcomes late (rowAt capacity n) w mem) → In d (placedIn capacity late w k mem)
+  pub placed-in : (capacity w k n : ℕ) (d : Outcome) → n < k → In d (rowOutcomes late (rowAt capacity n) w mem) → In d (placedIn capacity late w k mem)
   unfolding placedIn
   placed-in capacity w zero n d h i = absurd (omega arith)
   placed-in capacity w (suc k) n d h i =
@@ -166,19 +163,16 @@ module _ {lim : Limits} {capacity n : ℕ} {mem : List ℕ} (s : LinesHeld lim c
         → ofTask (e .from) (placedIn capacity late (nth mem 3 + 1) k mem) ≡ rowOutcomes late (rowOf capacity (e .from) mem) (nth mem 3 + 1) mem
     feeding-line late e i = let (l, g) = f e i in placed-rowOf late (nth mem 3 + 1) k a (e .from) (sender-below t e i) l g
 
+    -- So are those that feed a processor.
+    arrival-line : (late : Bool) (p : ℕ) (e : Edge) → In e (incoming (jobIn mem) t)
+        → arrivalOf capacity late p mem e ≡ arrival (jobIn mem) (choiceOf late) (placedIn capacity late (nth mem 3 + 1) k mem) p e
+    unfolding arrival feeding
+    arrival-line late p e i = rw (feeding-line late e i, row-all late mem _ (rowOf capacity (e .from) mem) (nth mem 3 + 1) refl)
+
     data-lines : (late : Bool) (p : ℕ)
-        → largest (map (arrivalOf capacity late p mem) (incoming (jobIn mem) t)) ≡ dataBy late (jobIn mem) (placedIn capacity late (nth mem 3 + 1) k mem) t p
-    unfolding arrivalIn
-    data-lines late p =
-        ap largest
-        (map-same (arrivalOf capacity late p mem) (λ e. arrivalFrom (jobIn mem) (choiceOf late) (sendersOf late (e .from) p (placedIn capacity late (nth mem 3 + 1) k mem)) p e)
-        (incoming (jobIn mem) t) (λ e i. ap (λ (ds : List Outcome). arrivalFrom (jobIn mem) (choiceOf late) ds p e) (by late e i)))
-      where
-        by : (late : Bool) (e : Edge) → In e (incoming (jobIn mem) t)
-            → let a = rowOf capacity (e .from) mem in
-            sendersOf late (nth mem a) p (rowOutcomes late a (nth mem 3 + 1) mem) ≡ sendersOf late (e .from) p (placedIn capacity late (nth mem 3 + 1) k mem)
-        by true e i = rw (feeding-line true e i, row-all true mem _ (rowOf capacity (e .from) mem) (nth mem 3 + 1) refl)
-        by false e i = rw (feeding-line false e i, row-all false mem _ (rowOf capacity (e .from) mem) (nth mem 3 + 1) refl)
+        → largest (map (arrivalOf capacity late p mem) (incoming (jobIn mem) t)) ≡ dataReady (jobIn mem) (choiceOf late) (placedIn capacity late (nth mem 3 + 1) k mem) t p
+    unfolding dataReady
+    data-lines late p = ap largest (map-same (arrivalOf capacity late p mem) _ (incoming (jobIn mem) t) (arrival-line late p))
 
     pub level-placed : LargestDelaysFilled capacity mem → topLevel (jobIn mem) (placedIn capacity false (nth mem 3 + 1) k mem) t ≡ tickOf (topIn capacity t mem) * scale (jobIn mem)
     unfolding topLevel topIn
@@ -202,15 +196,12 @@ module _ {lim : Limits} {capacity n : ℕ} {mem : List ℕ} (s : LinesHeld lim c
       (λ e i. (f e i, greatest-least lineOf (e .from) (below (nth mem 0)) (below-in (nth mem 0) (e .from) (sender-below t e i))))
 
   module _ (k t : ℕ) (a : k ≤ n) (f : PredecessorsPlacedBy capacity k t mem) where
-    pub data-placed : (late : Bool) (p : ℕ) → dataIn capacity late t p mem ≡ dataBy late (jobIn mem) (placedIn capacity late (nth mem 3 + 1) k mem) t p
+    pub data-placed : (late : Bool) (p : ℕ) → dataIn capacity late t p mem ≡ dataReady (jobIn mem) (choiceOf late) (placedIn capacity late (nth mem 3 + 1) k mem) t p
     data-placed late p = sym (data-walked t (λ e i. f e i .0) late p) ∙ data-lines k t a f late p
 
     -- The start of t on p is that of the definition.
-    pub start-placed : SettledTo capacity k mem → (late : Bool) (p : ℕ) → p < nth mem 1
+    pub start-placed : (late : Bool) (p : ℕ)
         → start (jobIn mem) (choiceOf late) (placedIn capacity late (nth mem 3 + 1) k mem) t p
         ≡ later (ready (jobIn mem) p (placedIn capacity late (nth mem 3 + 1) k mem)) (dataIn capacity late t p mem)
-    unfolding dataFromAll
-    start-placed z true p o =
-        start-elsewhere lim (jobIn mem) (s .job .facts) (placedIn capacity true (nth mem 3 + 1) k mem) (z true) p (rw (processors-in mem) o) t ∙ rw (data-placed true p)
-    start-placed z false p o =
-        start-all lim (jobIn mem) (s .job .facts) (placedIn capacity false (nth mem 3 + 1) k mem) (z false) p (rw (processors-in mem) o) t ∙ rw (data-placed false p)
+    unfolding start
+    start-placed late p = rw (data-placed late p)

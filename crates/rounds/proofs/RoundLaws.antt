@@ -4,13 +4,14 @@ use Rattle.definitions.proofs.Ready.{first-ready}
 use Rattle.heads.specs.Layout.{replicasMost, jobSize, rowAt, largestDelayAt, processorAt, lanesMost}
 use Rattle.jobs.specs.Held.{jobIn, JobHeld}
 use Rattle.plans.specs.Lines.{rowOutcomes, placedIn, linesIn, LinesHeld}
-use Rattle.rounds.specs.Arrivals.{DelayTable}
+use Rattle.rounds.specs.Arrivals.{DelayTable, NoDelayOver}
 use Rattle.plans.specs.Loading.{planIn}
 use Rattle.rounds.specs.Replaying.{StopsIn, ranIn, Running, PredecessorsBefore, Retimed, placementsIn, walked, LineRun, RoundRun}
 use Rattle.lists.proofs.Counting.{below-same}
 use Rattle.lists.proofs.Kept.{same-before, kept-wider}
 use Rattle.jobs.proofs.Held.{sizes}
-use Rattle.rounds.proofs.ShortLaws.{delays-kept}
+use Rattle.rounds.proofs.TimeTables.{delays-kept}
+use Rattle.rounds.proofs.EndLaws.{no-delay-kept}
 use Rattle.rounds.proofs.RunLaws.{retimed-none, retimed-then, cell-retimed, job-retimed, predecessors-retimed, walked-append}
 use Rattle.plans.proofs.Lines.{processors-below, lineWith}
 use Rattle.rounds.proofs.Outcomes.{placements-more}
@@ -56,10 +57,12 @@ round-first stops {mem} s =
 module _ {lim : Limits} {capacity : ℕ} (k : ℕ) {stops cells d e : List ℕ} (l : RoundRuns lim capacity k stops cells d e) (s : LinesHeld lim capacity (nth d 0) d)
     (o : Ordered (jobIn d) [] (planIn capacity d .lines)) where
   -- What the next line asks for.
-  pub round-asks : {delays : List ℕ} → DelayTable lim delays d → k < nth d 0 → DelayTable lim delays e × (k < nth e 0) × PredecessorsBefore capacity k e
+  pub round-asks : {delays : List ℕ} {most : ℕ} → DelayTable lim delays d → NoDelayOver most d → k < nth d 0
+      → DelayTable lim delays e × NoDelayOver most e × (k < nth e 0) × PredecessorsBefore capacity k e
   unfolding planIn
-  round-asks t h = (
+  round-asks t n h = (
     delays-kept (s .job) (same-before 0 (jobSize capacity) (l .retimed .outside) (omega arith)) t,
+    no-delay-kept (s .job) (same-before 0 (jobSize capacity) (l .retimed .outside) (omega arith)) n,
     rw (cell-retimed (l .retimed) 0 (omega arith)) h,
     predecessors-retimed (l .retimed) (s .job) k (line-predecessors s o k h),
   )

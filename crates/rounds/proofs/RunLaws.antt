@@ -1,30 +1,31 @@
 -- The replay of a plan in memory, replica by replica and line by line.
-use Rattle.lists.proofs.Prelude.{_≡_, refl, ap, _∙_, sym, inl, inr, ⊎-elim, List, [], _∷_, _++_, map, map-append, false, ℕ, zero, suc, _+_, _*_, _<_, _≤_, mul-le-mul, arith, add-one, eq-eqb, ne-eqb, lt-leb, le-leb, eqb, set, length-set, getD-set-same, getD-set-other, if_then_else_, nth, below, In, Limits, Edge, Job, runTime, incoming, Stop, Time, tick, later, after, least, largest, Placement, Outcome, outcome, ofTask, ready, stopTime, finish, walk, placementsOf, placementOf, tickOf, trial, PlacedWithin}
-use Rattle.definitions.specs.Times.{unlessStopped, arrivalFrom}
-use Rattle.definitions.specs.Shelf.{dataFromAll, NoLater}
+use Rattle.lists.proofs.Prelude.{_≡_, refl, ap, _∙_, sym, inl, inr, ⊎-elim, List, [], _∷_, _++_, map, map-append, Bool, true, false, ℕ, suc, _+_, _*_, _-_, _<_, _≤_, mul-le-mul, arith, add-one, eq-eqb, ne-eqb, lt-leb, le-leb, set, length-set, getD-set-same, getD-set-other, if_then_else_, nth, below, In, Limits, Edge, Job, runTime, incoming, Stop, Time, never, later, after, least, largest, Placement, Outcome, outcome, arrival, dataReady, start, ready, stopTime, finish, walk, placementsOf, placementOf, tickOf, trial}
+use lib.Ieee.{Float}
+use Rattle.definitions.specs.Times.{unlessStopped, feeding}
+use Rattle.definitions.specs.Shelf.{NoLater}
 use Rattle.definitions.specs.Claims.{Within}
-use Rattle.definitions.proofs.Lists.{map-same, map-in, in-keep, below-in}
+use Rattle.definitions.proofs.Lists.{map-same, map-in, below-in}
 use Rattle.definitions.proofs.Tasks.{in-incoming}
 use Rattle.definitions.proofs.Bounds.{weaker, trial-most}
-use Rattle.definitions.proofs.Later.{no-later-then, first-no-later, after-no-later, stopped-no-later}
-use Rattle.definitions.proofs.Shelf.{settled-more, start-all}
-use Rattle.heads.specs.Layout.{lineAt, replicasMost, rowAt, processorAt, earlyAt, lateAt, lanesMost}
+use Rattle.definitions.proofs.Later.{later-comm, later-assoc, no-later-self, no-later-then, first-no-later, after-no-later, stopped-no-later}
+use Rattle.definitions.proofs.Shelf.{settled-more}
+use Rattle.heads.specs.Layout.{lineAt, replicasMost, rowAt, processorAt, earlyAt, lateAt, timeAt, lanesMost}
 use Rattle.orders.proofs.RunLaws.{set-cell}
 use Rattle.jobs.specs.Held.{jobIn, JobHeld, SomeJobHeld}
-use Rattle.jobs.specs.Tables.{lineTicks, lastShort}
+use Rattle.jobs.specs.Tables.{lineTicks}
 use Rattle.ticks.specs.Cells.{neverCell, timeIn, Small}
-use Rattle.ticks.specs.Lanes.{shortNever}
-use Rattle.plans.specs.Lines.{rowOutcomes, placedIn, rowReplicas, rowOf, LinesHeld}
+use Rattle.plans.specs.Lines.{rowOutcomes, placedIn, rowReplicas, rowOf, RowHeld, LinesHeld}
 use Rattle.rounds.specs.Schedule.{dataIn}
 use Rattle.lists.specs.Kept.{KeptOutside}
-use Rattle.rounds.specs.Arrivals.{FirstSupplied}
+use Rattle.rounds.specs.Arrivals.{laneMost, Ended, EndsPut, Supplied, readyTimes}
 use Rattle.rounds.specs.Replaying.{StopsIn, ranIn, Running, PredecessorsBefore, Retimed, placementsIn, walked, LineRun}
-use Rattle.lists.proofs.Counting.{equal-or-not, last-or-before}
+use Rattle.lists.proofs.Counting.{equal-or-not}
 use Rattle.lists.proofs.Kept.{Same, same-before, kept-all, kept-then, kept-wider, kept-set}
 use Rattle.jobs.proofs.Held.{sizes, tasks-in, processors-in, job-kept, held-kept}
 use Rattle.plans.proofs.Lines.{outcomes-same, placed-same, early-apart}
 use Rattle.rounds.proofs.TimeLaws.{time-tick, small-wider, round-most}
-use Rattle.rounds.proofs.Placed.{ofTask-append, row-none, feeding-line, data-placed}
+use Rattle.rounds.proofs.Placed.{ofTask-append, row-none, data-placed}
+use Rattle.rounds.proofs.EndLaws.{ended-same, ended-line, settled-behind, supplied}
 
 -- What changes and what does not ------------------------------------------------------------------------------------
 
@@ -97,19 +98,6 @@ module _ {capacity k n : ℕ} {d e : List ℕ} (z : Retimed capacity k n d e) wh
 pub small-within : (b x : ℕ) → Small b x → Within b (timeIn x)
 small-within b x s = ⊎-elim (λ (e : x ≡ neverCell). rw e tt) (λ n. ⊎-elim (λ e. absurd (n e)) (λ h. rw (time-tick x n) h) s) (equal-or-not x neverCell)
 
-within-small : (b x : ℕ) → Within b (timeIn x) → Small b x
-within-small b x h = ⊎-elim inl (λ n. inr (rw (time-tick x n) at h)) (equal-or-not x neverCell)
-
--- The early times of a line whose outcomes do not pass a bound.
-row-small : (j : Job) (b a c i : ℕ) (mem : List ℕ) → i < c → PlacedWithin j b (rowOutcomes false a c mem) → Small b (nth mem (earlyAt a i))
-unfolding rowOutcomes
-row-small j b a zero i mem h g = absurd (omega arith)
-row-small j b a (suc c) i mem h g =
-    ⊎-elim
-    (λ (e : i ≡ c). rw e (within-small b (nth mem (earlyAt a c)) (g _ (inl refl) .1)))
-    (λ l. row-small j b a c i mem l (λ d m. g d (inr m)))
-    (last-or-before c i h)
-
 module _ {lim : Limits} {capacity : ℕ} (k c : ℕ) {cells mem : List ℕ} (r : Running lim capacity k c cells mem) (a : k < nth mem 0) (b : c < nth mem 3 + 1) (f : PredecessorsBefore capacity k mem) where
   abbrev runner : ℕ
   runner = nth mem (rowAt capacity k)
@@ -121,12 +109,12 @@ module _ {lim : Limits} {capacity : ℕ} (k c : ℕ) {cells mem : List ℕ} (r :
   processor-below = r .standing .row k a .processor-of c b
 
   -- The data comes from the lines before.
-  data-ran : dataFromAll (jobIn mem) least (ranIn capacity k c mem) runner processor ≡ dataIn capacity false runner processor mem
-  unfolding dataFromAll ranIn
+  data-ran : dataReady (jobIn mem) least (ranIn capacity k c mem) runner processor ≡ dataIn capacity false runner processor mem
+  unfolding dataReady arrival feeding ranIn
   data-ran =
-      let sent : List Outcome → Edge → Time = λ ds e. arrivalFrom (jobIn mem) least (ofTask (e .from) ds) processor e in
       ap largest
-      (map-same (sent (ranIn capacity k c mem)) (sent (placedIn capacity false (nth mem 3 + 1) k mem)) (incoming (jobIn mem) runner) λ e i.
+      (map-same (arrival (jobIn mem) least (ranIn capacity k c mem) processor) (arrival (jobIn mem) least (placedIn capacity false (nth mem 3 + 1) k mem) processor)
+      (incoming (jobIn mem) runner) λ e i.
       let l = f e i .1 in
       let own = r .standing .line-of k a in
       rw (
@@ -139,10 +127,8 @@ module _ {lim : Limits} {capacity : ℕ} (k c : ℕ) {cells mem : List ℕ} (r :
   module _ (x : ℕ) (e : timeIn x ≡ after (runTime (jobIn mem) runner processor) (later (timeIn (nth cells processor)) (dataIn capacity false runner processor mem))) where
     -- The finish under stops, from the finish without.
     pub finish-ran : (ss : List Stop) → finish (jobIn mem) least ss (ranIn capacity k c mem) (placementOf (jobIn mem) runner processor) ≡ unlessStopped (stopTime ss processor) (timeIn x)
-    unfolding finish
-    finish-ran ss =
-        let started = start-all lim (jobIn mem) (r .standing .job .facts) (ranIn capacity k c mem) (r .settled) processor (rw (processors-in mem) processor-below) runner in
-        rw (e, started, data-ran, r .ready-of processor processor-below)
+    unfolding finish start
+    finish-ran ss = rw (e, data-ran, r .ready-of processor processor-below)
 
     pub finish-small : Small ((k * replicasMost + c) * lineTicks lim + lineTicks lim) x
     unfolding trial stopTime
@@ -194,13 +180,13 @@ module _ {lim : Limits} {capacity : ℕ} (k c : ℕ) {cells mem : List ℕ} (r :
           )
 
       -- It finishes no sooner than its processor was ready.
-      started : NoLater (ready (jobIn mem) processor (ranIn capacity k c mem)) (timeIn y)
+      started : NoLater (timeIn (nth cells processor)) (timeIn y)
       started =
-          let z = ready (jobIn mem) processor (ranIn capacity k c mem) in
+          let z = timeIn (nth cells processor) in
           let begin = later z (dataIn capacity false runner processor mem) in
           let run = runTime (jobIn mem) runner processor in
           no-later-then z (timeIn x) (timeIn y)
-          (rw (e, r .ready-of processor processor-below) (no-later-then z begin (after run begin) (first-no-later z (dataIn capacity false runner processor mem)) (after-no-later run begin))) v
+          (rw e (no-later-then z begin (after run begin) (first-no-later z (dataIn capacity false runner processor mem)) (after-no-later run begin))) v
 
       running-next : Running lim capacity k (c + 1) cells′ mem′
       unfolding ready
@@ -230,7 +216,7 @@ module _ {lim : Limits} {capacity : ℕ} (k c : ℕ) {cells mem : List ℕ} (r :
                 (λ q. rw (← q, processors-in mem) (processor-below, small-within ((k * replicasMost + (c + 1)) * lineTicks lim) y small-here))
                 (λ q. let (g, t) = r .within d q in (g, weaker (d .time) most t))
                 i);
-            settled = rw (j, ran-next) (settled-more (jobIn mem) here (ranIn capacity k c mem) started (r .settled));
+            settled = rw (j, ran-next) (settled-more (jobIn mem) here (ranIn capacity k c mem) (rw (r .ready-of processor processor-below) at started) (r .settled));
           }
 
 -- A line --------------------------------------------------------------------------------------------------------------
@@ -255,39 +241,45 @@ placements-next capacity k c mem =
     rw (add-one c, map-append (λ r. r .processor) (rowReplicas (rowAt capacity k) c mem) (_ ∷ []))
     (map-append (placementOf (jobIn mem) t) (map (λ r. r .processor) (rowReplicas (rowAt capacity k) c mem)) (_ ∷ []))
 
--- The first data of line k comes from lines that have run.
-pub line-predecessors-short : {lim : Limits} {capacity : ℕ} (k : ℕ) {cells d : List ℕ} → Running lim capacity k 0 cells d → k < nth d 0
-    → PredecessorsBefore capacity k d → FirstSupplied capacity (nth d (rowAt capacity k)) d
-unfolding ranIn rowOutcomes ofTask
-line-predecessors-short {lim} {capacity} k {cells} {d} r a f e i =
+-- What is asked where line k starts: its predecessors have run, and processors are ready in a plan's range.
+pub line-supplied : {lim : Limits} {capacity : ℕ} (k : ℕ) {cells d : List ℕ} {ends : List Float} → Running lim capacity k 0 cells d → k < nth d 0
+    → PredecessorsBefore capacity k d → Ended lim capacity k d ends
+    → ((p : ℕ) → p < nth d 1 → Small (lim .tick) (nth cells p)) × Supplied lim capacity (nth d (rowAt capacity k)) (readyTimes cells) d ends
+unfolding ranIn rowOutcomes
+line-supplied {lim} {capacity} k {cells} {d} r a f ended =
     let w = sizes (r .standing .job) in
-    let most : ℕ = (k * replicasMost + 0) * lineTicks lim in
-    let row = rowOf capacity (e .from) d in
-    let own : ofTask (e .from) (placedIn capacity false (nth d 3 + 1) k d) ≡ rowOutcomes false row (nth d 3 + 1) d =
-    feeding-line (r .standing) k (nth d (rowAt capacity k)) (omega arith) f false e i in
-    let among : PlacedWithin (jobIn d) most (rowOutcomes false row (nth d 3 + 1) d) =
-    rw (← own) (λ x m. r .within x (in-keep (λ x. eqb (x .task) (e .from)) x (placedIn capacity false (nth d 3 + 1) k d) m .0)) in
-    let short = round-most (w .tabled) (k * replicasMost + 0) (omega (arith, a, w .tasks-most)) .0 in
-    (f e i .0, λ c h. small-wider most lastShort (nth d (earlyAt row c)) short (row-small (jobIn d) most row (nth d 3 + 1) c d h among))
+    let range = round-most (w .tabled) (k * replicasMost + 0) (omega (arith, a, w .tasks-most)) .1 in (
+      λ p h. small-wider ((k * replicasMost + 0) * lineTicks lim) (lim .tick) (nth cells p) range (r .ready-small p h),
+      supplied (r .standing) (omega arith) (nth d (rowAt capacity k)) f (readyTimes cells) ended behind,
+    )
+  where
+    behind : (late : Bool) (e : Edge) (c : ℕ) → In e (incoming (jobIn d) (nth d (rowAt capacity k))) → c < nth d 3 + 1
+        → NoLater (timeIn (nth d (timeAt late (rowOf capacity (e .from) d) c))) (readyTimes cells late (nth d (processorAt (rowOf capacity (e .from) d) c)))
+    behind true e c i h = later-comm (timeIn (nth d (timeAt true (rowOf capacity (e .from) d) c))) never
+    behind false e c i h =
+        let (g, m) = f e i in
+        rw (r .ready-of _ (r .standing .row (nth d (lineAt capacity + e .from) - 1) (omega arith) .processor-of c h))
+        (settled-behind (r .standing) (omega arith) (nth d (rowAt capacity k)) f false (r .settled) e c i h)
 
--- c replicas of line k have run, from a memory d.
-pub record LineRuns (lim : Limits) (capacity k c : ℕ) (stops cells d e : List ℕ) : Type 0 where
+-- c replicas of line k have run, from a memory d and ready times in the first cells.
+pub record LineRuns (lim : Limits) (capacity k c : ℕ) (stops first cells d e : List ℕ) : Type 0 where
   pub running : Running lim capacity k c cells e
+  pub waited : (p : ℕ) → p < nth d 1 → NoLater (timeIn (nth first p)) (timeIn (nth cells p))
   pub retimed : Retimed capacity k (suc k) d e
   pub outcomes : (ss : List Stop) → StopsIn ss stops → ranIn capacity k c e ≡ walked (jobIn d) ss (placedIn capacity false (nth d 3 + 1) k d) (placementsIn capacity k c d)
 
-pub line-first : {lim : Limits} {capacity : ℕ} (k : ℕ) (stops : List ℕ) {cells d : List ℕ} → Running lim capacity k 0 cells d → LineRuns lim capacity k 0 stops cells d d
+pub line-first : {lim : Limits} {capacity : ℕ} (k : ℕ) (stops : List ℕ) {cells d : List ℕ} → Running lim capacity k 0 cells d → LineRuns lim capacity k 0 stops cells cells d d
 unfolding ranIn rowOutcomes placementsIn rowReplicas walked walk
-line-first k stops r = record { running = r; retimed = retimed-none; outcomes = λ ss h. refl }
+line-first k stops {cells} r = record { running = r; waited = λ p h. no-later-self (timeIn (nth cells p)); retimed = retimed-none; outcomes = λ ss h. refl }
 
 -- The next replica, of task t on p: its processor, what its run time is asked by, and when the processor is ready.
 pub record LineStep (lim : Limits) (t p : ℕ) (cells d e : List ℕ) : Type 0 where
   pub processor : p < nth d 1
   pub asked : SomeJobHeld lim e × (t < nth e 0) × (p < nth e 1)
   pub below : p < lanesMost
-  pub ready-small : Small shortNever (nth cells p)
+  pub ready-small : Small (laneMost lim) (nth cells p)
 
-module _ {lim : Limits} {capacity : ℕ} (k c : ℕ) {stops cells d e : List ℕ} (l : LineRuns lim capacity k c stops cells d e) (s : LinesHeld lim capacity (nth d 0) d)
+module _ {lim : Limits} {capacity : ℕ} (k c : ℕ) {stops first cells d e : List ℕ} (l : LineRuns lim capacity k c stops first cells d e) (s : LinesHeld lim capacity (nth d 0) d)
     (a : k < nth d 0) (f : PredecessorsBefore capacity k d) where
   abbrev ran : Running lim capacity k c cells e
   ran = l .running
@@ -325,32 +317,42 @@ module _ {lim : Limits} {capacity : ℕ} (k c : ℕ) {stops cells d e : List ℕ
     line-step =
         let w = sizes (s .job) in
         let h : its < nth d 1 = rw (cell-retimed (l .retimed) 1 (omega arith)) at its-below in
-        let short = round-most (w .tabled) (k * replicasMost + c) (omega (arith, a, b, w .tasks-most, w .row-fits)) .0 in
+        let range = round-most (w .tabled) (k * replicasMost + c) (omega (arith, a, b, w .tasks-most, w .row-fits)) .1 in
         record {
           processor = h;
           asked = ((_, ran .standing .job), rw (cell-retimed (l .retimed) 0 (omega arith)) (s .task-of k a), its-below);
           below = omega arith;
-          ready-small = small-wider ((k * replicasMost + c) * lineTicks lim) shortNever (nth cells its) (omega (arith, short)) (ran .ready-small its its-below);
+          ready-small = small-wider ((k * replicasMost + c) * lineTicks lim) (laneMost lim) (nth cells its) (omega (arith, range)) (ran .ready-small its its-below);
         }
 
     pub line-next : (supplied run x y : ℕ)
-        → timeIn supplied ≡ dataIn capacity false (nth d (rowAt capacity k)) its d
+        → timeIn supplied ≡ later (timeIn (nth first its)) (dataIn capacity false (nth d (rowAt capacity k)) its d)
         → run ≡ runTime (jobIn e) (nth d (rowAt capacity k)) its
         → timeIn x ≡ after run (later (timeIn (nth cells its)) (timeIn supplied))
         → timeIn y ≡ unlessStopped (timeIn (nth stops its)) (timeIn x)
         → ((b : ℕ) → Small b x → Small b y)
-        → LineRuns lim capacity k (c + 1) stops (set cells its y) d (set e (earlyAt (rowAt capacity k) c) y)
+        → LineRuns lim capacity k (c + 1) stops first (set cells its y) d (set e (earlyAt (rowAt capacity k) c) y)
     line-next supplied run x y o z p₀ q n =
         let w = sizes (s .job) in
         let g = line-below in
         let u = replica-below in
         let v = line-predecessors in
         let own : runTime (jobIn e) (nth e (rowAt capacity k)) its ≡ run = rw (l .retimed .task k) (sym z) in
+        let now = timeIn (nth cells its) in
+        let begin = timeIn (nth first its) in
+        let its-data = dataIn capacity false (nth d (rowAt capacity k)) its d in
+        let waited : NoLater begin now = l .waited its (line-step .processor) in
+        let begun : later now (later begin its-data) ≡ later now its-data =
+        sym (later-assoc now begin its-data) ∙ ap (λ (z : Time). later z its-data) (later-comm now begin ∙ waited) in
         let p : timeIn x ≡ after (runTime (jobIn e) (nth e (rowAt capacity k)) its) (later (timeIn (nth cells its)) (dataIn capacity false (nth e (rowAt capacity k)) its e)) = rw
-        (line-data its, ← o, own) p₀ in
+        (line-data its, ← begun, ← o, own) p₀ in
         let late : NoLater (timeIn x) (timeIn y) = rw q (stopped-no-later (timeIn (nth stops its)) (timeIn x)) in
         record {
           running = running-next k c ran g u v x p y n late;
+          waited = λ i h.
+              set-cell (λ z. NoLater (timeIn (nth first i)) (timeIn z)) cells its i y (omega (arith, line-step .below, ran .size))
+              (λ (q : i ≡ its). rw q (no-later-then begin now (timeIn y) waited (started k c ran g u v x p y n late)))
+              (λ q. l .waited i h);
           retimed = retimed-set k c y (l .retimed) (omega arith) (omega arith) (omega arith);
           outcomes = λ ss h.
               let j : jobIn e ≡ jobIn d = job-retimed (l .retimed) (s .job) in
@@ -386,6 +388,17 @@ module _ {lim : Limits} {capacity : ℕ} (k c : ℕ) {stops cells d e : List ℕ
         },
         record { retimed = l .retimed; outcomes = λ ss h. sym same ∙ l .outcomes ss h ∙ rw q },
       )
+
+  -- Where its ends are noted from, and then they are.
+  pub line-row : SomeJobHeld lim e × RowHeld lim (rowAt capacity k) e
+  line-row = ((_, ran .standing .job), ran .standing .row k line-below)
+
+  pub line-ended : {ends next : List Float} → Ended lim capacity k d ends → EndsPut lim (rowAt capacity k) (nth d (rowAt capacity k)) e ends next → Ended lim capacity (suc k) e next
+  line-ended {next = next} h put =
+      let w = sizes (s .job) in
+      let kept : Same (rowAt capacity 0) (rowAt capacity k) d e = same-before (rowAt capacity 0) (rowAt capacity k) (l .retimed .outside) (omega arith) in
+      let before = ended-same h (cell-retimed (l .retimed) 0 (omega arith)) (cell-retimed (l .retimed) 3 (omega arith)) (omega arith) kept in
+      rw (add-one k) at (ended-line {next = next} (ran .standing) line-below before (rw (l .retimed .task k) put))
 
 -- A stop in a cell ------------------------------------------------------------------------------------------------------
 

@@ -61,32 +61,6 @@ small-one b r x y s p q = ⊎-elim (λ (e : r ≡ x). rw e p) (λ (e : r ≡ y).
 pub small-tick : (b x : ℕ) → (x ≡ neverCell → ⊥) → Small b x → x ≤ b
 small-tick b x h = ⊎-elim (λ e. absurd (h e)) (λ l. l)
 
--- The data of one predecessor -------------------------------------------------------------------------------------
-
--- The choice among the first c replicas of the line at a, each put off by the ticks of its processor.
-unfoldable pub chosenBy : Bool → (ℕ → ℕ) → ℕ → ℕ → List ℕ → Time
-chosenBy late ticks a c mem = choiceOf late (map (λ d. after (ticks (d .processor)) (d .time)) (rowOutcomes late a c mem))
-
--- Of the first c replicas of the line at a some is on p.
-abbrev pub ownIn : ℕ → ℕ → ℕ → List ℕ → Bool
-ownIn p a c mem = any (λ d. eqb (d .processor) p) (rowOutcomes true a c mem)
-
-module _ (volume p a c : ℕ) (mem : List ℕ) (e : c ≡ nth mem 3 + 1) where
-  -- Early the choice is among all replicas of the line.
-  pub arrival-first : chosenBy false (λ q. volume * delay (jobIn mem) q p) a c mem ≡ arrivalIn false volume p a mem
-  unfolding chosenBy arrivalIn
-  arrival-first = rw (e, row-all false mem (nth mem a) a (nth mem 3 + 1) refl)
-
-  -- Late too, where none is on p.
-  pub arrival-last : ownIn p a c mem ≡ false → chosenBy true (λ q. volume * delay (jobIn mem) q p) a c mem ≡ arrivalIn true volume p a mem
-  unfolding chosenBy arrivalIn
-  arrival-last o = rw (row-all true mem (nth mem a) a (nth mem 3 + 1) refl, ← e, o)
-
-  -- Else p waits for none.
-  pub arrival-own : ownIn p a c mem ≡ true → arrivalIn true volume p a mem ≡ tick 0
-  unfolding arrivalIn largest
-  arrival-own o = rw (row-all true mem (nth mem a) a (nth mem 3 + 1) refl, ← e, o)
-
 -- The ticks of a message.
 pub message-most : (lim : Limits) (volume n : ℕ) → volume ≤ lim .volume → n ≤ lim .delay → volume * n ≤ messageMost lim
 message-most lim volume n h g = mul-le-mul {n₁ = volume} {m₁ = n} {n₂ = lim .volume} {m₂ = lim .delay} h g

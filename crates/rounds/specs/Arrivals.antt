@@ -1,26 +1,27 @@
--- Data and finishes on all processors at once, in tables with a lane of 32 bits for each.
+-- Data and finishes on all processors at once, in tables with a lane for each.
 use mathlib.Core.Path.{_≡_}
 use mathlib.Core.List.{List}
 use mathlib.Core.Bool.{Bool, true, false}
 use Prim.Native.Nat.{ℕ, _+_, _*_, _≤_, _<_}
-use lib.Dec.{eqb}
 use lib.ListN.{length}
+use lib.Ieee.{Float}
 use Rattle.definitions.specs.Lists.{if_then_else_, nth, In}
 use Rattle.definitions.specs.Limits.{Limits}
 use Rattle.definitions.specs.Job.{Edge, runTime, delay, incoming}
-use Rattle.definitions.specs.Times.{Time, tick, never, later, after}
-use Rattle.heads.specs.Layout.{lineAt, earlyAt, lateAt, lanesMost}
+use Rattle.definitions.specs.Times.{Time, tick, never, later, after, times}
+use Rattle.definitions.specs.Shelf.{NoLater}
+use Rattle.heads.specs.Layout.{lineAt, rowAt, processorAt, earlyAt, lateAt, timeAt, lanesMost}
 use Rattle.jobs.specs.Held.{jobIn}
 use Rattle.jobs.specs.Tables.{messageMost, lastShort}
-use Rattle.rounds.specs.Schedule.{arrivalIn, dataIn}
-use Rattle.ticks.specs.Cells.{Small}
-use Rattle.plans.specs.Lines.{rowOf}
-use Rattle.ticks.specs.Lanes.{shortNever}
+use Rattle.rounds.specs.Schedule.{choiceOf, arrivalIn, dataIn, PredecessorsPlaced}
+use Rattle.ticks.specs.Cells.{timeIn}
+use Rattle.ticks.specs.Floats.{timeOf, Held, lane, laneTime}
+use Rattle.plans.specs.Lines.{rowOutcomes, rowOf}
 use Rattle.ticks.specs.declared.clocks.Clocks.{Clocks}
 
--- The time that a cell of 32 bits holds.
-abbrev pub shortIn : ℕ → Time
-shortIn x = if eqb x shortNever then never else tick x
+-- The last tick of a lane: one of a plan's range with a message added.
+abbrev pub laneMost : Limits → ℕ
+laneMost l = l .tick + messageMost l
 
 -- The last tick of a round with a message added.
 abbrev pub lastArrival : Limits → ℕ
@@ -35,48 +36,91 @@ pub record DelayTable (l : Limits) (delays mem : List ℕ) : Type 0 where
   pub cell : (q p : ℕ) → q < nth mem 1 → p < nth mem 1 → nth delays (q * lanesMost + p) ≡ delay (jobIn mem) q p
   pub most : (i : ℕ) → i < delayCells → nth delays i ≤ l .delay
 
--- The lanes of e hold the time f p for each processor p of the job, and none of these passes b.
-pub record TimeTable (f : ℕ → Time) (b : ℕ) (mem e : List ℕ) : Type 0 where
-  pub size : length e ≡ lanesMost
-  pub time : (p : ℕ) → p < nth mem 1 → shortIn (nth e p) ≡ f p
-  pub most : (p : ℕ) → p < nth mem 1 → nth e p ≤ b
+-- No delay of the job passes n.
+abbrev pub NoDelayOver : ℕ → List ℕ → Type 0
+NoDelayOver n mem = (q p : ℕ) → q < nth mem 1 → p < nth mem 1 → delay (jobIn mem) q p ≤ n
 
--- The lanes of e hold times, of which none on a processor of the job passes b.
-abbrev pub ShortTable : ℕ → List ℕ → List ℕ → Type 0
-ShortTable b mem e = TimeTable (λ p. shortIn (nth e p)) b mem e
+-- The lanes of e hold the time f p for each processor p of the job.
+pub record TimeTable (l : Limits) (f : ℕ → Time) (mem : List ℕ) (e : List Float) : Type 0 where
+  pub time : (p : ℕ) → p < nth mem 1 → laneTime e p ≡ f p
+  pub held : (p : ℕ) → p < nth mem 1 → Held (laneMost l) (lane e p)
 
--- The times in e became those in f: none is before the data of the line at a is there, by its first replica or by its last.
-abbrev pub Raised : Bool → ℕ → ℕ → ℕ → List ℕ → List ℕ → List ℕ → Type 0
-Raised late b volume a mem e f = TimeTable (λ p. later (shortIn (nth e p)) (arrivalIn late volume p a mem)) b mem f
+-- The lanes of e hold times.
+abbrev pub LanesHeld : Limits → List ℕ → List Float → Type 0
+LanesHeld l mem e = TimeTable l (laneTime e) mem e
 
--- All data of t is on each processor at the time in e.
-abbrev pub Supplied : ℕ → Bool → ℕ → ℕ → List ℕ → List ℕ → Type 0
-Supplied capacity late b t mem e = TimeTable (λ p. dataIn capacity late t p mem) b mem e
+-- The times in e became those in f: none is before the data of edge a is there; none is before all data of t is there.
+abbrev pub RaisedBy : Limits → ℕ → Bool → Edge → List ℕ → List Float → List Float → Type 0
+RaisedBy l capacity late a mem e f = TimeTable l (λ p. later (laneTime e p) (arrivalIn late (a .volume) p (rowOf capacity (a .from) mem) mem)) mem f
 
--- The early times of the line at a are short, or never.
-abbrev pub FirstShort : ℕ → List ℕ → Type 0
-FirstShort a mem = (c : ℕ) → c < nth mem 3 + 1 → Small lastShort (nth mem (earlyAt a c))
+abbrev pub Raised : Limits → ℕ → Bool → ℕ → List ℕ → List Float → List Float → Type 0
+Raised l capacity late t mem e f = TimeTable l (λ p. later (laneTime e p) (dataIn capacity late t p mem)) mem f
+
+-- Where a table of ends has the first early and the last late finish of task t.
+abbrev pub endAt : Bool → ℕ → ℕ
+endAt late t = 2 * t + (if late then 1 else 0)
+
+-- x is the first early, or the last late, time of the line at a.
+abbrev pub EndOf : Limits → Bool → ℕ → List ℕ → Float → Type 0
+EndOf l late a mem x = Held (l .tick) x × (timeOf x ≡ choiceOf late (times (rowOutcomes late a (nth mem 3 + 1) mem)))
+
+-- The table of ends has those of the tasks of the first k lines.
+pub record Ended (l : Limits) (capacity k : ℕ) (mem : List ℕ) (ends : List Float) : Type 0 where
+  pub size : 2 * nth mem 0 ≤ length ends
+  pub end : (late : Bool) (i : ℕ) → i < k → EndOf l late (rowAt capacity i) mem (lane ends (endAt late (nth mem (rowAt capacity i))))
+
+-- The ends of the line at a were noted for its task t, and nothing else.
+pub record EndsPut (l : Limits) (a t : ℕ) (mem : List ℕ) (ends next : List Float) : Type 0 where
+  pub size : length next ≡ length ends
+  pub end : (late : Bool) → EndOf l late a mem (lane next (endAt late t))
+  pub other : (u : ℕ) → (u ≡ t → ⊥) → (late : Bool) → lane next (endAt late u) ≡ lane ends (endAt late u)
+
+-- The table has ends of the task that an edge leaves, and the edge is one of a job.
+pub record EdgeEnds (l : Limits) (a : Edge) (ends : List Float) : Type 0 where
+  pub from-most : a .from < 256
+  pub volume-most : a .volume ≤ l .volume
+  pub within : 2 * a .from + 1 < length ends
+  pub held : (late : Bool) → Held (l .tick) (lane ends (endAt late (a .from)))
+
+-- What is known of the predecessors of t, and of the times z at which processors are ready, early or late: each predecessor has a line
+-- and its ends in the table, and no processor is ready before its own replica of a predecessor has finished.
+pub record Supplied (l : Limits) (capacity t : ℕ) (z : Bool → ℕ → Time) (mem : List ℕ) (ends : List Float) : Type 0 where
+  pub placed : PredecessorsPlaced capacity t mem
+  pub size : 2 * nth mem 0 ≤ length ends
+  pub end : (late : Bool) (a : Edge) → In a (incoming (jobIn mem) t) → EndOf l late (rowOf capacity (a .from) mem) mem (lane ends (endAt late (a .from)))
+  pub behind : (late : Bool) (a : Edge) (c : ℕ) → In a (incoming (jobIn mem) t) → c < nth mem 3 + 1
+      → NoLater (timeIn (nth mem (timeAt late (rowOf capacity (a .from) mem) c))) (z late (nth mem (processorAt (rowOf capacity (a .from) mem) c)))
+
+-- The times in two tables of lanes, early and late; those of the clocks.
+abbrev pub laneTimes : List Float → List Float → Bool → ℕ → Time
+laneTimes e f late p = laneTime (if late then f else e) p
+
+abbrev pub clockTimes : Clocks → Bool → ℕ → Time
+clockTimes clocks late p = tick (nth (if late then clocks .late else clocks .early) p)
 
 -- The early and the late ticks of the line at a are short.
 abbrev pub BothShort : ℕ → List ℕ → Type 0
 BothShort a mem = (c : ℕ) → c < nth mem 3 + 1 → (nth mem (earlyAt a c) ≤ lastShort) × (nth mem (lateAt a c) ≤ lastShort)
 
--- Every predecessor of t has a line, with early times that are short or never.
-abbrev pub FirstSupplied : ℕ → ℕ → List ℕ → Type 0
-FirstSupplied capacity t mem = (e : Edge) → In e (incoming (jobIn mem) t) → (0 < nth mem (lineAt capacity + e .from)) × FirstShort (rowOf capacity (e .from) mem) mem
-
--- The same for early and late ticks.
+-- Every predecessor of t has a line, with ticks that are short.
 abbrev pub BothSupplied : ℕ → ℕ → List ℕ → Type 0
 BothSupplied capacity t mem = (e : Edge) → In e (incoming (jobIn mem) t) → (0 < nth mem (lineAt capacity + e .from)) × BothShort (rowOf capacity (e .from) mem) mem
 
--- The clocks' ticks are short.
-abbrev pub ShortClocks : Clocks → List ℕ → Type 0
-ShortClocks clocks mem = ShortTable lastShort mem (clocks .early) × ShortTable lastShort mem (clocks .late)
+-- The times of cells early, and never late.
+abbrev pub readyTimes : List ℕ → Bool → ℕ → Time
+readyTimes cells true p = never
+readyTimes cells false p = timeIn (nth cells p)
 
--- The run times of t, and they are as short as a run is.
-pub record RunsOf (l : Limits) (t : ℕ) (mem runs : List ℕ) : Type 0 where
-  pub run : (p : ℕ) → p < nth mem 1 → nth runs p ≡ runTime (jobIn mem) t p
-  pub most : (p : ℕ) → p < nth mem 1 → nth runs p ≤ l .runTime
+-- Ticks that are short, one for each processor; those of the clocks.
+abbrev pub ShortTicks : List ℕ → List ℕ → Type 0
+ShortTicks mem e = (length e ≡ lanesMost) × ((p : ℕ) → p < nth mem 1 → nth e p ≤ lastShort)
+
+abbrev pub ShortClocks : Clocks → List ℕ → Type 0
+ShortClocks clocks mem = ShortTicks mem (clocks .early) × ShortTicks mem (clocks .late)
+
+-- The lanes of e hold ticks that a run leaves short.
+abbrev pub TicksHeld : Limits → List ℕ → List Float → Type 0
+TicksHeld l mem e = (p : ℕ) → p < nth mem 1 → Held (laneMost l) (lane e p) × ((x : ℕ) × (laneTime e p ≡ tick x) × (x ≤ lastArrival l))
 
 -- The finishes of t on each processor, early and late, if they are ready at the clocks' ticks.
 pub record BothFinish (capacity t : ℕ) (clocks : Clocks) (mem e l : List ℕ) : Type 0 where

@@ -5,9 +5,8 @@ use mathlib.Core.Bool.{Bool, true, false}
 use Prim.Native.Nat.{ℕ, _+_, _*_, _<_, _≤_}
 use Rattle.definitions.specs.Lists.{nth, below, greatest, In}
 use Rattle.definitions.specs.Limits.{Limits}
-use Rattle.definitions.specs.Job.{Edge, Job, incoming}
-use Rattle.definitions.specs.Times.{Time, after, least, largest, Outcome, ofTask, arrivalFrom}
-use Rattle.definitions.specs.Shelf.{elsewhere}
+use Rattle.definitions.specs.Job.{Edge, incoming}
+use Rattle.definitions.specs.Times.{Time, after, least, largest, arrival, dataReady}
 use Rattle.definitions.specs.Planner.{largestDelay, bottomLevels}
 use Rattle.jobs.specs.Held.{jobIn}
 use Rattle.plans.specs.Lines.{rowOutcomes, placedIn, rowOf}
@@ -23,27 +22,17 @@ choiceOf false = least
 abbrev pub edgeFrom : ℕ → ℕ → List ℕ → Edge
 edgeFrom volume a mem = record { from = nth mem a; to = 0; volume = volume }
 
--- The replicas of task t whose data is looked at for p: late none where one is on p, early all. Starts are those of the definitions
--- (start-elsewhere, start-all).
-abbrev pub sendersOf : Bool → ℕ → ℕ → List Outcome → List Outcome
-sendersOf true t p placed = elsewhere t p placed
-sendersOf false t p placed = ofTask t placed
-
--- When its data is on p, by the replicas of that line.
-unfoldable pub arrivalIn : Bool → ℕ → ℕ → ℕ → List ℕ → Time
-arrivalIn late volume p a mem =
-    arrivalFrom (jobIn mem) (choiceOf late) (sendersOf late (nth mem a) p (rowOutcomes late a (nth mem 3 + 1) mem)) p (edgeFrom volume a mem)
+-- When its data is on p, by the replicas of that line that feed p: the least early, the largest late.
+abbrev pub arrivalIn : Bool → ℕ → ℕ → ℕ → List ℕ → Time
+arrivalIn late volume p a mem = arrival (jobIn mem) (choiceOf late) (rowOutcomes late a (nth mem 3 + 1) mem) p (edgeFrom volume a mem)
 
 -- How many lines stand: the greatest line of a task.
 abbrev pub lineCount : ℕ → List ℕ → ℕ
 lineCount capacity mem = greatest (map (λ t. nth mem (lineAt capacity + t)) (below (nth mem 0)))
 
--- When all data of t is on p, by what is placed; by the lines that stand.
-abbrev pub dataBy : Bool → Job → List Outcome → ℕ → ℕ → Time
-dataBy late j placed t p = largest (map (λ e. arrivalFrom j (choiceOf late) (sendersOf late (e .from) p placed) p e) (incoming j t))
-
+-- When all data of t is on p, by the lines that stand.
 unfoldable pub dataIn : ℕ → Bool → ℕ → ℕ → List ℕ → Time
-dataIn capacity late t p mem = dataBy late (jobIn mem) (placedIn capacity late (nth mem 3 + 1) (lineCount capacity mem) mem) t p
+dataIn capacity late t p mem = dataReady (jobIn mem) (choiceOf late) (placedIn capacity late (nth mem 3 + 1) (lineCount capacity mem) mem) t p
 
 -- The ticks of the first k lines do not pass what k lines add up to.
 abbrev pub ShortTo : Limits → ℕ → ℕ → List ℕ → Type 0

@@ -2,7 +2,8 @@
 ghost use mathlib.Core.Path.{_≡_};
 ghost use mathlib.Core.List.{[]};
 ghost use mathlib.Core.Bool.{true};
-ghost use Prim.Native.Nat.{_+_, _<_};
+ghost use Prim.Native.Nat.{_+_, _*_, _<_, _≤_};
+ghost use lib.ListN.{length};
 ghost use Rattle.definitions.specs.Lists.{nth};
 ghost use Rattle.definitions.specs.Limits.{document01};
 ghost use Rattle.definitions.specs.Text.{good};
@@ -12,7 +13,7 @@ ghost use Rattle.jobs.specs.Held.{jobIn, LinksHeld};
 ghost use Rattle.rounds.specs.Schedule.{ShortTo};
 ghost use Rattle.plans.specs.Loading.{planIn, PlanHeld};
 ghost use Rattle.rounds.specs.Verdicts.{Judged};
-ghost use Rattle.rounds.specs.Arrivals.{DelayTable};
+ghost use Rattle.rounds.specs.Arrivals.{DelayTable, NoDelayOver, Ended};
 ghost use Rattle.replicas.specs.Cells.{doubledIn};
 ghost use Rattle.rounds.specs.Clocks.{SettledTo};
 ghost use Rattle.rounds.specs.Checking.{ClocksAfter, LineAgrees, DoubledBy};
@@ -43,10 +44,13 @@ fn line_agrees(
     links: &[u64],
     capacity: usize,
     delays: &[u16; 256],
+    most: u16,
+    ends: &[f64],
     k: usize,
     clocks: Clocks,
 ) -> bool
-    requires { ⌜ PlanHeld document01 capacity (now mem) × DelayTable document01 (now delays) (now mem) × (k < nth (now mem) 0) × ShortTo document01 capacity k (now mem)
+    requires { ⌜ PlanHeld document01 capacity (now mem) × DelayTable document01 (now delays) (now mem) × NoDelayOver most (now mem) × (most ≤ document01 .delay)
+        × Ended document01 capacity k (now mem) (now ends) × (k < nth (now mem) 0) × ShortTo document01 capacity k (now mem)
         × ClocksAfter capacity k (now mem) clocks × SettledTo capacity k (now mem)
         × LinksHeld (now mem) (now links) ⌝ }
     ensures { λ r. ⌜ (r ≡ true → LineAgrees capacity k (now (mem .entry)) × ShortTo document01 capacity (k + 1) (now (mem .entry))) × (LineAgrees capacity k (now (mem .entry)) → r ≡ true) ⌝ }
@@ -54,7 +58,7 @@ fn line_agrees(
     let w = mem[3] as usize + 1;
     let a = row::row_at(capacity, k);
     let t = mem[a] as usize;
-    let f = times::finishes(mem, links, capacity, delays, t, clocks);
+    let f = times::finishes(mem, links, capacity, delays, most, ends, t, clocks);
     let mut c = 0;
     while c < w {
         let x = row::replica_at(mem, a, c);
@@ -70,18 +74,21 @@ fn line_agrees(
     true
 }
 
-// All ticks are the equations'.
-fn ticks_agree(mem: &[u64], links: &[u64], capacity: usize) -> bool
-    requires { ⌜ PlanHeld document01 capacity (now mem) × (doubledTasks (planIn capacity (now mem) .lines) ≡ []) × LinksHeld (now mem) (now links) ⌝ }
+// All ticks are the equations', line by line, with a table for the lines' ends.
+fn lines_agree(mem: &[u64], links: &[u64], capacity: usize, ends: &mut [f64]) -> bool
+    requires { ⌜ PlanHeld document01 capacity (now mem) × (doubledTasks (planIn capacity (now mem) .lines) ≡ []) × LinksHeld (now mem) (now links) × (2 * nth (now mem) 0 ≤ length (now ends)) ⌝ }
     ensures { λ r. ⌜ r ≡ ticksAgree (jobIn (now (mem .entry))) (planIn capacity (now (mem .entry)) .lines) ⌝ }
 {
     let v = mem[0] as usize;
     let delays = times::delay_table(mem);
+    let most = times::most_delay(mem, &delays);
     let mut clocks = Clocks::new();
     let mut k = 0;
     while k < v {
-        if line_agrees(mem, links, capacity, &delays, k, clocks) {
-            let next = clocks::advance_line(mem, row::row_at(capacity, k), clocks);
+        if line_agrees(mem, links, capacity, &delays, most, &ends[..], k, clocks) {
+            let a = row::row_at(capacity, k);
+            times::put_ends(mem, a, mem[a] as usize, ends);
+            let next = clocks::advance_line(mem, a, clocks);
             clocks = next;
         } else {
             return false;
@@ -89,6 +96,19 @@ fn ticks_agree(mem: &[u64], links: &[u64], capacity: usize) -> bool
         k += 1;
     }
     true
+}
+
+// All ticks are the equations'. The table of ends is made for the job, as the memory is.
+fn ticks_agree(mem: &[u64], links: &[u64], capacity: usize) -> bool
+    requires { ⌜ PlanHeld document01 capacity (now mem) × (doubledTasks (planIn capacity (now mem) .lines) ≡ []) × LinksHeld (now mem) (now links) ⌝ }
+    ensures { λ r. ⌜ r ≡ ticksAgree (jobIn (now (mem .entry))) (planIn capacity (now (mem .entry)) .lines) ⌝ }
+{
+    if mem[0] <= 16 {
+        let mut ends = [0.0f64; 32];
+        return lines_agree(mem, links, capacity, &mut ends);
+    }
+    let mut ends = [0.0f64; 512];
+    lines_agree(mem, links, capacity, &mut ends)
 }
 
 // M* and M are the equations', if all ticks are.

@@ -11,14 +11,7 @@ pub fn advance_line(mem: &[u64], a: usize, clocks: Clocks) -> Clocks
     requires { ⌜ LineTimed document01 a (now mem) ⌝ }
     ensures { λ r. ⌜ Advanced a (nth (now (mem .entry)) 3 + 1) (now (mem .entry)) clocks r ⌝ }
 {
-    let w = mem[3] as usize + 1;
-    let mut after = clocks;
-    let mut c = 0;
-    while c < w {
-        let x = row::replica_at(mem, a, c);
-        let next = after.advance(x.processor, x.early as u32, x.late as u32);
-        after = next;
-        c += 1;
-    }
-    after
+    let first = row::place(a, 0);
+    let end = row::place(a, mem[3] as usize + 1);
+    clocks.advance(&mem[first..end])
 }

@@ -1,13 +1,14 @@
 // The planner: tasks placed one by one on the processors of least early finish.
 ghost use mathlib.Core.List.{[], reverse};
-ghost use Prim.Native.Nat.{ℕ, _+_, _-_, _*_, _<_};
+ghost use Prim.Native.Nat.{ℕ, _+_, _-_, _*_, _<_, _≤_};
+ghost use lib.ListN.{length};
 ghost use Rattle.definitions.specs.Lists.{nth};
 ghost use Rattle.definitions.specs.Limits.{document01};
 ghost use Rattle.definitions.specs.Job.{outgoing};
 ghost use Rattle.heads.specs.Layout.{memorySize, lineAt, blockedAt, rowAt, largestDelayAt, levelAt};
 ghost use Rattle.jobs.specs.Held.{jobIn, JobHeld, LinksHeld};
 ghost use Rattle.lists.specs.Kept.{KeptOutside};
-ghost use Rattle.rounds.specs.Arrivals.{DelayTable};
+ghost use Rattle.rounds.specs.Arrivals.{DelayTable, NoDelayOver, Ended};
 ghost use Rattle.rounds.specs.Planning.{FreeList, Taken, processorsFor, Drawn, Ranked, Critical, Tried, Begun, Cleared, Blocked, Unblocked};
 ghost use Rattle.rounds.specs.Clocks.{earliesIn, latesIn, ClocksHeld};
 use crate::clocks;
@@ -76,24 +77,37 @@ fn place_task(
     links: &[u64],
     capacity: usize,
     delays: &[u16; 256],
+    most: u16,
+    ends: &mut [f64],
     k: usize,
     t: usize,
     clocks: Clocks,
 ) -> Clocks
-    requires { ⌜ DelayTable document01 (now delays) (now mem) × Critical document01 capacity k t (now mem)
+    requires { ⌜ DelayTable document01 (now delays) (now mem) × NoDelayOver most (now mem) × (most ≤ document01 .delay)
+        × Ended document01 capacity k (now mem) (now ends) × Critical document01 capacity k t (now mem)
         × ClocksHeld clocks (jobIn (now mem)) (earliesIn capacity k (now mem)) (latesIn capacity k (now mem)) × LinksHeld (now mem) (now links) ⌝ }
     ensures { λ r. ⌜ KeptOutside (lineAt capacity) (largestDelayAt capacity) (now (mem .entry)) (now (mem .exit)) × Drawn document01 capacity (k + 1) (now (mem .exit))
         × Ranked capacity (reverse (outgoing (jobIn (now (mem .exit))) t)) (now (mem .exit))
         × ClocksHeld r (jobIn (now (mem .exit))) (earliesIn capacity (k + 1) (now (mem .exit))) (latesIn capacity (k + 1) (now (mem .exit)))
-        × Taken capacity t (now (mem .entry)) (now (mem .exit)) ⌝ }
+        × Taken capacity t (now (mem .entry)) (now (mem .exit)) × Ended document01 capacity (k + 1) (now (mem .exit)) (now (ends .exit)) ⌝ }
 {
-    let f = times::finishes(&mem[..], links, capacity, delays, t, clocks);
+    let f = times::finishes(
+        &mem[..],
+        links,
+        capacity,
+        delays,
+        most,
+        &ends[..],
+        t,
+        clocks,
+    );
     let early = f.early;
     let late = f.late;
     fill_line(mem, capacity, k, t, early, late);
     let a = row::row_at(capacity, k);
     mem[a] = t as u64;
     row::put_line(mem, capacity, t, k);
+    times::put_ends(&mem[..], a, t, ends);
     clocks::advance_line(&mem[..], a, clocks)
 }
 
@@ -164,24 +178,39 @@ fn prepare(mem: &mut [u64], links: &[u64], capacity: usize)
     clear_tasks(mem, links, capacity);
 }
 
-// Draws up the plan of the job in memory.
-pub fn draw_plan(mem: &mut [u64], links: &[u64], capacity: usize)
-    requires { ⌜ JobHeld document01 capacity (now mem) × LinksHeld (now mem) (now links) ⌝ }
+// Draws up all lines of the plan, with a table for their ends.
+fn draw_lines(mem: &mut [u64], links: &[u64], capacity: usize, ends: &mut [f64])
+    requires { ⌜ Drawn document01 capacity 0 (now mem) × Ranked capacity [] (now mem) × LinksHeld (now mem) (now links) × (2 * nth (now mem) 0 ≤ length (now ends)) ⌝ }
     ensures { λ _. ⌜ KeptOutside (levelAt capacity) (memorySize capacity) (now (mem .entry)) (now (mem .exit)) × Drawn document01 capacity (nth (now (mem .entry)) 0) (now (mem .exit)) ⌝ }
 {
-    prepare(mem, links, capacity);
     let v = mem[0] as usize;
     let delays = times::delay_table(&mem[..]);
+    let most = times::most_delay(&mem[..], &delays);
     let mut clocks = Clocks::new();
     let mut free = [0u8; 256];
     let mut n = free::list_free(&mem[..], capacity, &mut free);
     let mut k = 0;
     while k < v {
         let t = free[n - 1] as usize;
-        let after = place_task(mem, links, capacity, &delays, k, t, clocks);
+        let after = place_task(mem, links, capacity, &delays, most, ends, k, t, clocks);
         clocks = after;
         let count = release(mem, links, capacity, t, &mut free, n - 1);
         n = count;
         k += 1;
+    }
+}
+
+// Draws up the plan of the job in memory. The table of ends is made for the job, as the memory is.
+pub fn draw_plan(mem: &mut [u64], links: &[u64], capacity: usize)
+    requires { ⌜ JobHeld document01 capacity (now mem) × LinksHeld (now mem) (now links) ⌝ }
+    ensures { λ _. ⌜ KeptOutside (levelAt capacity) (memorySize capacity) (now (mem .entry)) (now (mem .exit)) × Drawn document01 capacity (nth (now (mem .entry)) 0) (now (mem .exit)) ⌝ }
+{
+    prepare(mem, links, capacity);
+    if mem[0] <= 16 {
+        let mut ends = [0.0f64; 32];
+        draw_lines(mem, links, capacity, &mut ends);
+    } else {
+        let mut ends = [0.0f64; 512];
+        draw_lines(mem, links, capacity, &mut ends);
     }
 }

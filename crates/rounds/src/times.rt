@@ -2,18 +2,23 @@
 ghost use mathlib.Core.Path.{_≡_};
 ghost use mathlib.Core.Logic.{_⊎_};
 ghost use mathlib.Core.Bool.{true, false};
-ghost use Prim.Native.Nat.{ℕ, _+_, _≤_, _<_};
+ghost use Prim.Native.Nat.{ℕ, _+_, _*_, _≤_, _<_};
 ghost use lib.ListN.{length};
 ghost use Rattle.definitions.specs.Lists.{if_then_else_, nth};
 ghost use Rattle.definitions.specs.Limits.{document01};
-ghost use Rattle.definitions.specs.Times.{later, sooner, after};
+ghost use Rattle.definitions.specs.Job.{runTime};
+ghost use Rattle.definitions.specs.Times.{tick, later, sooner, after, least, largest, arrival};
+ghost use Rattle.definitions.specs.Shelf.{NoLater};
 ghost use Rattle.heads.specs.Layout.{lanesMost};
+ghost use Rattle.orders.specs.Edges.{edgeIn};
 ghost use Rattle.ticks.specs.Cells.{timeIn, Small};
-ghost use Rattle.ticks.specs.Lanes.{shortNever};
-ghost use Rattle.plans.specs.Lines.{rowEnd, RowHeld, LinesHeld};
-ghost use Rattle.rounds.specs.Schedule.{dataIn};
-ghost use Rattle.jobs.specs.Held.{SomeJobHeld, LinksHeld};
-ghost use Rattle.rounds.specs.Arrivals.{DelayTable, ShortTable, Raised, Supplied, lastArrival, FirstShort, BothShort, FirstSupplied, BothSupplied, ShortClocks, RunsOf, BothFinish};
+ghost use Rattle.ticks.specs.Floats.{timeOf, Held, lane, laneTime};
+ghost use Rattle.plans.specs.Lines.{rowEnd, rowOutcomes, RowHeld, LinesHeld};
+ghost use Rattle.rounds.specs.Schedule.{edgeFrom, dataIn};
+ghost use Rattle.jobs.specs.Held.{jobIn, JobHeld, SomeJobHeld, LinksHeld};
+ghost use Rattle.rounds.specs.Walks.{Feeds};
+ghost use Rattle.rounds.specs.Arrivals.{laneMost, lastArrival, DelayTable, NoDelayOver, TimeTable, LanesHeld, Raised, RaisedBy, endAt, EdgeEnds, EndsPut, Supplied, laneTimes, clockTimes, readyTimes, BothSupplied, ShortClocks, TicksHeld, BothFinish};
+use crate::makespans;
 use crate::numbers;
 use crate::row;
 use crate::walk;
@@ -21,7 +26,6 @@ use ticks::clocks::Clocks;
 use ticks::lanes;
 use ticks::lanes::Both;
 use ticks::lanes::NEVER;
-use ticks::lanes::SHORT_NEVER;
 
 // The later of two times, or the sooner.
 pub fn chosen_of(late: bool, x: u64, y: u64) -> u64
@@ -61,128 +65,163 @@ pub fn delay_table(mem: &[u64]) -> [u16; 256]
     delays
 }
 
-// For each processor the later of its time and of the arrival of the first data of a predecessor whose line is at `a`.
-fn first_arrivals(mem: &[u64], delays: &[u16; 256], a: usize, volume: u16, high: &mut [u32; 16])
-    requires { ⌜ SomeJobHeld document01 (now mem) × DelayTable document01 (now delays) (now mem) × RowHeld document01 a (now mem) × (rowEnd a ≤ length (now mem))
-        × (volume ≤ document01 .volume) × FirstShort a (now mem) × ShortTable shortNever (now mem) (now high) ⌝ }
-    ensures { λ _. ⌜ Raised false shortNever volume a (now (mem .entry)) (now (high .entry)) (now (high .exit)) ⌝ }
+// The greatest delay of the job in memory.
+pub fn most_delay(mem: &[u64], delays: &[u16; 256]) -> u16
+    requires { ⌜ SomeJobHeld document01 (now mem) × DelayTable document01 (now delays) (now mem) ⌝ }
+    ensures { λ r. ⌜ NoDelayOver r (now (mem .entry)) × (r ≤ document01 .delay) ⌝ }
 {
-    let w = mem[3] as usize + 1;
-    let mut low = [SHORT_NEVER; 16];
-    let mut c = 0;
-    while c < w {
-        let x = row::replica_at(mem, a, c);
-        if x.early != NEVER {
-            lanes::offer_sooner(&mut low, delays, x.processor, volume, x.early as u32);
-        }
-        c += 1;
-    }
-    lanes::raise(high, &low);
+    let n = 16 * mem[1] as usize;
+    let all = &delays[..];
+    lanes::most(&all[..n])
 }
 
-// When all data of t is on each processor, by the first replicas.
-pub fn first_data(
+// A cell's time in a lane.
+fn lane_of(x: u64) -> f64
+    requires { ⌜ Small (document01 .tick) x ⌝ }
+    ensures { λ r. ⌜ Held (document01 .tick) r × (timeOf r ≡ timeIn x) ⌝ }
+{
+    if x == NEVER {
+        return lanes::no_time();
+    }
+    x as u32 as f64
+}
+
+// A lane's time in a cell.
+fn cell_of(x: f64) -> u64
+    requires { ⌜ Held (laneMost document01) x ⌝ }
+    ensures { λ r. ⌜ (timeIn r ≡ timeOf x) × Small (laneMost document01) r ⌝ }
+{
+    if x == lanes::no_time() {
+        return NEVER;
+    }
+    x as i64 as u64
+}
+
+// Least and largest: when the data of a predecessor whose line is at `a` is on each processor, by the replicas that feed it, early by the
+// first of them and late by the last. One pass; each replica is looked at once, the first on a processor after the others there.
+fn arrivals(mem: &[u64], delays: &[u16; 256], a: usize, volume: u16) -> Both
+    requires { ⌜ SomeJobHeld document01 (now mem) × DelayTable document01 (now delays) (now mem) × RowHeld document01 a (now mem)
+        × (rowEnd a ≤ length (now mem)) × (volume ≤ document01 .volume) ⌝ }
+    ensures { λ r. ⌜ TimeTable document01 (λ p. arrival (jobIn (now (mem .entry))) least (rowOutcomes false a (nth (now (mem .entry)) 3 + 1) (now (mem .entry))) p
+        (edgeFrom volume a (now (mem .entry)))) (now (mem .entry)) (r .early)
+        × TimeTable document01 (λ p. arrival (jobIn (now (mem .entry))) largest (rowOutcomes true a (nth (now (mem .entry)) 3 + 1) (now (mem .entry))) p
+        (edgeFrom volume a (now (mem .entry)))) (now (mem .entry)) (r .late) ⌝ }
+{
+    let mut low = [lanes::no_time(); 16];
+    let mut high = [0.0f64; 16];
+    let mut first = [0.0f64; 16];
+    let mut last = [lanes::no_time(); 16];
+    let mut c = mem[3] as usize + 1;
+    while c > 0 {
+        c -= 1;
+        let x = row::replica_at(mem, a, c);
+        let q = x.processor;
+        let early = lane_of(x.early);
+        let late = lane_of(x.late);
+        lanes::offer(&mut low, &mut high, delays, q, volume, early, late);
+        first[q] = early;
+        last[q] = late;
+    }
+    lanes::raise(&mut low, &first);
+    lanes::lower(&mut high, &last);
+    Both {
+        early: low,
+        late: high,
+    }
+}
+
+// Whether some processor may wait for the data of the edge in a cell: all are ready at x early and at y late, no delay is over `most`.
+fn may_wait(ends: &[f64], cell: u64, most: u16, x: f64, y: f64) -> bool
+    requires { ⌜ EdgeEnds document01 (edgeIn cell) (now ends) × Held (laneMost document01) x × Held (laneMost document01) y × (most ≤ document01 .delay) ⌝ }
+    ensures { λ r. ⌜ (r ≡ false → NoLater (after (edgeIn cell .volume * most) (timeOf (lane (now (ends .entry)) (endAt false (edgeIn cell .from))))) (timeOf x)
+        × NoLater (after (edgeIn cell .volume * most) (timeOf (lane (now (ends .entry)) (endAt true (edgeIn cell .from))))) (timeOf y)) ⌝ }
+{
+    let t = orders::edge_from(cell);
+    let n = (orders::edge_volume(cell) as u32 * most as u32) as f64;
+    if x < ends[2 * t] + n {
+        return true;
+    }
+    y < ends[2 * t + 1] + n
+}
+
+// The times of each processor, raised to those at which the data of the edge in a cell is there.
+fn raise_edge(
+    mem: &[u64],
+    capacity: usize,
+    delays: &[u16; 256],
+    cell: u64,
+    early: &mut [f64; 16],
+    late: &mut [f64; 16],
+)
+    requires { ⌜ JobHeld document01 capacity (now mem) × DelayTable document01 (now delays) (now mem) × Feeds document01 capacity (edgeIn cell) (now mem)
+        × LanesHeld document01 (now mem) (now early) × LanesHeld document01 (now mem) (now late) ⌝ }
+    ensures { λ _. ⌜ RaisedBy document01 capacity false (edgeIn cell) (now (mem .entry)) (now (early .entry)) (now (early .exit))
+        × RaisedBy document01 capacity true (edgeIn cell) (now (mem .entry)) (now (late .entry)) (now (late .exit)) ⌝ }
+{
+    let e = walk::entering(mem, capacity, cell);
+    let r = arrivals(mem, delays, e.row, e.volume);
+    lanes::raise(early, &r.early);
+    lanes::raise(late, &r.late);
+}
+
+// The times of each processor, raised to those at which all data of t is there.
+fn raise_data(
     mem: &[u64],
     links: &[u64],
     capacity: usize,
     delays: &[u16; 256],
+    most: u16,
+    ends: &[f64],
     t: usize,
-) -> [u64; 16]
-    requires { ⌜ ((k : ℕ) × LinesHeld document01 capacity k (now mem)) × LinksHeld (now mem) (now links) × DelayTable document01 (now delays) (now mem)
-        × (t < nth (now mem) 0) × FirstSupplied capacity t (now mem) ⌝ }
-    ensures { λ r. ⌜ (length r ≡ lanesMost) × ((p : ℕ) → p < nth (now (mem .entry)) 1 → (timeIn (nth r p) ≡ dataIn capacity false t p (now (mem .entry))) × Small shortNever (nth r p)) ⌝ }
-{
-    let span = orders::entering(links, mem[0] as usize, t);
-    let mut high = [0u32; 16];
-    for k in span.start..span.end {
-        let e = walk::entering(mem, capacity, links[k]);
-        first_arrivals(mem, delays, e.row, e.volume, &mut high);
-    }
-    lanes::widened(&high)
-}
-
-// The finish of what is ready, and has its data, at these times, and then runs for n ticks.
-pub fn finish_of(ready: u64, supplied: u64, n: u64) -> u64
-    requires { ⌜ Small shortNever ready × Small shortNever supplied × (n ≤ document01 .runTime) ⌝ }
-    ensures { λ r. ⌜ (timeIn r ≡ after n (later (timeIn ready) (timeIn supplied))) × Small (shortNever + document01 .runTime) r ⌝ }
-{
-    let start = chosen_of(true, ready, supplied);
-    if start == NEVER {
-        return NEVER;
-    }
-    start + n
-}
-
-// For each processor the later of its tick and of the arrival of the data of a predecessor whose line is at `a`: early by the first
-// of its replicas, late by the last; a processor that has one of them waits for none, late.
-fn both_arrivals(
-    mem: &[u64],
-    delays: &[u16; 256],
-    a: usize,
-    volume: u16,
-    early: &mut [u32; 16],
-    late: &mut [u32; 16],
+    early: &mut [f64; 16],
+    late: &mut [f64; 16],
 )
-    requires { ⌜ SomeJobHeld document01 (now mem) × DelayTable document01 (now delays) (now mem) × RowHeld document01 a (now mem) × (rowEnd a ≤ length (now mem))
-        × (volume ≤ document01 .volume) × BothShort a (now mem)
-        × ShortTable (lastArrival document01) (now mem) (now early) × ShortTable (lastArrival document01) (now mem) (now late) ⌝ }
-    ensures { λ _. ⌜ Raised false (lastArrival document01) volume a (now (mem .entry)) (now (early .entry)) (now (early .exit))
-        × Raised true (lastArrival document01) volume a (now (mem .entry)) (now (late .entry)) (now (late .exit)) ⌝ }
-{
-    let w = mem[3] as usize + 1;
-    let mut low = [SHORT_NEVER; 16];
-    let before = *late;
-    let mut marks = [0u32; 16];
-    let mut c = 0;
-    while c < w {
-        let x = row::replica_at(mem, a, c);
-        let q = x.processor;
-        lanes::offer_both(
-            &mut low,
-            late,
-            delays,
-            q,
-            volume,
-            x.early as u32,
-            x.late as u32,
-        );
-        marks[q] = 1;
-        c += 1;
-    }
-    lanes::raise(early, &low);
-    lanes::put_back(late, &before, &marks);
-}
-
-// When all data of t is on each processor, early and late.
-fn both_data(mem: &[u64], links: &[u64], capacity: usize, delays: &[u16; 256], t: usize) -> Both
     requires { ⌜ ((k : ℕ) × LinesHeld document01 capacity k (now mem)) × LinksHeld (now mem) (now links) × DelayTable document01 (now delays) (now mem)
-        × (t < nth (now mem) 0) × BothSupplied capacity t (now mem) ⌝ }
-    ensures { λ r. ⌜ Supplied capacity false (lastArrival document01) t (now (mem .entry)) (r .early)
-        × Supplied capacity true (lastArrival document01) t (now (mem .entry)) (r .late) ⌝ }
+        × NoDelayOver most (now mem) × (most ≤ document01 .delay) × (t < nth (now mem) 0)
+        × Supplied document01 capacity t (laneTimes (now early) (now late)) (now mem) (now ends)
+        × LanesHeld document01 (now mem) (now early) × LanesHeld document01 (now mem) (now late) ⌝ }
+    ensures { λ _. ⌜ Raised document01 capacity false t (now (mem .entry)) (now (early .entry)) (now (early .exit))
+        × Raised document01 capacity true t (now (mem .entry)) (now (late .entry)) (now (late .exit)) ⌝ }
 {
     let span = orders::entering(links, mem[0] as usize, t);
-    let mut early = [0u32; 16];
-    let mut late = [0u32; 16];
+    let m = mem[1] as usize;
+    let x = lanes::least(early, m);
+    let y = lanes::least(late, m);
     for k in span.start..span.end {
-        let e = walk::entering(mem, capacity, links[k]);
-        both_arrivals(mem, delays, e.row, e.volume, &mut early, &mut late);
+        let cell = links[k];
+        if may_wait(ends, cell, most, x, y) {
+            raise_edge(mem, capacity, delays, cell, early, late);
+        }
     }
-    Both { early, late }
 }
 
-// The run times of t, one for each processor of the job.
-fn run_times(mem: &[u64], t: usize) -> [u32; 16]
-    requires { ⌜ SomeJobHeld document01 (now mem) × (t < nth (now mem) 0) ⌝ }
-    ensures { λ r. ⌜ RunsOf document01 t (now (mem .entry)) r ⌝ }
+// The finish of what starts at x and runs for n ticks.
+fn finish_tick(x: f64, n: u64) -> u32
+    requires { ⌜ Held (laneMost document01) x × ((y : ℕ) × (timeOf x ≡ tick y) × (y ≤ lastArrival document01)) × (n ≤ document01 .runTime) ⌝ }
+    ensures { λ r. ⌜ tick r ≡ after n (timeOf x) ⌝ }
+{
+    x as u32 + n as u32
+}
+
+// The finishes of t on each processor of the job, if it starts there at these times.
+fn run_lanes(mem: &[u64], t: usize, starts: &[f64; 16]) -> [u32; 16]
+    requires { ⌜ SomeJobHeld document01 (now mem) × (t < nth (now mem) 0) × TicksHeld document01 (now mem) (now starts) ⌝ }
+    ensures { λ r. ⌜ (length r ≡ lanesMost) × ((p : ℕ) → p < nth (now (mem .entry)) 1 → tick (nth r p) ≡ after (runTime (jobIn (now (mem .entry))) t p) (laneTime (now (starts .entry)) p)) ⌝ }
 {
     let m = mem[1] as usize;
-    let mut runs = [0u32; 16];
+    let mut finishes = [0u32; 16];
     let mut p = 0;
     while p < m {
-        runs[p] = numbers::run_time(mem, t, p) as u32;
+        finishes[p] = finish_tick(starts[p], numbers::run_time(mem, t, p));
         p += 1;
     }
-    runs
+    finishes
+}
+
+// For each processor an early and a late finish.
+pub struct Ticks {
+    pub early: [u32; 16],
+    pub late: [u32; 16],
 }
 
 // The early and the late finish of t on each processor, if it is ready at the clocks' ticks.
@@ -191,15 +230,118 @@ pub fn finishes(
     links: &[u64],
     capacity: usize,
     delays: &[u16; 256],
+    most: u16,
+    ends: &[f64],
     t: usize,
     clocks: Clocks,
-) -> Both
-    requires { ⌜ ((k : ℕ) × LinesHeld document01 capacity k (now mem)) × DelayTable document01 (now delays) (now mem)
+) -> Ticks
+    requires { ⌜ ((k : ℕ) × LinesHeld document01 capacity k (now mem)) × DelayTable document01 (now delays) (now mem) × NoDelayOver most (now mem) × (most ≤ document01 .delay)
         × (t < nth (now mem) 0) × BothSupplied capacity t (now mem) × ShortClocks clocks (now mem)
-        × LinksHeld (now mem) (now links) ⌝ }
+        × Supplied document01 capacity t (clockTimes clocks) (now mem) (now ends) × LinksHeld (now mem) (now links) ⌝ }
     ensures { λ r. ⌜ BothFinish capacity t clocks (now (mem .entry)) (r .early) (r .late) ⌝ }
 {
-    let data = both_data(mem, links, capacity, delays, t);
-    let runs = run_times(mem, t);
-    lanes::finish(clocks, data, runs)
+    let mut early = lanes::floats(&clocks.early);
+    let mut late = lanes::floats(&clocks.late);
+    raise_data(
+        mem,
+        links,
+        capacity,
+        delays,
+        most,
+        ends,
+        t,
+        &mut early,
+        &mut late,
+    );
+    Ticks {
+        early: run_lanes(mem, t, &early),
+        late: run_lanes(mem, t, &late),
+    }
+}
+
+// The times of cells in lanes, one for each processor of the job.
+fn lanes_of(mem: &[u64], cells: &[u64; 16]) -> [f64; 16]
+    requires { ⌜ SomeJobHeld document01 (now mem) × ((p : ℕ) → p < nth (now mem) 1 → Small (document01 .tick) (nth (now cells) p)) ⌝ }
+    ensures { λ r. ⌜ TimeTable document01 (λ p. timeIn (nth (now (cells .entry)) p)) (now (mem .entry)) r ⌝ }
+{
+    let m = mem[1] as usize;
+    let mut times = [0.0f64; 16];
+    let mut p = 0;
+    while p < m {
+        times[p] = lane_of(cells[p]);
+        p += 1;
+    }
+    times
+}
+
+// The times of lanes in cells, one for each processor of the job.
+fn cells_of(mem: &[u64], times: &[f64; 16]) -> [u64; 16]
+    requires { ⌜ SomeJobHeld document01 (now mem) × LanesHeld document01 (now mem) (now times) ⌝ }
+    ensures { λ r. ⌜ (length r ≡ lanesMost) × ((p : ℕ) → p < nth (now (mem .entry)) 1 → (timeIn (nth r p) ≡ laneTime (now (times .entry)) p) × Small (laneMost document01) (nth r p)) ⌝ }
+{
+    let m = mem[1] as usize;
+    let mut cells = [0u64; 16];
+    let mut p = 0;
+    while p < m {
+        cells[p] = cell_of(times[p]);
+        p += 1;
+    }
+    cells
+}
+
+// When t can start on each processor, by the first data, if it is ready at the times in the cells.
+pub fn first_starts(
+    mem: &[u64],
+    links: &[u64],
+    capacity: usize,
+    delays: &[u16; 256],
+    most: u16,
+    ends: &[f64],
+    t: usize,
+    ready: &[u64; 16],
+) -> [u64; 16]
+    requires { ⌜ ((k : ℕ) × LinesHeld document01 capacity k (now mem)) × LinksHeld (now mem) (now links) × DelayTable document01 (now delays) (now mem)
+        × NoDelayOver most (now mem) × (most ≤ document01 .delay) × (t < nth (now mem) 0)
+        × ((p : ℕ) → p < nth (now mem) 1 → Small (document01 .tick) (nth (now ready) p))
+        × Supplied document01 capacity t (readyTimes (now ready)) (now mem) (now ends) ⌝ }
+    ensures { λ r. ⌜ (length r ≡ lanesMost) × ((p : ℕ) → p < nth (now (mem .entry)) 1
+        → (timeIn (nth r p) ≡ later (timeIn (nth (now (ready .entry)) p)) (dataIn capacity false t p (now (mem .entry)))) × Small (laneMost document01) (nth r p)) ⌝ }
+{
+    let mut early = lanes_of(mem, ready);
+    let mut late = [lanes::no_time(); 16];
+    raise_data(
+        mem,
+        links,
+        capacity,
+        delays,
+        most,
+        ends,
+        t,
+        &mut early,
+        &mut late,
+    );
+    cells_of(mem, &early)
+}
+
+// Notes the ends of the line at `a`, which is of task t: its first early finish, and its last late one.
+pub fn put_ends(mem: &[u64], a: usize, t: usize, ends: &mut [f64])
+    requires { ⌜ SomeJobHeld document01 (now mem) × RowHeld document01 a (now mem) × (rowEnd a ≤ length (now mem)) × (t < 256) × (2 * t + 1 < length (now ends)) ⌝ }
+    ensures { λ _. ⌜ EndsPut document01 a t (now (mem .entry)) (now (ends .entry)) (now (ends .exit)) ⌝ }
+{
+    let first = makespans::chosen_in(mem, false, a);
+    let last = makespans::chosen_in(mem, true, a);
+    ends[2 * t] = lane_of(first);
+    ends[2 * t + 1] = lane_of(last);
+}
+
+// The finish of what is ready, and has its data, at these times, and then runs for n ticks.
+pub fn finish_of(ready: u64, supplied: u64, n: u64) -> u64
+    requires { ⌜ Small (laneMost document01) ready × Small (laneMost document01) supplied × (n ≤ document01 .runTime) ⌝ }
+    ensures { λ r. ⌜ (timeIn r ≡ after n (later (timeIn ready) (timeIn supplied))) × Small (laneMost document01 + document01 .runTime) r ⌝ }
+{
+    let start = chosen_of(true, ready, supplied);
+    if start == NEVER {
+        return NEVER;
+    }
+    start + n
 }

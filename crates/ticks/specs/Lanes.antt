@@ -1,32 +1,38 @@
--- What is done on all processors at once, in 32 bits.
+-- What is done on all processors at once, in lanes of 64-bit floats.
 use mathlib.Core.List.{List}
-use Prim.Native.Nat.{ℕ, zero, suc, _+_, _*_, _%_, _^_, max}
-use lib.Dec.{eqb}
+use mathlib.Core.Bool.{false}
+use Prim.Native.Nat.{ℕ, zero, suc, _+_, _*_, _^_, _%_}
+use lib.Dec.{ltb}
 use lib.ListN.{set}
+use lib.Ieee.{Float, binary64, inf, add, mul, lt}
 use Rattle.definitions.specs.Lists.{if_then_else_, nth}
-use Rattle.ticks.specs.Cells.{neverCell}
+use Rattle.ticks.specs.Floats.{whole, lane}
 
--- The first n places of a list, each changed by f, which is given the place and what stands there.
-unfoldable pub lanes : (ℕ → ℕ → ℕ) → ℕ → List ℕ → List ℕ
+-- The first n lanes, each changed by f, which is given the lane's number and what it holds.
+unfoldable pub lanes : (ℕ → Float → Float) → ℕ → List Float → List Float
 lanes f zero xs = xs
-lanes f (suc n) xs = set (lanes f n xs) n (f n (nth xs n))
+lanes f (suc n) xs = set (lanes f n xs) n (f n (lane xs n))
+
+-- The lesser and the greater of two floats.
+abbrev pub lesser : Float → Float → Float
+lesser x y = if lt x y then x else y
+
+abbrev pub greater : Float → Float → Float
+greater x y = if lt x y then y else x
 
 -- When a message that is sent at x arrives.
-abbrev pub arrives : ℕ → ℕ → ℕ → ℕ
-arrives x volume delay = (x + volume * delay) % 2 ^ 32
+abbrev pub sent : Float → ℕ → ℕ → Float
+sent x volume delay = add binary64 x (mul binary64 (whole volume) (whole delay))
 
--- When a replica finishes that is ready at x, has its data at y, and runs for n ticks.
-abbrev pub finishes : ℕ → ℕ → ℕ → ℕ
-finishes x y n = (max x y + n) % 2 ^ 32
+-- The least of the first n lanes; the infinity, of none.
+unfoldable pub leastLane : ℕ → List Float → Float
+leastLane zero xs = inf false
+leastLane (suc n) xs = lesser (lane xs n) (leastLane n xs)
 
--- Never in a cell of 32 bits: the greatest number.
-abbrev pub shortNever : ℕ
-shortNever = 4_294_967_295
-
--- Of two ticks the one before, where a mark is set; else the one now.
-abbrev pub unlessMarked : ℕ → ℕ → ℕ → ℕ
-unlessMarked mark before now = if eqb mark 0 then now else before
-
--- A tick of 32 bits as a cell of 64.
-abbrev pub widenedTick : ℕ → ℕ
-widenedTick x = if eqb x shortNever then neverCell else x
+-- Ready ticks after the first n replicas of a line, of three cells each, with the tick that is o cells behind the processor; one on no
+-- processor that has a clock changes none.
+unfoldable pub advanced : ℕ → ℕ → List ℕ → List ℕ → List ℕ
+advanced o zero cells clocks = clocks
+advanced o (suc n) cells clocks =
+    let before = advanced o n cells clocks in
+    if ltb (nth cells (3 * n)) 16 then set before (nth cells (3 * n)) (nth cells (3 * n + o) % 2 ^ 32) else before

@@ -1,7 +1,9 @@
 // The ready ticks of the processors, which advance replica by replica.
 ghost use mathlib.Core.Path.{_≡_};
 ghost use lib.Dec.{ltb};
-ghost use lib.ListN.{set, replicate};
+ghost use Prim.Native.Nat.{_/_};
+ghost use lib.ListN.{length, set, replicate};
+ghost use Rattle.ticks.specs.Lanes.{advanced};
 ghost use Rattle.definitions.specs.Lists.{if_then_else_};
 
 // For each processor the finish of its newest replica, early and late.
@@ -21,14 +23,20 @@ impl Clocks {
         }
     }
 
-    // The clocks after a replica on a processor, with its finishes.
-    pub fn advance(mut self, processor: usize, early: u32, late: u32) -> Clocks
-        ensures early { λ r. ⌜ r .early ≡ (if ltb processor 16 then set (self .early) processor early else self .early) ⌝ }
-        ensures late { λ r. ⌜ r .late ≡ (if ltb processor 16 then set (self .late) processor late else self .late) ⌝ }
+    // The clocks after the replicas of a line, replica by replica: three cells each, processor, early tick and late tick.
+    pub fn advance(mut self, cells: &[u64]) -> Clocks
+        ensures early { λ r. ⌜ r .early ≡ advanced 1 (length (now (cells .entry)) / 3) (now (cells .entry)) (self .early) ⌝ }
+        ensures late { λ r. ⌜ r .late ≡ advanced 2 (length (now (cells .entry)) / 3) (now (cells .entry)) (self .late) ⌝ }
     {
-        if processor < 16 {
-            self.early[processor] = early;
-            self.late[processor] = late;
+        let n = cells.len() / 3;
+        let mut c = 0;
+        while c < n {
+            let processor = cells[3 * c] as usize;
+            if processor < 16 {
+                self.early[processor] = (cells[3 * c + 1] % 4294967296) as u32;
+                self.late[processor] = (cells[3 * c + 2] % 4294967296) as u32;
+            }
+            c += 1;
         }
         self
     }

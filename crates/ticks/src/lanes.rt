@@ -1,77 +1,63 @@
-// Ticks on all 16 processors at once, in 32 bits. A tick of all ones is never.
+// Times on all 16 processors at once, in lanes of 64-bit floats: a tick is a whole number, never is the infinity.
 ghost use mathlib.Core.Path.{_≡_};
-ghost use Prim.Native.Nat.{_+_, _*_, _%_, _^_, min, max};
+ghost use mathlib.Core.Bool.{false};
+ghost use Prim.Native.Nat.{_+_, _*_, _%_, _^_, min};
 ghost use lib.ListN.{replicate};
-ghost use Rattle.definitions.specs.Lists.{nth, sum};
-ghost use Rattle.ticks.specs.Cells.{neverCell};
-ghost use Rattle.ticks.specs.Lanes.{lanes, arrives, finishes, unlessMarked, widenedTick};
-use crate::clocks::Clocks;
+ghost use lib.Ieee.{inf};
+ghost use Rattle.definitions.specs.Lists.{nth, sum, greatest};
+ghost use Rattle.ticks.specs.Floats.{whole, lane};
+ghost use Rattle.ticks.specs.Lanes as Lanes;
+ghost use Rattle.ticks.specs.Lanes.{lanes, sent, leastLane};
 
-// Never, in a cell of 64 bits and in one of 32.
+// Never, in a cell of 64 bits.
 pub const NEVER: u64 = 18446744073709551615;
 
-pub const SHORT_NEVER: u32 = 4294967295;
-
-// For each processor an early and a late tick.
+// For each processor an early and a late time.
 pub struct Both {
-    pub early: [u32; 16],
-    pub late: [u32; 16],
+    pub early: [f64; 16],
+    pub late: [f64; 16],
 }
 
-// The sooner and the later of two ticks.
-fn sooner_tick(x: u32, y: u32) -> u32
-    ensures { λ r. ⌜ r ≡ min x y ⌝ }
+// Never, in a lane.
+pub fn no_time() -> f64
+    ensures { λ r. ⌜ r ≡ inf false ⌝ }
 {
-    if y < x { y } else { x }
+    1.0 / 0.0
 }
 
-fn later_tick(x: u32, y: u32) -> u32
-    ensures { λ r. ⌜ r ≡ max x y ⌝ }
+// The sooner and the later of two times.
+fn lesser(x: f64, y: f64) -> f64
+    ensures { λ r. ⌜ r ≡ Lanes.lesser x y ⌝ }
+{
+    if x < y { x } else { y }
+}
+
+fn greater(x: f64, y: f64) -> f64
+    ensures { λ r. ⌜ r ≡ Lanes.greater x y ⌝ }
 {
     if x < y { y } else { x }
 }
 
 // When a message that is sent at x arrives.
-fn arrival(x: u32, volume: u16, delay: u16) -> u32
-    ensures { λ r. ⌜ r ≡ arrives x volume delay ⌝ }
+fn arrival(x: f64, volume: u16, delay: u16) -> f64
+    ensures { λ r. ⌜ r ≡ sent x volume delay ⌝ }
 {
-    let n = volume as u32 * delay as u32;
-    std::num::wrapping_add_u32(x, n)
+    x + volume as f64 * delay as f64
 }
 
-// When a replica finishes that is ready at x, has its data at y, and runs for n ticks.
-fn finish_tick(x: u32, y: u32, n: u32) -> u32
-    ensures { λ r. ⌜ r ≡ finishes x y n ⌝ }
-{
-    let start = later_tick(x, y);
-    std::num::wrapping_add_u32(start, n)
-}
-
-// For each processor the sooner of its tick in `low` and of the arrival of a message that q sends at x.
-pub fn offer_sooner(low: &mut [u32; 16], delays: &[u16; 256], q: usize, volume: u16, x: u32)
-    ensures { λ _. ⌜ now (low .exit) ≡ lanes (λ p z. min z (arrives x volume (nth (now (delays .entry)) (q % 16 * 16 + p)))) 16 (now (low .entry)) ⌝ }
-{
-    let a = q % 16 * 16;
-    let mut p = 0;
-    while p < 16 {
-        let y = arrival(x, volume, delays[a + p]);
-        low[p] = sooner_tick(low[p], y);
-        p += 1;
-    }
-}
-
-// The same, and in `high` the later of its tick and of the arrival of a message that q sends at y.
-pub fn offer_both(
-    low: &mut [u32; 16],
-    high: &mut [u32; 16],
+// A replica on q offers its data to all processors: to each the sooner of its time in `low` and of the arrival of what q sends at x,
+// and the later of its time in `high` and of the arrival of what q sends at y.
+pub fn offer(
+    low: &mut [f64; 16],
+    high: &mut [f64; 16],
     delays: &[u16; 256],
     q: usize,
     volume: u16,
-    x: u32,
-    y: u32,
+    x: f64,
+    y: f64,
 )
-    ensures first { λ _. ⌜ now (low .exit) ≡ lanes (λ p z. min z (arrives x volume (nth (now (delays .entry)) (q % 16 * 16 + p)))) 16 (now (low .entry)) ⌝ }
-    ensures last { λ _. ⌜ now (high .exit) ≡ lanes (λ p z. max z (arrives y volume (nth (now (delays .entry)) (q % 16 * 16 + p)))) 16 (now (high .entry)) ⌝ }
+    ensures first { λ _. ⌜ now (low .exit) ≡ lanes (λ p z. Lanes.lesser (sent x volume (nth (now (delays .entry)) (q % 16 * 16 + p))) z) 16 (now (low .entry)) ⌝ }
+    ensures last { λ _. ⌜ now (high .exit) ≡ lanes (λ p z. Lanes.greater z (sent y volume (nth (now (delays .entry)) (q % 16 * 16 + p)))) 16 (now (high .entry)) ⌝ }
 {
     let a = q % 16 * 16;
     let mut p = 0;
@@ -79,74 +65,75 @@ pub fn offer_both(
         let n = delays[a + p];
         let e = arrival(x, volume, n);
         let l = arrival(y, volume, n);
-        low[p] = sooner_tick(low[p], e);
-        high[p] = later_tick(high[p], l);
+        low[p] = lesser(e, low[p]);
+        high[p] = greater(high[p], l);
         p += 1;
     }
 }
 
-// For each processor the later of its ticks in `high` and in `low`.
-pub fn raise(high: &mut [u32; 16], low: &[u32; 16])
-    ensures { λ _. ⌜ now (high .exit) ≡ lanes (λ p z. max z (nth (now (low .entry)) p)) 16 (now (high .entry)) ⌝ }
+// For each processor the later of its times in `high` and in `low`.
+pub fn raise(high: &mut [f64; 16], low: &[f64; 16])
+    ensures { λ _. ⌜ now (high .exit) ≡ lanes (λ p z. Lanes.greater z (lane (now (low .entry)) p)) 16 (now (high .entry)) ⌝ }
 {
     let mut p = 0;
     while p < 16 {
-        high[p] = later_tick(high[p], low[p]);
+        high[p] = greater(high[p], low[p]);
         p += 1;
     }
 }
 
-// The tick before where a mark is set, else the tick now.
-fn unless_marked(mark: u32, before: u32, now: u32) -> u32
-    ensures { λ r. ⌜ r ≡ unlessMarked mark before now ⌝ }
-{
-    if mark == 0 { now } else { before }
-}
-
-// Each marked processor gets back in `high` the tick that it has in `before`.
-pub fn put_back(high: &mut [u32; 16], before: &[u32; 16], marks: &[u32; 16])
-    ensures { λ _. ⌜ now (high .exit) ≡ lanes (λ p z. unlessMarked (nth (now (marks .entry)) p) (nth (now (before .entry)) p) z) 16 (now (high .entry)) ⌝ }
+// For each processor the sooner of its times in `high` and in `low`.
+pub fn lower(high: &mut [f64; 16], low: &[f64; 16])
+    ensures { λ _. ⌜ now (high .exit) ≡ lanes (λ p z. Lanes.lesser (lane (now (low .entry)) p) z) 16 (now (high .entry)) ⌝ }
 {
     let mut p = 0;
     while p < 16 {
-        high[p] = unless_marked(marks[p], before[p], high[p]);
+        high[p] = lesser(low[p], high[p]);
         p += 1;
     }
 }
 
-// The early and the late finish on each processor: it is ready at the clocks' ticks, has the data at `supplied`, and then runs.
-pub fn finish(clocks: Clocks, mut supplied: Both, runs: [u32; 16]) -> Both
-    ensures early { λ r. ⌜ r .early ≡ lanes (λ p z. finishes (nth (clocks .early) p) z (nth runs p)) 16 (supplied .early) ⌝ }
-    ensures late { λ r. ⌜ r .late ≡ lanes (λ p z. finishes (nth (clocks .late) p) z (nth runs p)) 16 (supplied .late) ⌝ }
+// Ticks of 32 bits in lanes.
+pub fn floats(ticks: &[u32; 16]) -> [f64; 16]
+    ensures { λ r. ⌜ r ≡ lanes (λ p z. whole (nth (now (ticks .entry)) p)) 16 (replicate 16 (whole 0)) ⌝ }
 {
+    let mut times = [0.0f64; 16];
     let mut p = 0;
     while p < 16 {
-        let n = runs[p];
-        supplied.early[p] = finish_tick(clocks.early[p], supplied.early[p], n);
-        supplied.late[p] = finish_tick(clocks.late[p], supplied.late[p], n);
+        times[p] = ticks[p] as f64;
         p += 1;
     }
-    supplied
+    times
 }
 
-// A tick of 32 bits as a cell.
-fn widened_tick(x: u32) -> u64
-    ensures { λ r. ⌜ r ≡ widenedTick x ⌝ }
+// The least time of the first m processors, of the 16.
+pub fn least(times: &[f64; 16], m: usize) -> f64
+    ensures { λ r. ⌜ r ≡ leastLane (min m 16) (now (times .entry)) ⌝ }
 {
-    if x == SHORT_NEVER { NEVER } else { x as u64 }
-}
-
-// Ticks of 32 bits in cells.
-pub fn widened(short: &[u32; 16]) -> [u64; 16]
-    ensures { λ r. ⌜ r ≡ lanes (λ p z. widenedTick (nth (now (short .entry)) p)) 16 (replicate 16 neverCell) ⌝ }
-{
-    let mut cells = [NEVER; 16];
+    let n = if m < 16 { m } else { 16 };
+    let mut x = no_time();
     let mut p = 0;
-    while p < 16 {
-        cells[p] = widened_tick(short[p]);
+    while p < n {
+        x = lesser(times[p], x);
         p += 1;
     }
-    cells
+    x
+}
+
+// The greatest of some numbers; 0, of none.
+pub fn most(cells: &[u16]) -> u16
+    ensures { λ r. ⌜ r ≡ greatest (now (cells .entry)) ⌝ }
+{
+    let mut x = 0;
+    let mut i = 0;
+    while i < cells.len() {
+        let y = cells[i];
+        if x < y {
+            x = y;
+        }
+        i += 1;
+    }
+    x
 }
 
 // The sum of the cells.

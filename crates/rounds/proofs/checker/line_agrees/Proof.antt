@@ -8,22 +8,21 @@ use Rattle.rounds.proofs.checker.line_agrees.Statement.{statement}
 use Rattle.rounds.proofs.checker.line_agrees.Tie as tie
 
 abbrev Inv-loop : tie.InvT-loop
-Inv-loop mem links capacity delays k w a t f c₀ c = (c ≤ w) × Compared document01 capacity k a mem (f .early) (f .late) c
+Inv-loop mem links capacity delays most ends k w a t f c₀ c = (c ≤ w) × Compared document01 capacity k a mem (f .early) (f .late) c
 
 abbrev μ-loop : tie.MeasureT-loop
-μ-loop mem links capacity delays k w a t f c₀ c = w - c
+μ-loop mem links capacity delays most ends k w a t f c₀ c = w - c
 
 finishes-requires : tie.Need-finishes-requires Inv-loop μ-loop
 finishes-requires c κs =
-    let pre = c .before .before .before .before .before .pre in
-    let args = c .before .before .before .before .before .args in
-    let (a, b, d, e, f) = finishes-asked (pre .0) (args .k) (pre .2) (pre .3) (args .delays .now) (args .clocks) (pre .1) (pre .4) in
-    rw (c .before .row-at .ensures) (a, b, d, e, f, pre .6)
+    let pre = c .before .before .before .before .before .before .pre in
+    let (task, both, clocks, supplied) = finishes-asked (pre .0) _ (pre .5) (pre .6) (pre .4) (pre .7) (pre .8) in
+    rw (c .before .row-at .ensures) ((_, pre .0 .standing), pre .1, pre .2, pre .3, task, both, clocks, supplied, pre .9)
 
 loop-holds : tie.Need-loop-holds Inv-loop μ-loop
 loop-holds c =
-    let pre = c .before .before .before .before .before .before .pre in
-    (omega arith, compared-none (pre .0) (pre .2) (pre .4) (pre .5) (c .before .before .row-at .ensures) (c .finishes .ensures))
+    let pre = c .before .before .before .before .before .before .before .pre in
+    (omega arith, compared-none (pre .0) (pre .5) (pre .7) (c .before .before .row-at .ensures) (c .finishes .ensures))
 
 returns : tie.Need-returns Inv-loop μ-loop
 returns c =
@@ -50,17 +49,17 @@ loop-again c =
 
 returns-3 : tie.Need-returns-3 Inv-loop μ-loop
 returns-3 c =
-    let pre = c .before .before .before .before .before .before .before .before .pre in
+    let pre = c .before .before .before .before .before .before .before .before .before .pre in
     let a = compared-all (c .before .loop .inv .1) (c .loop-test .left) in
-    (λ z. (a, short-next (pre .0) _ (pre .2) (pre .3) a), λ b. refl)
+    (λ z. (a, short-next (pre .0) _ (pre .5) (pre .6) a), λ b. refl)
 
 pub line-agrees-spec : {M : Type 1} → statement M
 line-agrees-spec = tie.close (tie.spec
-    Inv-loop μ-loop (λ c. let s = sizes (c .before .before .before .pre .0 .standing .job) in omega arith)
-    (λ c. let s = sizes (c .before .before .before .pre .0 .standing .job) in omega arith)
-    (λ c κs. let p = c .before .before .before .pre in omega (arith, sizes (p .0 .standing .job), p .2))
-    (λ c. let p = c .before .before .before .before .pre in omega (arith, sizes (p .0 .standing .job), p .2, c .row-at .ensures))
-    (λ c. let p = c .before .before .before .before .before .pre in omega (arith, sizes (p .0 .standing .job), p .2, c .before .row-at .ensures))
+    Inv-loop μ-loop (λ c. let s = sizes (c .before .before .before .before .pre .0 .standing .job) in omega arith)
+    (λ c. let s = sizes (c .before .before .before .before .pre .0 .standing .job) in omega arith)
+    (λ c κs. let p = c .before .before .before .before .pre in omega (arith, sizes (p .0 .standing .job), p .5))
+    (λ c. let p = c .before .before .before .before .before .pre in omega (arith, sizes (p .0 .standing .job), p .5, c .row-at .ensures))
+    (λ c. let p = c .before .before .before .before .before .before .pre in omega (arith, sizes (p .0 .standing .job), p .5, c .before .row-at .ensures))
     finishes-requires loop-holds (λ c κs. cells-within (c .before .loop .inv .1) (c .loop-test .taken))
     (λ c. omega (arith, processor-most (c .before .before .loop .inv .1) (c .before .loop-test .taken) (c .replica-at .ensures .0)))
     (λ c. processor-most (c .before .before .loop .inv .1) (c .before .loop-test .taken) (c .replica-at .ensures .0)) (λ c. search needs) returns

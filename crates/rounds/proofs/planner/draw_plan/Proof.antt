@@ -1,112 +1,40 @@
--- k lines are drawn up, what is left to place gives the rest of the plan, and the free tasks are listed.
-use Rattle.lists.proofs.Prelude.{_≡_, refl, sym, _∙_, [], _≤_, _<_, _-_, _+_, arith, needs, ⊎-elim, document01, nth}
-use Rattle.heads.specs.Layout.{memorySize, jobSize, levelAt, rowAt}
-use Rattle.jobs.specs.Held.{jobIn, LinksHeld}
-use Rattle.plans.specs.Lines.{placedIn}
-use Rattle.lists.specs.Kept.{KeptOutside}
-use Rattle.rounds.specs.Planning.{FreeList, Drawn, Ranked}
-use Rattle.rounds.specs.Clocks.{earliesIn, latesIn, ClocksHeld}
-use Rattle.jobs.proofs.Held.{processors-in, sizes, links-kept}
-use Rattle.lists.proofs.Kept.{same-before, same-behind, kept-all, kept-then, kept-wider}
-use Rattle.rounds.proofs.ShortLaws.{delays-kept}
-use Rattle.rounds.proofs.FreeLaws.{free-few, last-critical, free-out}
-use Rattle.rounds.proofs.Drawing.{drawn-choice, listed-some}
-use Rattle.rounds.proofs.Tables.{clocks-kept}
-use Rattle.rounds.proofs.ClockLaws.{outset-clocks}
+-- The table of ends has room for the job's tasks.
+use Rattle.lists.proofs.Prelude.{_∙_, arith, needs}
+use Rattle.jobs.proofs.Held.{sizes, links-kept}
+use Rattle.lists.proofs.Kept.{kept-then}
 use Rattle.rounds.proofs.planner.draw_plan.Statement.{statement}
 use Rattle.rounds.proofs.planner.draw_plan.Tie as tie
 
-abbrev Inv-loop : tie.InvT-loop
-Inv-loop mem₀ links capacity v delays clocks₀ free₀ n₀ k₀ mem clocks free n k =
-    (k ≤ v) × (v ≡ nth mem 0) × KeptOutside (levelAt capacity) (memorySize capacity) mem₀ mem × Drawn document01 capacity k mem × Ranked capacity [] mem
-    × ClocksHeld clocks (jobIn mem) (earliesIn capacity k mem) (latesIn capacity k mem) × FreeList capacity free n mem × (v ≤ document01 .tasks)
+draw-lines-requires : tie.Need-draw-lines-requires
+draw-lines-requires c κs =
+    let (job, links) = c .before .before .before .before .before .before .before .before .before .before .pre in
+    let (k, drawn, ranked) = c .before .before .before .before .before .before .prepare .ensures in
+    (drawn, ranked, links-kept job k (omega arith) links, omega arith)
 
-abbrev μ-loop : tie.MeasureT-loop
-μ-loop mem₀ links capacity v delays clocks₀ free₀ n₀ k₀ mem clocks free n k = v - k
-
--- Some task is free while lines are left.
-some : (c : tie.In-loop Inv-loop μ-loop) → 0 < c .before .loop .n
-some c = let l = c .before .loop in listed-some (l .inv .3) (l .inv .4) (omega (arith, c .loop-test .taken, l .inv .1)) (l .free) (l .n) (l .inv .6)
-
--- The last of them is a task of the job.
-last-task : (c : tie.In-loop Inv-loop μ-loop) → nth (c .before .loop .free) (c .before .loop .n - 1) < nth (c .before .loop .mem) 0
-last-task c = let l = c .before .loop in l .inv .6 .tasks .task-of (l .n - 1) (omega (arith, some c))
-
--- The links are the job's still.
-abbrev start : tie.In-loop Inv-loop μ-loop → tie.Start Inv-loop μ-loop
-start c = c .before .before .before .before .before .before .before .before .before .before .before .before .before .before .before .before
-
-links-here : (c : tie.In-loop Inv-loop μ-loop) → LinksHeld (c .before .loop .mem) (start c .args .links .now)
-links-here c =
-    let prepare = c .before .before .before .before .before .before .before .before .before .before .before .before .prepare in
-    links-kept (start c .pre .0) (kept-then (prepare .ensures .0) (c .before .loop .inv .2)) (omega arith) (start c .pre .1)
-
-list-free-requires : tie.Need-list-free-requires Inv-loop μ-loop
-list-free-requires c κs =
-    let s = c .before .before .before .before .before .before .before .before .prepare .ensures .1 .standing in
-    (s .job, search needs, λ t l. ⊎-elim (λ z. z) (λ x. absurd (omega (arith, x .1))) (s .placed t l))
-
-loop-holds : tie.Need-loop-holds Inv-loop μ-loop
-unfolding placedIn
-loop-holds c =
-    let prepare = c .before .before .before .before .before .before .before .before .before .before .prepare in
-    let new = c .before .before .before .before .new .ensures in
-    let s = prepare .ensures in
-    let w = sizes (s .1 .standing .job) in
-    let clocks = outset-clocks {j = jobIn (prepare .last .0)} (rw (processors-in (prepare .last .0)) (w .lanes-fit)) (new .0) (new .1) in
-    (search needs, refl, kept-all, s .1, s .2, clocks, c .before .list-free .ensures, w .tasks-most .0)
-
-place-task-requires : tie.Need-place-task-requires Inv-loop μ-loop
-place-task-requires c κs =
-    let prepare = c .before .before .before .before .before .before .before .before .before .before .before .before .before .before .prepare in
-    let delay-table = c .before .before .before .before .before .before .before .before .before .delay-table in
-    let l = c .before .before .before .loop in (
-      delays-kept (prepare .ensures .1 .standing .job) (same-before 0 (jobSize _) (l .inv .2) (omega arith)) (delay-table .ensures),
-      record { drawn = l .inv .3; ranked = l .inv .4; more = omega (arith, c .before .before .loop-test .taken, l .inv .1); lower = last-critical (l .inv .6) (some (c .before .before)) },
-      l .inv .5,
-      links-here (c .before .before),
-    )
-
-release-requires : tie.Need-release-requires Inv-loop μ-loop
-release-requires c κs =
-    let l = c .before .before .before .before .before .before .before .before .loop in
-    let p = c .before .before .before .before .place-task .ensures in
-    let z : nth (c .before .before .before .before .place-task .last .0) 0 ≡ nth (l .mem) 0 = p .0 .before 0 (omega arith) in
-    let turn = c .before .before .before .before .before .before .before in
-    let job = l .inv .3 .standing .job in
-    ((l .k + 1, p .1), p .2, free-out (sizes job) (l .inv .6) (some turn) (p .4), rw z (last-task turn), links-kept job (p .0) (omega arith) (links-here turn))
-
-loop-again : tie.Need-loop-again Inv-loop μ-loop
-loop-again c =
-    let l = c .before .before .before .before .before .before .before .before .before .before .before .before .loop in
-    let p = c .before .before .before .before .before .before .before .before .place-task .ensures in
-    let q = c .before .before .before .release .ensures in (
-      omega (arith, c .before .before .before .before .before .before .before .before .before .before .before .loop-test .taken),
-      l .inv .1 ∙ sym (q .0 .before 0 (omega arith) ∙ p .0 .before 0 (omega arith)),
-      kept-then (l .inv .2) (kept-then (kept-wider (levelAt _) (memorySize _) (p .0) (omega arith) (omega arith)) (kept-wider (levelAt _) (memorySize _) (q .0) (omega arith) (omega arith))),
-      drawn-choice (q .0) (p .1),
-      q .1,
-      clocks-kept (p .1 .standing .job) (q .0) (omega arith) _ (same-behind (rowAt _ 0) (rowAt _ _) (q .0) (omega arith)) (p .3),
-      q .2,
-      l .inv .7,
-    )
-
-returns : tie.Need-returns Inv-loop μ-loop
+returns : tie.Need-returns
 returns c =
-    let l = c .before .loop in
-    let k = c .before .before .before .before .before .before .before .before .before .before .before .before .prepare .ensures .0 in
-    let args = c .before .before .before .before .before .before .before .before .before .before .before .before .before .before .before .before .args in
-    let e : l .k ≡ nth (args .mem .now) 0 = omega (arith, k .before 0 (omega arith)) in
-    (kept-then k (l .inv .2), rw (← e) (l .inv .3))
+    let w = sizes (c .before .before .before .before .before .before .before .before .before .before .before .before .before .before .pre .0) in
+    let k = c .before .before .before .before .before .before .before .before .before .before .prepare .ensures .0 in
+    let (m, drawn) = c .before .before .before .draw-lines .ensures in
+    (kept-then k m, rw (k .before 0 (omega arith)) at drawn)
+
+draw-lines-requires-2 : tie.Need-draw-lines-requires-2
+draw-lines-requires-2 c κs =
+    let (job, links) = c .before .before .before .before .before .before .before .before .before .before .pre in
+    let (k, drawn, ranked) = c .before .before .before .before .before .before .prepare .ensures in
+    (drawn, ranked, links-kept job k (omega arith) links, omega (arith, sizes (drawn .standing .job)))
+
+returns-2 : tie.Need-returns-2
+returns-2 c =
+    let w = sizes (c .before .before .before .before .before .before .before .before .before .before .before .before .before .before .pre .0) in
+    let k = c .before .before .before .before .before .before .before .before .before .before .prepare .ensures .0 in
+    let (m, drawn) = c .before .before .before .draw-lines2 .ensures in
+    (kept-then k m, rw (k .before 0 (omega arith)) at drawn)
 
 pub draw-plan-spec : {M : Type 1} → statement M
 draw-plan-spec = tie.close (tie.spec
-    Inv-loop μ-loop (λ c κs. search needs) (λ c. let w = sizes (c .before .before .before .prepare .ensures .1 .standing .job) in omega arith)
-    (λ c κs. (_, c .before .before .before .before .prepare .ensures .1 .standing .job)) (λ c κs. search needs) (λ c. search needs) list-free-requires
-    loop-holds (λ c. some c)
-    (λ c. let l = c .before .loop in omega (arith, l .inv .6 .tasks .size, free-few (l .inv .6 .tasks), l .inv .1, l .inv .7, some c))
-    (λ c. omega (arith, last-task c, c .before .loop .inv .1, c .before .loop .inv .7))
-    place-task-requires (λ c. search needs) (λ c. some (c .before .before .before .before .before .before .before)) release-requires (λ c. search needs)
-    (λ c. search needs) loop-again
-    (λ c. c .before .loop .inv .2 .size ∙ c .before .before .before .before .before .before .before .before .before .before .before .before .prepare .ensures .0 .size)
-    returns)
+    (λ c κs. search needs) (λ c. let w = sizes (c .before .before .before .prepare .ensures .1 .standing .job) in omega arith)
+    (λ c. search needs) draw-lines-requires
+    (λ c. search needs) draw-lines-requires-2
+    (λ c. c .before .before .before .draw-lines .ensures .0 .size ∙ c .before .before .before .before .before .before .before .before .before .before .prepare .ensures .0 .size) returns
+    (λ c. c .before .before .before .draw-lines2 .ensures .0 .size ∙ c .before .before .before .before .before .before .before .before .before .before .prepare .ensures .0 .size) returns-2)

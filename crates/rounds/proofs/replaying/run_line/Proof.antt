@@ -1,40 +1,40 @@
--- Replica by replica the outcomes are those of the walk.
+-- Replica by replica the outcomes are those of the walk, and then the ends of the line are noted.
 use Rattle.lists.proofs.Prelude.{_≡_, ℕ, _≤_, _<_, _-_, arith, needs, length, nth, lt-ltb, document01}
 use Rattle.heads.specs.Layout.{rowAt, processorAt, replicaEnd}
 use Rattle.jobs.proofs.Held.{sizes}
-use Rattle.rounds.proofs.RunLaws.{LineRuns, LineStep, line-predecessors-short, line-first, line-step, line-next, line-done}
+use Rattle.rounds.proofs.RunLaws.{LineRuns, LineStep, line-supplied, line-first, line-step, line-next, line-done, line-row, line-ended}
 use Rattle.rounds.proofs.replaying.run_line.Statement.{statement}
 use Rattle.rounds.proofs.replaying.run_line.Tie as tie
 
 abbrev Inv-loop : tie.InvT-loop
-Inv-loop mem₀ links capacity delays k stops w a t supplied after₀ c₀ mem after c =
-    (c ≤ w) × (w ≤ 8) × (a ≡ rowAt capacity k) × LineRuns document01 capacity k c stops (after .at) mem₀ mem
+Inv-loop mem₀ links capacity delays most ends k stops w a t starts after₀ c₀ mem after c =
+    (c ≤ w) × (w ≤ 8) × (a ≡ rowAt capacity k) × LineRuns document01 capacity k c stops (after₀ .at) (after .at) mem₀ mem
 
 abbrev μ-loop : tie.MeasureT-loop
-μ-loop mem₀ links capacity delays k stops w a t supplied after₀ c₀ mem after c = w - c
+μ-loop mem₀ links capacity delays most ends k stops w a t starts after₀ c₀ mem after c = w - c
 
 -- Replica c of the line is in the memory.
-room : (c : tie.In-loop Inv-loop μ-loop) → replicaEnd (c .before .before .before .before .before .row-at .result) (c .before .loop .c) ≤ length (c .before .loop .mem)
+room : (c : tie.In-loop Inv-loop μ-loop) → replicaEnd (c .before .before .before .before .before .before .before .before .row-at .result) (c .before .loop .c) ≤ length (c .before .loop .mem)
 room c =
-    let p = c .before .before .before .before .before .before .before .before .before .before .pre in
+    let p = c .before .before .before .before .before .before .before .before .before .before .before .before .before .before .pre in
     let i = c .before .loop .inv in
-    omega (arith, sizes (p .1 .standing .job), p .2, i .3 .retimed .outside .size, i .2, c .loop-test .taken)
+    omega (arith, sizes (p .4 .standing .job), p .5, i .3 .retimed .outside .size, i .2, c .loop-test .taken)
 
 -- Its processor, and what is known of it.
 abbrev its : tie.After-replica-at Inv-loop μ-loop → ℕ
 its c =
-    let a = c .before .before .before .before .before .before .before .before .before .before .before .before .args in
+    let a = c .before .before .before .before .before .before .before .before .before .before .before .before .before .before .before .before .args in
     nth (c .before .before .before .loop .mem) (processorAt (rowAt (a .capacity) (a .k)) (c .before .before .before .loop .c))
 
 step : (c : tie.After-replica-at Inv-loop μ-loop)
-    → let a = c .before .before .before .before .before .before .before .before .before .before .before .before .args in
+    → let a = c .before .before .before .before .before .before .before .before .before .before .before .before .before .before .before .before .args in
     let l = c .before .before .before .loop in
     LineStep document01 (nth (a .mem .now) (rowAt (a .capacity) (a .k))) (its c) (l .after .at) (a .mem .now) (l .mem)
 step c =
-    let start = c .before .before .before .before .before .before .before .before .before .before .before .before in
+    let start = c .before .before .before .before .before .before .before .before .before .before .before .before .before .before .before .before in
     let p = start .pre in
     let l = c .before .before .before .loop in
-    line-step (start .args .k) (l .c) (l .inv .3) (p .1 .standing) (p .2) (p .3) (c .before .before .loop-test .taken)
+    line-step (start .args .k) (l .c) (l .inv .3) (p .4 .standing) (p .5) (p .6) (c .before .before .loop-test .taken)
 
 on : (c : tie.After-replica-at Inv-loop μ-loop) → c .replica-at .result .processor ≡ its c
 on c = rw (c .before .before .before .loop .inv .2) at (c .replica-at .ensures .0)
@@ -42,29 +42,30 @@ on c = rw (c .before .before .before .loop .inv .2) at (c .replica-at .ensures .
 below : (c : tie.After-replica-at Inv-loop μ-loop) → c .replica-at .result .processor < 16
 below c = rw (on c) (step c .below)
 
-first-data-requires : tie.Need-first-data-requires Inv-loop μ-loop
-first-data-requires c κs =
-    let args = c .before .before .before .before .before .before .before .args in
-    let p = c .before .before .before .before .before .before .before .pre in
-    rw (c .before .before .row-at .ensures) ((_, p .1 .standing), p .5, p .0, p .1 .standing .task-of (args .k) (p .2), line-predecessors-short (args .k) (p .1) (p .2) (p .3))
+first-starts-requires : tie.Need-first-starts-requires Inv-loop μ-loop
+first-starts-requires c κs =
+    let k = c .before .before .before .before .before .before .before .before .before .before .before .args .k in
+    let p = c .before .before .before .before .before .before .before .before .before .before .before .pre in
+    let (z, s) = line-supplied k (p .4) (p .5) (p .6) (p .3) in
+    rw (c .before .before .before .before .before .row-at .ensures) ((_, p .4 .standing), p .8, p .0, p .1, p .2, p .4 .standing .task-of k (p .5), z, s)
 
 loop-holds : tie.Need-loop-holds Inv-loop μ-loop
 loop-holds c =
-    let pre = c .before .before .before .before .before .before .before .before .pre in
-    let args = c .before .before .before .before .before .before .before .before .args in
-    let z = sizes (pre .1 .standing .job) in
-    (search needs, omega arith, c .before .before .before .row-at .ensures, line-first (args .k) (args .stops .now) (pre .1))
+    let pre = c .before .before .before .before .before .before .before .before .before .before .before .before .pre in
+    let args = c .before .before .before .before .before .before .before .before .before .before .before .before .args in
+    let z = sizes (pre .4 .standing .job) in
+    (search needs, omega arith, c .before .before .before .before .before .before .row-at .ensures, line-first (args .k) (args .stops .now) (pre .4))
 
 finish-of-requires : tie.Need-finish-of-requires Inv-loop μ-loop
 finish-of-requires c κs =
     let here = c .before .before .before in
     let s = step here in
-    rw (on here) (s .ready-small, here .before .before .before .before .first-data .ensures .1 _ (s .processor) .1, c .before .run-time .ensures .1)
+    rw (on here) (s .ready-small, here .before .before .before .before .first-starts .ensures .1 _ (s .processor) .1, c .before .run-time .ensures .1)
 
 shared-slice-read-unless-stopped : tie.Need-shared-slice-read-unless-stopped Inv-loop μ-loop
 shared-slice-read-unless-stopped c =
     let here = c .before .before .before .before .before in
-    omega (arith, below here, here .before .before .before .before .before .before .before .before .before .before .before .before .pre .4)
+    omega (arith, below here, here .before .before .before .before .before .before .before .before .before .before .before .before .before .before .before .before .pre .7)
 
 add-c : tie.Need-add-c Inv-loop μ-loop
 add-c c =
@@ -74,11 +75,11 @@ add-c c =
 loop-again : tie.Need-loop-again Inv-loop μ-loop
 loop-again c =
     let here = c .before .before .before .before .before .before .before .before .before .before .before in
-    let start = here .before .before .before .before .before .before .before .before .before .before .before .before in
+    let start = here .before .before .before .before .before .before .before .before .before .before .before .before .before .before .before .before in
     let l = here .before .before .before .loop in
     let p = start .pre in
-    let row = here .before .before .before .before .before .before .before .row-at .ensures in
-    let first-data = here .before .before .before .before .first-data in
+    let row = here .before .before .before .before .before .before .before .before .before .before .row-at .ensures in
+    let first-starts = here .before .before .before .before .first-starts in
     let run-time = c .before .before .before .before .before .before .before .before .before .run-time in
     let finish-of = c .before .before .before .before .before .before .before .finish-of in
     let unless-stopped = c .before .before .before .before .before .unless-stopped in
@@ -88,28 +89,45 @@ loop-again c =
       l .inv .1,
       l .inv .2,
       rw (c .before .before .before .put-early .ensures, c .advance .ensures, q, lt-ltb _ 16 (s .below), l .inv .2)
-          (line-next (start .args .k) (l .c) (l .inv .3) (p .1 .standing) (p .2) (p .3) (here .before .before .loop-test .taken)
-          (nth (first-data .result) (its here)) (run-time .result) (finish-of .result) (unless-stopped .result)
-          (rw row at (first-data .ensures .1 _ (s .processor) .0)) (rw (row, q) at (run-time .ensures .0)) (rw q at (finish-of .ensures .0))
+          (line-next (start .args .k) (l .c) (l .inv .3) (p .4 .standing) (p .5) (p .6) (here .before .before .loop-test .taken)
+          (nth (first-starts .result) (its here)) (run-time .result) (finish-of .result) (unless-stopped .result)
+          (rw row at (first-starts .ensures .1 _ (s .processor) .0)) (rw (row, q) at (run-time .ensures .0)) (rw q at (finish-of .ensures .0))
           (rw q at (unless-stopped .ensures .0)) (unless-stopped .ensures .1)),
     )
 
+put-ends-requires : tie.Need-put-ends-requires Inv-loop μ-loop
+put-ends-requires c κs =
+    let start = c .before .before .before .before .before .before .before .before .before .before .before .before .before .before .before .before in
+    let p = start .pre in
+    let l = c .before .before .before .loop in
+    let z = sizes (p .4 .standing .job) in
+    let t = p .4 .standing .task-of (start .args .k) (p .5) in
+    let (j, h) = line-row (start .args .k) (l .c) (l .inv .3) (p .4 .standing) (p .5) (p .6) in
+    rw (c .before .before .before .before .before .before .before .before .before .before .row-at .ensures)
+    (j, h, omega (arith, z, p .5, l .inv .3 .retimed .outside .size), omega (arith, z, t), omega (arith, t, p .3 .size))
+
 returns : tie.Need-returns Inv-loop μ-loop
 returns c =
-    let start = c .before .before .before .before .before .before .before .before .before .before in
+    let start = c .before .before .before .before .before .before .before .before .before .before .before .before .before .before .before .before .before .before .before in
     let p = start .pre in
-    line-done (start .args .k) (c .before .loop .c) (c .before .loop .inv .3) (p .1 .standing) (p .2) (p .3) (omega arith)
+    let l = c .before .before .before .before .before .before .loop in
+    let (r, q) = line-done (start .args .k) (l .c) (l .inv .3) (p .4 .standing) (p .5) (p .6) (omega arith) in (
+      r,
+      q,
+      line-ended (start .args .k) (l .c) (l .inv .3) (p .4 .standing) (p .5) (p .6) (p .3)
+          (rw (c .before .before .before .before .before .before .before .before .before .before .before .before .before .row-at .ensures) at (c .before .before .put-ends .ensures)),
+    )
 
 pub run-line-spec : {M : Type 1} → statement M
 run-line-spec = tie.close (tie.spec
-    Inv-loop μ-loop (λ c. let z = sizes (c .before .before .before .before .pre .1 .standing .job) in omega arith)
-    (λ c. let z = sizes (c .before .before .before .before .pre .1 .standing .job) in omega arith)
-    (λ c κs. let p = c .before .before .before .before .pre in omega (arith, sizes (p .1 .standing .job), p .2))
-    (λ c. let p = c .before .before .before .before .before .pre in omega (arith, sizes (p .1 .standing .job), p .2, c .row-at .ensures))
-    (λ c. let p = c .before .before .before .before .before .before .pre in omega (arith, sizes (p .1 .standing .job), p .2, c .before .row-at .ensures))
-    first-data-requires loop-holds (λ c κs. room (c .before))
-    (λ c κs. rw (c .before .before .before .before .before .before .before .before .row-at .ensures, on (c .before)) (step (c .before) .asked))
+    Inv-loop μ-loop (λ c. let z = sizes (c .before .before .before .before .before .pre .4 .standing .job) in omega arith)
+    (λ c. let z = sizes (c .before .before .before .before .before .pre .4 .standing .job) in omega arith)
+    (λ c κs. let p = c .before .before .before .before .before .pre in omega (arith, sizes (p .4 .standing .job), p .5))
+    (λ c. let p = c .before .before .before .before .before .before .pre in omega (arith, sizes (p .4 .standing .job), p .5, c .row-at .ensures))
+    (λ c. let p = c .before .before .before .before .before .before .before .pre in omega (arith, sizes (p .4 .standing .job), p .5, c .before .row-at .ensures))
+    first-starts-requires loop-holds (λ c κs. room (c .before))
+    (λ c κs. rw (c .before .before .before .before .before .before .before .before .before .before .before .row-at .ensures, on (c .before)) (step (c .before) .asked))
     (λ c. omega (arith, below (c .before .before))) (λ c. below (c .before .before)) (λ c. omega (arith, below (c .before .before .before)))
-    (λ c. omega (arith, below (c .before .before .before))) finish-of-requires (λ c. omega (arith, below (c .before .before .before .before)))
-    shared-slice-read-unless-stopped (λ c κs. search needs) (λ c κs. room (c .before .before .before .before .before .before .before .before .before)) (λ c κs. search needs)
-    add-c (λ c. search needs) loop-again (λ c. c .before .loop .inv .3 .retimed .outside .size) returns)
+    (λ c. omega (arith, below (c .before .before .before))) finish-of-requires (λ c. omega (arith, below (c .before .before .before .before))) shared-slice-read-unless-stopped
+    (λ c κs. search needs) (λ c κs. room (c .before .before .before .before .before .before .before .before .before)) (λ c κs. search needs) add-c (λ c. search needs) loop-again
+    put-ends-requires (λ c. c .before .before .before .before .before .before .loop .inv .3 .retimed .outside .size) (λ c. c .before .before .put-ends .ensures .size) returns)

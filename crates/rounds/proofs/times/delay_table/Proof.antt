@@ -2,7 +2,7 @@
 use Rattle.lists.proofs.Prelude.{_≤_, _-_, arith, needs, nth, document01}
 use Rattle.heads.specs.Layout.{lanesMost}
 use Rattle.jobs.proofs.Held.{sizes}
-use Rattle.rounds.proofs.ShortLaws.{DelaysTo, delays-none, delays-next, delays-row, delays-done}
+use Rattle.rounds.proofs.TimeTables.{DelaysTo, delays-none, delays-next, delays-row, delays-done}
 use Rattle.rounds.proofs.times.delay_table.Statement.{statement}
 use Rattle.rounds.proofs.times.delay_table.Tie as tie
 
