@@ -6,8 +6,8 @@
 //!     cargo run --release -p bench
 //!     cargo run --release -p bench shapes
 //!
-//! With the feature `before` the first implementation runs beside an earlier
-//! build of it, in place of the second (`rust/benchmark before FILE`).
+//! With the feature `before` an earlier build of the first implementation runs
+//! beside the two (`rust/benchmark before FILE`).
 
 #[cfg(feature = "before")]
 mod before;
@@ -69,7 +69,10 @@ fn table(tools: &[(&str, &dyn Tool)], rng: &mut Rng) {
     for (name, _) in tools {
         print!("{:>12}", format!("{name}, us"));
     }
-    println!("{:>16}", if tools.len() > 1 { "first / other" } else { "" });
+    for (name, _) in &tools[1..] {
+        print!("{:>16}", format!("first / {name}"));
+    }
+    println!();
     let mut all = vec![texts("small house".into(), SMALL_HOUSE.to_vec(), rng)];
     let mut mixed = Vec::new();
     for (tasks, boxes, edges, losses) in SIZES {
@@ -89,19 +92,18 @@ fn table(tools: &[(&str, &dyn Tool)], rng: &mut Rng) {
             for time in &best {
                 print!("{:>12.2}", time * 1e6);
             }
-            match best[..] {
-                [first, second] => println!("{:>16.2}", first / second),
-                _ => println!(),
+            for time in &best[1..] {
+                print!("{:>16.2}", best[0] / time);
             }
+            println!();
             if function == "plan" {
                 let plain = plain_plan(texts);
+                let ratio = best[0] / plain;
                 println!(
-                    "{:<48}{:<9}{:>12}{:>12.2}{:>16.2}",
+                    "{:<48}{:<9}{:>12.2}, first / plain {ratio:.2}",
                     "",
                     "  plain",
-                    "",
-                    plain * 1e6,
-                    best[0] / plain
+                    plain * 1e6
                 );
             }
             label = "";
@@ -249,7 +251,11 @@ fn time(count: u32, place: usize, tool: &dyn Tool, call: Call) -> Duration {
 
 #[cfg(feature = "before")]
 fn tools() -> Vec<(&'static str, &'static dyn Tool)> {
-    vec![("first", &compare::tools::Raw), ("before", &before::Before)]
+    vec![
+        ("first", &compare::tools::Raw),
+        ("before", &before::Before),
+        ("second", &Second),
+    ]
 }
 
 #[cfg(all(feature = "first", not(feature = "before")))]

@@ -60,7 +60,7 @@
 extern "C" {
 #endif
 
-#define MIRGUNETH_VERSION "0.2.0"
+#define MIRGUNETH_VERSION "0.3.0"
 
 /* The stack of a thread for any call (see above). */
 #define MIRGUNETH_STACK_BYTES 147456
