@@ -18,7 +18,7 @@ use Rattle.definitions.specs.Facts.{JobFacts, Ordered}
 use Rattle.definitions.specs.Times.{Time, tick, never, later, after, least, largest, Placement, Outcome, outcome, ofTask, times, ready, message, feeding, arrivalFrom, arrival, dataReady, start, stopTime, unlessStopped, finish, walk, placementOf, placementsOf, placements, earlies, lates, exits, makespan, lowerBound, upperBound}
 use Rattle.definitions.specs.Planner.{tickOf, Waiting, waitingFrom, bottomLevels, freeTasks, criticalTask, trial, chosen, replicas, place, planFor}
 use Rattle.definitions.specs.Replay.{replay}
-use Rattle.definitions.specs.Shelf.{elsewhere, dataFromAll, shelfFinish, shelfWalk, shelfTrial, shelfPlace, shelfPlan, Pairwise, NoLater, Settled, Sooner, Tightened, LineTightened, Redrawn}
+use Rattle.definitions.specs.Shelf.{dataFromAll, shelfFinish, shelfWalk, shelfTrial, shelfPlace, shelfPlan, Pairwise, NoLater, Settled, Sooner, Tightened, LineTightened, Redrawn}
 use Rattle.definitions.proofs.Lists.{in-map, map-in, map-same, keep-in, in-below, in-reverse}
 use Rattle.definitions.proofs.Tasks.{in-task, line-facts}
 use Rattle.definitions.proofs.Ready.{first-ready}
@@ -131,23 +131,6 @@ module _ (l : Limits) (j : Job) (facts : JobFacts l j) where
     pub start-all : (t : ℕ) → start j least placed t p ≡ later (ready j p placed) (dataFromAll j least placed t p)
     unfolding start dataReady dataFromAll
     start-all t = later-alike (ready j p placed) (arrival j least placed p) (λ e. arrivalFrom j least (ofTask (e .from) placed) p e) (incoming j t) (λ e i. arrival-alike e)
-
-    -- A late start is the same if predecessors that have a replica on p are left out.
-    elsewhere-alike : (e : Edge) → Alike (arrival j largest placed p e) (arrivalFrom j largest (elsewhere (e .from) p placed) p e)
-    unfolding arrival largest
-    elsewhere-alike e = by (any (λ d. eqb (d .processor) p) (ofTask (e .from) placed)) refl
-      where
-        by : (b : Bool) → any (λ d. eqb (d .processor) p) (ofTask (e .from) placed) ≡ b
-            → Alike (arrivalFrom j largest (feeding j (e .from) p placed) p e) (arrivalFrom j largest (if b then [] else ofTask (e .from) placed) p e)
-        by false n = inl (rw (feeding-none j (e .from) p placed n))
-        by true n =
-            let (d, i, q, f) = feeding-own j (e .from) p placed n in
-            inr (rw f (both-no-later (after (message j e (d .processor) p) (d .time)) (tick 0) (ready j p placed) (own-done e d i q) (later-zero (ready j p placed))), later-zero (ready j p placed))
-
-    pub start-elsewhere : (t : ℕ) → start j largest placed t p ≡ later (ready j p placed) (largest (map (λ e. arrivalFrom j largest (elsewhere (e .from) p placed) p e) (incoming j t)))
-    unfolding start dataReady
-    start-elsewhere t =
-        later-alike (ready j p placed) (arrival j largest placed p) (λ e. arrivalFrom j largest (elsewhere (e .from) p placed) p e) (incoming j t) (λ e i. elsewhere-alike e)
 
   finish-all : (stops : List Stop) (placed : List Outcome) (c : Placement) → Settled j placed → c .processor < j .processors
       → finish j least stops placed c ≡ shelfFinish j least stops placed c

@@ -71,10 +71,6 @@ NoLater x y = later x y ≡ y
 abbrev pub Settled : Job → List Outcome → Type 0
 Settled j placed = (d : Outcome) → In d placed → NoLater (d .time) (ready j (d .processor) placed)
 
--- The replicas of predecessor t that p may wait for: none, where one of them is on p.
-abbrev pub elsewhere : ℕ → ℕ → List Outcome → List Outcome
-elsewhere t p placed = if any (λ d. eqb (d .processor) p) (ofTask t placed) then [] else ofTask t placed
-
 -- The same replica, and its time is no later.
 abbrev pub Sooner : Outcome → Outcome → Type 0
 Sooner d e = (d .task ≡ e .task) × (d .processor ≡ e .processor) × NoLater (d .time) (e .time)

@@ -1,9 +1,7 @@
 -- The memory while a plan is drawn up: its ticks, a line more, and what a change elsewhere leaves as it was.
 use Rattle.lists.proofs.Prelude.{_≡_, refl, ap, _∙_, sym, ⊎-elim, List, [], _∷_, _++_, map, map-map, map-append, append-nil, Bool, true, false, not, _&&_, ℕ, zero, suc, _+_, _*_, _-_, _<_, _≤_, arith, mul-le-mul, add-zero, add-one, eqb-false, eq-eqb, ne-eqb, lt-ltb, not-true, eqb, ltb, length, set, length-append, length-map, length-set, getD-set-same, getD-set-other, In, nth, keep, all, has, below, Limits, Edge, runTime, delay, incoming, after, arrival, dataReady, start, stopTime, finish, placementOf, tickOf, Waiting, freeTasks, ranked, trial, replicas, place, planFor}
 use Rattle.definitions.proofs.Lists.{in-map, in-keep, map-same, map-keep, in-below, all-in}
-use Rattle.definitions.specs.Times.{feeding}
 use Rattle.definitions.proofs.Tasks.{in-incoming}
-use Rattle.definitions.proofs.Feeding.{in-feeding, feeding-some}
 use Rattle.definitions.proofs.Placing.{placed-count}
 use Rattle.heads.specs.Layout.{levelAt, lineAt, blockedAt, priorityAt, replicasMost, rowAt, largestDelayAt, processorAt, earlyAt, lateAt, replicaEnd}
 use Rattle.jobs.specs.Held.{jobIn}
@@ -19,11 +17,11 @@ use Rattle.lists.proofs.Kept.{Same, same-before, same-behind, kept-all, kept-se
 use Rattle.plans.proofs.Lines.{replicas-same, lines-same, standing-choice}
 use Rattle.rounds.proofs.Tables.{from-below, levels-kept, far-kept, placed-kept}
 use Rattle.lists.proofs.Upward.{below-more, keep-yes, keep-no}
-use Rattle.rounds.proofs.Placed.{has-placed, feeding-line, predecessors-all, level-placed}
+use Rattle.rounds.proofs.Placed.{has-placed, predecessors-all, level-placed, data-placed}
 use Rattle.lists.proofs.ListLaws.{keep-same, keep-keep, all-same}
 use Rattle.rounds.proofs.FreeLaws.{free-both}
 use Rattle.rounds.proofs.DrawLaws.{isChosen, chosen-room, chosen-same, trial-nth, none-kept, some-free, critical-in, waiting-from}
-use Rattle.rounds.proofs.Outcomes.{row-come, row-length, Comes, comes-wider, comes-after, comes-later, comes-largest, comes-choice, ready-comes, row-on, short-most, cells-most, all-come}
+use Rattle.rounds.proofs.Outcomes.{Comes, comes-wider, comes-after, comes-later, ready-comes, short-most, cells-most, all-come, data-comes}
 
 -- The cells of a line -----------------------------------------------------------------------------------------------
 
@@ -32,32 +30,16 @@ module _ {lim : Limits} {capacity k : ℕ} {mem : List ℕ} (s : Drawn lim capac
   wide = nth mem 3 + 1
 
   module _ (t p : ℕ) (f : PredecessorsPlaced capacity t mem) (ht : t < nth mem 0) (hp : p < nth mem 1) where
-    -- The data of one predecessor comes a message after its replicas.
-    arrival-comes : (late : Bool) (e : Edge) → In e (incoming (jobIn mem) t) → Comes (k * lineTicks lim + messageMost lim) (arrival (jobIn mem) (choiceOf late) (placedIn capacity late wide k mem) p e)
-    unfolding arrival
-    arrival-comes late e i =
-        let b = predecessors-all (s .standing) t f in
-        let (l, m) = b e i in
-        let a = rowOf capacity (e .from) mem in
-        let n = nth mem (lineAt capacity + e .from) - 1 in
-        let g : n < k = omega arith in
-        let (o, _) = in-incoming (jobIn mem) t e i in
-        let all = feeding-line (s .standing) k t (omega arith) b late e i in
-        let senders = feeding (jobIn mem) (e .from) p (placedIn capacity late wide k mem) in
-        let some : 0 < length senders = feeding-some (jobIn mem) (e .from) p (placedIn capacity late wide k mem) (omega (arith, ap length all, row-length late a wide mem)) in
-        comes-choice late (λ d. after (e .volume * delay (jobIn mem) (d .processor) p) (d .time)) senders some (λ d x.
-        let i : In d (rowOutcomes late a wide mem) = rw all at (in-feeding (jobIn mem) (e .from) p (placedIn capacity late wide k mem) d x) in
-        comes-after (messageMost lim) (e .volume * delay (jobIn mem) (d .processor) p)
-        (mul-le-mul {n₁ = e .volume} {m₁ = delay (jobIn mem) (d .processor) p} {n₂ = lim .volume} {m₂ = lim .delay} (s .standing .job .facts .volume-most e o)
-        (s .standing .job .facts .delay-most (d .processor) p (rw (processors-in mem) (row-on late a wide (nth mem 1) mem (s .standing .row n g .processor-of) d i)) (rw (processors-in mem) hp)))
-        (row-come late a wide (k * lineTicks lim) mem (omega (arith, short-most (s .standing) (omega arith) (s .ticks))) (λ c h. cells-most (s .standing) (omega arith) (s .ticks) late n c g h) d i))
-
     -- The finish of t on p.
     pub finish-comes : (late : Bool) → Comes (k * lineTicks lim + lineTicks lim) (finish (jobIn mem) (choiceOf late) [] (placedIn capacity late wide k mem) (placementOf (jobIn mem) t p))
-    unfolding finish start dataReady stopTime
+    unfolding finish start stopTime
     finish-comes late =
         let r = s .standing .job .facts .run-most t p (rw (tasks-in mem) ht) (rw (processors-in mem) hp) in
-        let d = comes-largest (arrival (jobIn mem) (choiceOf late) (placedIn capacity late wide k mem) p) (incoming (jobIn mem) t) (arrival-comes late) in
+        let b = predecessors-all (s .standing) t f in
+        let d : Comes (k * lineTicks lim + messageMost lim) (dataReady (jobIn mem) (choiceOf late) (placedIn capacity late wide k mem) t p) =
+        rw (← data-placed (s .standing) k t (omega arith) b late p)
+        (data-comes (s .standing) t p (k * lineTicks lim) f hp (omega (arith, short-most (s .standing) (omega arith) (s .ticks)))
+        (λ late e c i l. let (g, m) = b e i in cells-most (s .standing) (omega arith) (s .ticks) late (nth mem (lineAt capacity + e .from) - 1) c (omega arith) l) late) in
         let a = comes-wider {c = k * lineTicks lim + messageMost lim} (omega arith)
         (ready-comes (jobIn mem) p (k * lineTicks lim) (placedIn capacity late wide k mem) (all-come (s .standing) (omega arith) (s .ticks) late)) in
         comes-wider (omega arith) (comes-after (lim .runTime) (runTime (jobIn mem) t p) r (comes-later a d))

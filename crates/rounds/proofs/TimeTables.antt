@@ -197,8 +197,10 @@ module _ {lim : Limits} {capacity : ℕ} {mem : List ℕ} (held : JobHeld lim ca
   offered-all s i j =
       let w = nth mem 3 + 1 in
       let whole : (late : Bool) → rowFrom late a 0 (w - 0) mem ≡ rowOutcomes late a w mem = λ late. rw (sub-zero w) (row-whole late a mem w) in (
-        table-same (λ p o. rw (whole false) (sym (arrival-least (jobIn mem) (rowOutcomes false a w mem) p (edgeFrom volume a mem) (row-all false mem (nth mem a) a w refl) (own p o)))) (table-raise held (s .low-of) (s .first-of) i),
-        table-same (λ p o. rw (whole true) (sym (arrival-largest (jobIn mem) (rowOutcomes true a w mem) p (edgeFrom volume a mem) (row-all true mem (nth mem a) a w refl) (own p o)))) (table-lower held (s .high-of) (s .last-of) j),
+        table-same (λ p o. rw (whole false) (sym (arrival-least (jobIn mem) (rowOutcomes false a w mem) p (edgeFrom volume a mem) (row-all false mem (nth mem a) a w refl) (own p o))))
+            (table-raise held (s .low-of) (s .first-of) i),
+        table-same (λ p o. rw (whole true) (sym (arrival-largest (jobIn mem) (rowOutcomes true a w mem) p (edgeFrom volume a mem) (row-all true mem (nth mem a) a w refl) (own p o))))
+            (table-lower held (s .high-of) (s .last-of) j),
       )
     where
       own : (p : ℕ) → p < nth mem 1 → delay (jobIn mem) p p ≡ 0
@@ -312,7 +314,8 @@ supplied-lanes {capacity = capacity} {mem = mem} {z} {e = e} {f} s t y u v =
     by false p o = u .time p o
 
 -- Starts that come leave a run short.
-pub starts-held : {lim : Limits} {capacity k : ℕ} (late : Bool) {mem : List ℕ} (ticks : List ℕ) {d e : List Float} → LinesHeld lim capacity k mem → (t : ℕ) → BothSupplied capacity t mem → ShortTicks mem ticks
+pub starts-held : {lim : Limits} {capacity k : ℕ} (late : Bool) {mem : List ℕ} (ticks : List ℕ) {d e : List Float} → LinesHeld lim capacity k mem
+    → (t : ℕ) → BothSupplied capacity t mem → ShortTicks mem ticks
     → TimeTable lim (λ p. tick (nth ticks p)) mem d → Raised lim capacity late t mem d e
     → TicksHeld lim mem e × ((p : ℕ) → p < nth mem 1 → laneTime e p ≡ later (tick (nth ticks p)) (dataIn capacity late t p mem))
 starts-held {capacity = capacity} late {mem} ticks {d} {e} s t b h u r =

@@ -1,13 +1,13 @@
 -- The floats of the whole numbers up to 2 ^ 53: sums, products, comparisons and casts are those of the numbers. The infinity is above them all.
 use mathlib.Core.Path.{_≡_, refl, sym, ap, _∙_}
-use mathlib.Core.Bool.{Bool, true, false, true≢false, _&&_}
+use mathlib.Core.Bool.{Bool, true, false, true≢false}
 use Prim.Native.Nat.{ℕ, _+_, _*_, _/_, _^_, _≤_, _<_}
-use native.Mathlib.Nat.{mul-one, mul-comm, mul-assoc, mul-pos, add-mul, mul-mul-mul-comm, mul-lt-mul-of-pos-right, lt-of-mul-lt-mul-right, eq-of-mul-eq-mul-right, mul-div-cancel}
+use native.Mathlib.Nat.{mul-one, mul-comm, mul-assoc, mul-pos, add-mul, mul-mul-mul-comm, mul-lt-mul-of-pos-right, lt-of-mul-lt-mul-right, mul-div-cancel}
 use native.Mathlib.Omega.{arith}
 use lib.IntN.{ℤ, pos}
-use lib.Dec.{T, ltb, eqb, ltb→lt, lt→ltb, le→leb, eqb→eq, lit<}
+use lib.Dec.{T, ltb, ltb→lt, lt→ltb, le→leb, lit<}
 use lib.Ieee.{Float, nan, inf, fin, binary64, up, down, round, sum, add, mul, lt, eq, ofInt, toUnsigned, toSigned, inUnsigned, inSigned, inFloat}
-use lib.Ieee.Fits.{down-pos, eq→eqb}
+use lib.Ieee.Fits.{down-pos}
 use lib.Ieee.Exact.{HasValue}
 use lib.Ieee.Scale.{round-same}
 use lib.Ieee.Back.{round-whole, unsigned-back, positive-back}
@@ -56,14 +56,6 @@ module _ (m : ℕ) (e : ℤ) (n : ℕ) (d : ℤ) where
   unfolding lt
   lt-at = refl
 
-  eq-at : eq (fin false m e) (fin false n d) ≡ (eqb (m * up e * down d) (n * up d * down e) && true)
-  unfolding eq
-  eq-at = refl
-
-and-true : (b : Bool) → (b && true) ≡ b
-and-true true = refl
-and-true false = refl
-
 same-test : (s t : Bool) → (T s → T t) → (T t → T s) → s ≡ t
 same-test true true f g = refl
 same-test true false f g = absurd (f tt)
@@ -75,12 +67,6 @@ ltb-times a b c h =
     same-test (ltb (a * c) (b * c)) (ltb a b)
     (λ t. lt→ltb a b (lt-of-mul-lt-mul-right c (ltb→lt (a * c) (b * c) t)))
     (λ t. lt→ltb (a * c) (b * c) (mul-lt-mul-of-pos-right (ltb→lt a b t) h))
-
-eqb-times : (a b c : ℕ) → 0 < c → eqb (a * c) (b * c) ≡ eqb a b
-eqb-times a b c h =
-    same-test (eqb (a * c) (b * c)) (eqb a b)
-    (λ t. eq→eqb (eq-of-mul-eq-mul-right c h a b (eqb→eq (a * c) (b * c) t)))
-    (λ t. eq→eqb (ap (λ (z : ℕ). z * c) (eqb→eq a b t)))
 
 -- Two whole numbers.
 module _ (a b : ℕ) (h : Fine a) (k : Fine b) where
@@ -118,9 +104,6 @@ module _ (a b : ℕ) (h : Fine a) (k : Fine b) where
   pub lt-whole : lt (whole a) (whole b) ≡ ltb a b
   lt-whole = rw (p .is, q .is) (lt-at (p .m) (p .e) (q .m) (q .e) ∙ rw (left, right) (ltb-times a b c some))
 
-  pub eq-whole : eq (whole a) (whole b) ≡ eqb a b
-  eq-whole = rw (p .is, q .is) (eq-at (p .m) (p .e) (q .m) (q .e) ∙ and-true (eqb (p .m * up (p .e) * down (q .e)) (q .m * up (q .e) * down (p .e))) ∙ rw (left, right) (eqb-times a b c some))
-
 -- One whole number, and the infinity.
 inf-add : (m : ℕ) (e : ℤ) → (add binary64 (inf false) (fin false m e) ≡ inf false) × (add binary64 (fin false m e) (inf false) ≡ inf false)
 unfolding add
@@ -146,10 +129,6 @@ pub never-eq-never : eq (inf false) (inf false) ≡ true
 unfolding eq
 never-eq-never = refl
 
-pub never-add-never : add binary64 (inf false) (inf false) ≡ inf false
-unfolding add
-never-add-never = refl
-
 pub time-never : timeOf (inf false) ≡ never
 unfolding timeOf
 time-never = refl
@@ -161,17 +140,11 @@ module _ (n : ℕ) (h : Fine n) where
   pub never-add : add binary64 (inf false) (whole n) ≡ inf false
   never-add = rw (s .is) (inf-add (s .m) (s .e) .0)
 
-  pub add-never : add binary64 (whole n) (inf false) ≡ inf false
-  add-never = rw (s .is) (inf-add (s .m) (s .e) .1)
-
   pub never-lt : lt (inf false) (whole n) ≡ false
   never-lt = rw (s .is) (inf-lt (s .m) (s .e) .0)
 
   pub lt-never : lt (whole n) (inf false) ≡ true
   lt-never = rw (s .is) (inf-lt (s .m) (s .e) .1)
-
-  pub never-eq : eq (inf false) (whole n) ≡ false
-  never-eq = rw (s .is) (inf-eq (s .m) (s .e) .0)
 
   pub eq-never : eq (whole n) (inf false) ≡ false
   eq-never = rw (s .is) (inf-eq (s .m) (s .e) .1)

@@ -14,10 +14,10 @@
  * dynamic linker takes at the first call of all.
  *
  *   v up to   e up to   c up to   plan, check, replay   read_job
- *         8        32       177                 11 KB      20 KB
- *        16        64       354                 15 KB      20 KB
- *        64       256     1,416                 39 KB      20 KB
- *       255     1,024     5,635                132 KB      66 KB
+ *         8        32       177                 16 KB      20 KB
+ *        16        64       354                 20 KB      20 KB
+ *        64       256     1,416                 43 KB      20 KB
+ *       255     1,024     5,635                136 KB      66 KB
  *
  * MIRGUNETH_STACK_BYTES is enough for a thread that calls any of them for any
  * job, with some 10 KB for its own frames, thread-local data and signals.
@@ -63,7 +63,7 @@ extern "C" {
 #define MIRGUNETH_VERSION "0.3.0"
 
 /* The stack of a thread for any call (see above). */
-#define MIRGUNETH_STACK_BYTES 147456
+#define MIRGUNETH_STACK_BYTES 151552
 
 /* Outputs of these sizes hold every answer. */
 #define MIRGUNETH_PLAN_BYTES 65536

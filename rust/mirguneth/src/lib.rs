@@ -16,7 +16,7 @@ use std::error::Error;
 use std::fmt;
 
 /// The stack of a thread for any call, with some 10 KB for its own frames.
-pub const STACK_BYTES: usize = 147_456;
+pub const STACK_BYTES: usize = 151_552;
 
 /// An output of this many bytes holds every plan that the planner draws up.
 pub const PLAN_BYTES: usize = 65_536;

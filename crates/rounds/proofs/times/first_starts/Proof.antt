@@ -1,9 +1,4 @@
-use mathlib.Core.Path.{_≡_, refl, sym, ap, _∙_}
-use mathlib.Core.List.{List, [], _∷_, _++_}
-use Prim.Native.Nat.{ℕ, zero, suc, _≤_, _<_, _-_, _+_, _*_, _^_}
-use native.Mathlib.Omega.{arith}
-use borrow.Author.Needs.{needs}
-use lib.ListN.{length, getD, take, drop, set, length-set}
+-- The cells' times in lanes, raised to the first data; late they are never, so nothing is waited for.
 use Rattle.lists.proofs.Prelude.{_≡_, refl, ap, _∙_, arith, needs, true, false, replicate, never, document01}
 use Rattle.heads.specs.Layout.{lanesMost}
 use Rattle.jobs.proofs.Held.{sizes}
@@ -12,18 +7,9 @@ use Rattle.ticks.proofs.HeldLaws.{never-holds}
 use Rattle.rounds.proofs.TimeTables.{table-all, table-held, supplied-lanes}
 use Rattle.rounds.proofs.times.first_starts.Statement.{statement}
 use Rattle.rounds.proofs.times.first_starts.Tie as tie
-use Rattle.rounds.proofs.times.first_starts.Reads as reads
-use Rattle.rounds.proofs.times.first_starts.Lts as lts
-use Rattle.rounds.proofs.times.cells_of.Reads as cells-of-reads
-use Rattle.rounds.proofs.times.lanes_of.Reads as lanes-of-reads
-use Rattle.rounds.proofs.times.raise_data.Reads as raise-data-reads
-use Rattle.ticks.proofs.lanes.no_time.Reads as no-time-reads
 
 lanes-of-requires : tie.Need-lanes-of-requires
 lanes-of-requires c κs = ((_, c .before .before .before .pre .0 .1 .job), c .before .before .before .pre .6)
-
-no-time-requires : tie.Need-no-time-requires
-no-time-requires c κs = search needs
 
 raise-data-requires : tie.Need-raise-data-requires
 raise-data-requires c κs =
@@ -42,6 +28,5 @@ returns c =
     (size, λ p o. let (x, y) = each p o in (x ∙ c .before .before .raise-data .ensures .0 .time p o ∙ rw (c .before .before .before .before .before .before .lanes-of .ensures .time p o), y))
 
 pub first-starts-spec : {M : Type 1} → statement M
-first-starts-spec =
-    tie.close
-    (tie.spec lanes-of-requires no-time-requires raise-data-requires cells-of-requires returns)
+first-starts-spec = tie.close (tie.spec
+    lanes-of-requires (λ c κs. search needs) raise-data-requires cells-of-requires returns)

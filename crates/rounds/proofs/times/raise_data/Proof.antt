@@ -1,9 +1,4 @@
-use mathlib.Core.Path.{_≡_, refl, sym, ap, _∙_}
-use mathlib.Core.List.{List, [], _∷_, _++_}
-use Prim.Native.Nat.{ℕ, zero, suc, _≤_, _<_, _-_, _+_, _*_, _^_}
-use native.Mathlib.Omega.{arith}
-use borrow.Author.Needs.{needs}
-use lib.ListN.{length, getD, take, drop, set, length-set}
+-- Each processor has the later of its time and of the largest times of the edges passed; an edge that nobody waits for changes nothing.
 use Rattle.lists.proofs.Prelude.{_≡_, refl, ap, _∙_, sym, ⊎-elim, ℕ, _≤_, _<_, _-_, _+_, _*_, min, arith, needs, nth, Bool, true, false, incoming, after, document01}
 use Rattle.orders.specs.Edges.{edgeIn}
 use Rattle.orders.proofs.Walk.{Passed, pass-first, pass-at, pass-on}
@@ -17,12 +12,6 @@ use Rattle.rounds.proofs.TimeLaws.{feeds}
 use Rattle.rounds.proofs.TimeTables.{table-held, Gathered, gathered-none, gathered-next, gathered-same, gathered-done, ready-least, waits-not, edge-ends}
 use Rattle.rounds.proofs.times.raise_data.Statement.{statement}
 use Rattle.rounds.proofs.times.raise_data.Tie as tie
-use Rattle.rounds.proofs.times.raise_data.Reads as reads
-use Rattle.rounds.proofs.times.raise_data.Lts as lts
-use Rattle.orders.proofs.entering.Reads as entering-reads
-use Rattle.rounds.proofs.times.may_wait.Reads as may-wait-reads
-use Rattle.rounds.proofs.times.raise_edge.Reads as raise-edge-reads
-use Rattle.ticks.proofs.lanes.least.Reads as least-reads
 
 abbrev Inv-loop : tie.InvT-loop
 Inv-loop mem links capacity delays most ends t early₀ late₀ m x y k₀ k-end early late k =
@@ -35,33 +24,19 @@ abbrev μ-loop : tie.MeasureT-loop
 shared-slice-read-entering : tie.Need-shared-slice-read-entering Inv-loop μ-loop
 shared-slice-read-entering c = let s = sizes (c .before .before .before .before .pre .0 .1 .job) in omega arith
 
-entering-requires : tie.Need-entering-requires Inv-loop μ-loop
-entering-requires c κs = search needs
-
 shared-slice-read-m : tie.Need-shared-slice-read-m Inv-loop μ-loop
 shared-slice-read-m c = let s = sizes (c .before .before .before .before .before .before .pre .0 .1 .job) in omega arith
-
-least-requires : tie.Need-least-requires Inv-loop μ-loop
-least-requires c κs = search needs
-
-least-requires-2 : tie.Need-least-requires-2 Inv-loop μ-loop
-least-requires-2 c κs = search needs
 
 loop-holds : tie.Need-loop-holds Inv-loop μ-loop
 loop-holds c =
     let p = c .before .before .before .before .before .before .before .before .before .before .pre in
     (pass-first (enters-run (p .1) (p .5) (c .before .before .before .before .before .entering .ensures)), gathered-none _ false _ (p .7) _ _, gathered-none _ true _ (p .8) _ _)
 
-mul-cell : tie.Need-mul-cell Inv-loop μ-loop
-mul-cell c = search needs
-
-shared-slice-read-cell : tie.Need-shared-slice-read-cell Inv-loop μ-loop
-shared-slice-read-cell c = search needs
-
 may-wait-requires : tie.Need-may-wait-requires Inv-loop μ-loop
 may-wait-requires c κs =
-    let p = c .before .before .before .before .before .before .before .before .before .before .before .before .before .pre in (
-      edge-ends (p .0 .1) (c .before .before .before .before .before .before .before .before .before .before .before .before .before .args .t) (p .6) (pass-at (c .before .before .loop .inv .0) (c .before .loop-test .taken)),
+    let start = c .before .before .before .before .before .before .before .before .before .before .before .before .before in
+    let p = start .pre in (
+      edge-ends (p .0 .1) (start .args .t) (p .6) (pass-at (c .before .before .loop .inv .0) (c .before .loop-test .taken)),
       ready-least (p .0 .1 .job) (p .7) (c .before .before .before .before .before .least .ensures) .0,
       ready-least (p .0 .1 .job) (p .8) (c .before .before .before .least2 .ensures) .0,
       p .4,
@@ -69,59 +44,54 @@ may-wait-requires c κs =
 
 raise-edge-requires : tie.Need-raise-edge-requires Inv-loop μ-loop
 raise-edge-requires c κs =
-    let p = c .before .before .before .before .before .before .before .before .before .before .before .before .before .before .before .before .before .pre in
-    let l = c .before .before .before .before .before .before .loop in
-    (p .0 .1 .job, p .2, feeds (c .before .before .before .before .before .before .before .before .before .before .before .before .before .before .before .before .before .args .t) (p .0 .1) (p .6 .placed) (pass-at (l .inv .0) (c .before .before .before .before .before .loop-test .taken)), table-held (l .inv .1), table-held (l .inv .2))
-
-add-k : tie.Need-add-k Inv-loop μ-loop
-add-k c = search needs
-
-loop-less : tie.Need-loop-less Inv-loop μ-loop
-loop-less c = search needs
+    let start = c .before .before .before .before .before .before .before .before .before .before .before .before .before .before .before .before .before in
+    let here = c .before .before .before .before .before .before in
+    let p = start .pre in
+    let l = here .loop in
+    let i = pass-at (l .inv .0) (c .before .before .before .before .before .loop-test .taken) in
+    (p .0 .1 .job, p .2, feeds (start .args .t) (p .0 .1) (p .6 .placed) i, table-held (l .inv .1), table-held (l .inv .2))
 
 loop-again : tie.Need-loop-again Inv-loop μ-loop
 loop-again c =
-    let p = c .before .before .before .before .before .before .before .before .before .before .before .before .before .before .before .pre in
+    let start = c .before .before .before .before .before .before .before .before .before .before .before .before .before .before .before in
+    let here = c .before .before .before .before .before .before .before in
+    let there = c .before .before .before .before .before in
+    let p = start .pre in
+    let a = start .args in
     let l = c .before .before .before .before .loop in
     let (w, e, f) = l .inv in
     let taken = c .before .before .before .loop-test .taken in
     let i = pass-at w taken in
     let on = pass-on w taken _ refl in
     ⊎-elim
-    (λ b. (on, rw (b .4) (gathered-next (c .before .before .before .before .before .before .before .before .before .before .before .before .before .before .before .args .capacity) false (laneTime (c .before .before .before .before .before .before .before .before .before .before .before .before .before .before .before .args .early .now)) (c .before .before .before .before .before .before .before .before .before .before .before .before .before .before .before .args .t) w e (b .3 .ensures .0)), rw (b .5) (gathered-next (c .before .before .before .before .before .before .before .before .before .before .before .before .before .before .before .args .capacity) true (laneTime (c .before .before .before .before .before .before .before .before .before .before .before .before .before .before .before .args .late .now)) (c .before .before .before .before .before .before .before .before .before .before .before .before .before .before .before .args .t) w f (b .3 .ensures .1))))
+    (λ b. (
+      on,
+      rw (b .4) (gathered-next (a .capacity) false (laneTime (a .early .now)) (a .t) w e (b .3 .ensures .0)),
+      rw (b .5) (gathered-next (a .capacity) true (laneTime (a .late .now)) (a .t) w f (b .3 .ensures .1)),
+    ))
     (λ b.
     let (x, y) = c .before .may-wait .ensures (b .0 .left) in (
       on,
-      rw (b .1) (gathered-same (c .before .before .before .before .before .before .before .before .before .before .before .before .before .before .before .args .capacity) false (laneTime (c .before .before .before .before .before .before .before .before .before .before .before .before .before .before .before .args .early .now)) (c .before .before .before .before .before .before .before .before .before .before .before .before .before .before .before .args .t) w e (λ q o. waits-not (p .0 .1) (c .before .before .before .before .before .before .before .before .before .before .before .before .before .before .before .args .t) (p .6) (p .3) (edgeIn (nth (c .before .before .before .before .before .before .before .before .before .before .before .before .before .before .before .args .links .now) (l .k))) i q o false
-          (timeOf (c .before .before .before .before .before .before .before .least .result)) x (ready-least (p .0 .1 .job) (p .7) (c .before .before .before .before .before .before .before .least .ensures) .1 q o))),
-      rw (b .2) (gathered-same (c .before .before .before .before .before .before .before .before .before .before .before .before .before .before .before .args .capacity) true (laneTime (c .before .before .before .before .before .before .before .before .before .before .before .before .before .before .before .args .late .now)) (c .before .before .before .before .before .before .before .before .before .before .before .before .before .before .before .args .t) w f (λ q o. waits-not (p .0 .1) (c .before .before .before .before .before .before .before .before .before .before .before .before .before .before .before .args .t) (p .6) (p .3) (edgeIn (nth (c .before .before .before .before .before .before .before .before .before .before .before .before .before .before .before .args .links .now) (l .k))) i q o true
-          (timeOf (c .before .before .before .before .before .least2 .result)) y (ready-least (p .0 .1 .job) (p .8) (c .before .before .before .before .before .least2 .ensures) .1 q o))),
+      rw (b .1) (gathered-same (a .capacity) false (laneTime (a .early .now)) (a .t) w e (λ q o.
+          waits-not (p .0 .1) (a .t) (p .6) (p .3) (edgeIn (nth (a .links .now) (l .k))) i q o false (timeOf (here .least .result)) x
+          (ready-least (p .0 .1 .job) (p .7) (here .least .ensures) .1 q o))),
+      rw (b .2) (gathered-same (a .capacity) true (laneTime (a .late .now)) (a .t) w f (λ q o.
+          waits-not (p .0 .1) (a .t) (p .6) (p .3) (edgeIn (nth (a .links .now) (l .k))) i q o true (timeOf (there .least2 .result)) y
+          (ready-least (p .0 .1 .job) (p .8) (there .least2 .ensures) .1 q o))),
     ))
     (c .if1 .came)
 
 returns : tie.Need-returns Inv-loop μ-loop
 returns c =
-    let p = c .before .before .before .before .before .before .before .before .before .before .before .before .pre in
-    let (w, e, f) = c .before .loop .inv in
-    (gathered-done (c .before .before .before .before .before .before .before .before .before .before .before .before .args .capacity) false (laneTime (c .before .before .before .before .before .before .before .before .before .before .before .before .args .early .now)) (c .before .before .before .before .before .before .before .before .before .before .before .before .args .t) w e (p .0 .1) (p .6 .placed) (c .loop-test .left), gathered-done (c .before .before .before .before .before .before .before .before .before .before .before .before .args .capacity) true (laneTime (c .before .before .before .before .before .before .before .before .before .before .before .before .args .late .now)) (c .before .before .before .before .before .before .before .before .before .before .before .before .args .t) w f (p .0 .1) (p .6 .placed) (c .loop-test .left))
+    let start = c .before .before .before .before .before .before .before .before .before .before .before .before in
+    let p = start .pre in
+    let a = start .args in
+    let (w, e, f) = c .before .loop .inv in (
+      gathered-done (a .capacity) false (laneTime (a .early .now)) (a .t) w e (p .0 .1) (p .6 .placed) (c .loop-test .left),
+      gathered-done (a .capacity) true (laneTime (a .late .now)) (a .t) w f (p .0 .1) (p .6 .placed) (c .loop-test .left),
+    )
 
 pub raise-data-spec : {M : Type 1} → statement M
-raise-data-spec =
-    tie.close
-    (tie.spec
-    Inv-loop
-    μ-loop
-    shared-slice-read-entering
-    entering-requires
-    shared-slice-read-m
-    least-requires
-    least-requires-2
-    loop-holds
-    mul-cell
-    shared-slice-read-cell
-    may-wait-requires
-    raise-edge-requires
-    add-k
-    loop-less
-    loop-again
-    returns)
+raise-data-spec = tie.close (tie.spec
+    Inv-loop μ-loop shared-slice-read-entering (λ c κs. search needs) shared-slice-read-m (λ c κs. search needs) (λ c κs. search needs) loop-holds
+    (λ c. search needs) (λ c. search needs) may-wait-requires raise-edge-requires (λ c. search needs) (λ c. search needs) loop-again returns)
