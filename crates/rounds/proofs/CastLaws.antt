@@ -1,24 +1,28 @@
 -- Times in lanes and in cells: the casts between them, and when no processor waits.
-use Rattle.lists.proofs.Prelude.{_≡_, refl, sym, subst, _∙_, inl, inr, List, Bool, true, false, ℕ, zero, suc, _+_, _*_, _^_, _<_, _≤_, arith, eq-eqb, eqb-true, eqb, if_then_else_, nth, Edge, Limits, document01, Time, tick, never, later, sooner, after, least, largest, times}
+use Rattle.lists.proofs.Prelude.{_≡_, refl, sym, subst, _∙_, inl, inr, List, Bool, true, false, ℕ, zero, suc, _+_, _*_, _^_, _<_, _≤_, arith, eq-eqb, eqb-true, eqb, if_then_else_, nth, Edge, Limits, document01, In, Time, tick, never, after, times}
 use mir.Syntax.{w64}
 use mir.Val.{toZ, ofZ}
 use mir.Facts.{toZ-ofZ}
 use lib.Dec.{T}
 use lib.IntN.{pos}
 use lib.Ieee.{Float, inf, binary64, add, lt, eq, inUnsigned, toUnsigned, inSigned, toSigned}
+use Rattle.definitions.specs.Claims.{Within}
 use Rattle.definitions.specs.Shelf.{NoLater}
+use Rattle.definitions.proofs.Lists.{in-map}
+use Rattle.definitions.proofs.Bounds.{least-within, largest-within}
 use Rattle.heads.specs.Layout.{timeAt}
 use Rattle.ticks.specs.Cells.{neverCell, timeIn, Small}
-use Rattle.ticks.specs.Floats.{whole, floatOf, timeOf, NotAfter, Held, lane}
+use Rattle.ticks.specs.Floats.{whole, floatOf, timeOf, Held, lane}
 use Rattle.ticks.proofs.Wholes.{Fine, to-unsigned}
 use Rattle.ticks.proofs.HeldLaws.{held-more, add-holds, lt-no, signed-holds, never-no}
 use Rattle.plans.specs.Lines.{rowOutcomes, RowHeld}
 use Rattle.rounds.specs.Schedule.{choiceOf}
 use Rattle.rounds.specs.Arrivals.{laneMost, lastArrival, endAt, EdgeEnds}
-use Rattle.rounds.proofs.TimeLaws.{message-most}
+use Rattle.rounds.proofs.TimeLaws.{message-most, small-within, within-small}
+use Rattle.rounds.proofs.Placed.{in-row}
 
 -- The number in a float, through a cell of 32 bits.
-unsigned-times : (b : ℕ) (t : Time) → Fine b → NotAfter b t → (n : ℕ) → t ≡ tick n → n < 2 ^ 32 → T (inUnsigned binary64 32 (floatOf t)) × (toUnsigned 32 (floatOf t) ≡ n)
+unsigned-times : (b : ℕ) (t : Time) → Fine b → Within b t → (n : ℕ) → t ≡ tick n → n < 2 ^ 32 → T (inUnsigned binary64 32 (floatOf t)) × (toUnsigned 32 (floatOf t) ≡ n)
 unsigned-times b never f w n e l = let z : _≡_ {A = ℕ} 0 1 = cc in absurd (omega arith)
 unsigned-times b (tick m) f w n e l = let k : m ≡ n = cc in let q = to-unsigned m (omega arith) 32 (omega arith) in (q .0, q .1 ∙ k)
 
@@ -59,47 +63,21 @@ no-waits {a} {ends} t v d h k l m e f i j =
       rw (w, ← f) (no-wait document01 (omega arith) v d n m (rw w at (h .held true)) l j),
     )
 
--- A cell is small as its time does not pass the bound.
-small-time : (b x : ℕ) → Small b x → NotAfter b (timeIn x)
-small-time b x (inl e) = rw (eq-eqb x neverCell e) tt
-small-time b x (inr l) = by (eqb x neverCell)
-  where
-    by : (v : Bool) → NotAfter b (if v then never else tick x)
-    by true = tt
-    by false = l
-
-time-small : (b x : ℕ) → NotAfter b (timeIn x) → Small b x
-time-small b x = by (eqb x neverCell) refl
-  where
-    by : (v : Bool) → eqb x neverCell ≡ v → NotAfter b (if v then never else tick x) → Small b x
-    by true e h = inl (eqb-true x neverCell e)
-    by false e h = inr h
-
--- The later and the sooner of two times that do not pass a bound.
-later-most : (b : ℕ) (s t : Time) → NotAfter b s → NotAfter b t → NotAfter b (later s t)
-later-most b (tick x) (tick y) h g = omega arith
-later-most b (tick x) never h g = tt
-later-most b never t h g = tt
-
-sooner-most : (b : ℕ) (s t : Time) → NotAfter b s → NotAfter b t → NotAfter b (sooner s t)
-sooner-most b (tick x) (tick y) h g = omega arith
-sooner-most b (tick x) never h g = h
-sooner-most b never t h g = g
-
 -- The choice among the times of a line is small.
 module _ {lim : Limits} {a : ℕ} {mem : List ℕ} (h : RowHeld lim a mem) where
-  time-most : (late : Bool) (c : ℕ) → c < nth mem 3 + 1 → NotAfter (lim .tick) (timeIn (nth mem (timeAt late a c)))
-  time-most true c l = small-time (lim .tick) _ (h .late-of c l)
-  time-most false c l = small-time (lim .tick) _ (h .early-of c l)
+  time-most : (late : Bool) (c : ℕ) → c < nth mem 3 + 1 → Within (lim .tick) (timeIn (nth mem (timeAt late a c)))
+  time-most true c l = small-within (lim .tick) _ (h .late-of c l)
+  time-most false c l = small-within (lim .tick) _ (h .early-of c l)
 
-  choice-most : (late : Bool) (c : ℕ) → c ≤ nth mem 3 + 1 → NotAfter (lim .tick) (choiceOf late (times (rowOutcomes late a c mem)))
-  unfolding rowOutcomes least largest
-  choice-most true zero l = omega arith
-  choice-most false zero l = tt
-  choice-most true (suc c) l =
-      later-most (lim .tick) (timeIn (nth mem (timeAt true a c))) (largest (times (rowOutcomes true a c mem))) (time-most true c (omega arith)) (choice-most true c (omega arith))
-  choice-most false (suc c) l =
-      sooner-most (lim .tick) (timeIn (nth mem (timeAt false a c))) (least (times (rowOutcomes false a c mem))) (time-most false c (omega arith)) (choice-most false c (omega arith))
+  each-most : (late : Bool) (x : Time) → In x (times (rowOutcomes late a (nth mem 3 + 1) mem)) → Within (lim .tick) x
+  each-most late x i =
+      let (d, j, e) = in-map (λ d. d .time) x (rowOutcomes late a (nth mem 3 + 1) mem) i in
+      let (c, l, q) = in-row late mem a (nth mem 3 + 1) d j in
+      rw (← e, q) (time-most late c l)
+
+  choice-most : (late : Bool) → Within (lim .tick) (choiceOf late (times (rowOutcomes late a (nth mem 3 + 1) mem)))
+  choice-most true = largest-within (lim .tick) (times (rowOutcomes true a (nth mem 3 + 1) mem)) (each-most true)
+  choice-most false = least-within (lim .tick) (times (rowOutcomes false a (nth mem 3 + 1) mem)) (each-most false)
 
   pub choice-small : (late : Bool) {r : ℕ} → timeIn r ≡ choiceOf late (times (rowOutcomes late a (nth mem 3 + 1) mem)) → Small (lim .tick) r
-  choice-small late {r} e = time-small (lim .tick) r (subst (λ (t : Time). NotAfter (lim .tick) t) (sym e) (choice-most late (nth mem 3 + 1) (omega arith)))
+  choice-small late {r} e = within-small (lim .tick) r (subst (λ (t : Time). Within (lim .tick) t) (sym e) (choice-most late))

@@ -23,7 +23,7 @@ use Rattle.lists.proofs.Counting.{equal-or-not}
 use Rattle.lists.proofs.Kept.{Same, same-before, kept-all, kept-then, kept-wider, kept-set}
 use Rattle.jobs.proofs.Held.{sizes, tasks-in, processors-in, job-kept, held-kept}
 use Rattle.plans.proofs.Lines.{outcomes-same, placed-same, early-apart}
-use Rattle.rounds.proofs.TimeLaws.{time-tick, small-wider, round-most}
+use Rattle.rounds.proofs.TimeLaws.{small-within, time-tick, small-wider, round-most}
 use Rattle.rounds.proofs.Placed.{ofTask-append, row-none, data-placed}
 use Rattle.rounds.proofs.EndLaws.{ended-same, ended-line, settled-behind, supplied}
 
@@ -94,9 +94,6 @@ module _ {capacity k n : ℕ} {d e : List ℕ} (z : Retimed capacity k n d e) wh
       }
 
 -- One replica ---------------------------------------------------------------------------------------------------------
-
-pub small-within : (b x : ℕ) → Small b x → Within b (timeIn x)
-small-within b x s = ⊎-elim (λ (e : x ≡ neverCell). rw e tt) (λ n. ⊎-elim (λ e. absurd (n e)) (λ h. rw (time-tick x n) h) s) (equal-or-not x neverCell)
 
 module _ {lim : Limits} {capacity : ℕ} (k c : ℕ) {cells mem : List ℕ} (r : Running lim capacity k c cells mem) (a : k < nth mem 0) (b : c < nth mem 3 + 1) (f : PredecessorsBefore capacity k mem) where
   abbrev runner : ℕ

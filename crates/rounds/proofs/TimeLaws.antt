@@ -1,5 +1,6 @@
 -- Times in cells: the later and the sooner, what comes after, and when data arrives.
-use Rattle.lists.proofs.Prelude.{_≡_, refl, ap, _∙_, sym, _⊎_, inl, inr, ⊎-elim, List, [], _∷_, map, reverseAux, Bool, true, false, ℕ, _+_, _*_, _-_, _<_, _≤_, max, min, arith, mul-le-mul, eq-eqb, ne-eqb, eqb, if_then_else_, nth, In, greatest, Edge, delay, incoming, Time, tick, never, later, sooner, after, least, largest, any, Limits}
+use Rattle.lists.proofs.Prelude.{_≡_, refl, ap, _∙_, sym, _⊎_, inl, inr, ⊎-elim, List, [], _∷_, map, reverseAux, Bool, true, false, ℕ, _+_, _*_, _-_, _<_, _≤_, max, min, arith, mul-le-mul, eq-eqb, ne-eqb, eqb-true, eqb, if_then_else_, nth, In, greatest, Edge, delay, incoming, Time, tick, never, later, sooner, after, least, largest, any, Limits}
+use Rattle.definitions.specs.Claims.{Within}
 use Rattle.definitions.proofs.Tasks.{in-incoming}
 use Rattle.definitions.proofs.Later.{later-comm, later-assoc, later-zero}
 use Rattle.orders.specs.Edges.{edgeIn}
@@ -60,6 +61,22 @@ small-one b r x y s p q = ⊎-elim (λ (e : r ≡ x). rw e p) (λ (e : r ≡ y).
 
 pub small-tick : (b x : ℕ) → (x ≡ neverCell → ⊥) → Small b x → x ≤ b
 small-tick b x h = ⊎-elim (λ e. absurd (h e)) (λ l. l)
+
+-- A cell is small as its time does not pass the bound.
+pub small-within : (b x : ℕ) → Small b x → Within b (timeIn x)
+small-within b x (inl e) = rw (eq-eqb x neverCell e) tt
+small-within b x (inr l) = by (eqb x neverCell)
+  where
+    by : (v : Bool) → Within b (if v then never else tick x)
+    by true = tt
+    by false = l
+
+pub within-small : (b x : ℕ) → Within b (timeIn x) → Small b x
+within-small b x = by (eqb x neverCell) refl
+  where
+    by : (v : Bool) → eqb x neverCell ≡ v → Within b (if v then never else tick x) → Small b x
+    by true e h = inl (eqb-true x neverCell e)
+    by false e h = inr h
 
 -- The ticks of a message.
 pub message-most : (lim : Limits) (volume n : ℕ) → volume ≤ lim .volume → n ≤ lim .delay → volume * n ≤ messageMost lim

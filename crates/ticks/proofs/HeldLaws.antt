@@ -13,10 +13,12 @@ use lib.ListN.{length, List·getD-eq-default}
 use lib.Ieee.{Float, nan, inf, binary64, add, mul, lt, eq, inSigned, toSigned, ofBits, ofInt}
 use Rattle.definitions.specs.Lists.{if_then_else_}
 use Rattle.definitions.specs.Times.{Time, tick, never, later, sooner, after}
+use Rattle.definitions.specs.Claims.{Within}
 use Rattle.definitions.specs.Shelf.{NoLater}
 use Rattle.lists.proofs.Counting.{last-or-before}
+use Rattle.definitions.proofs.Bounds.{weaker}
 use Rattle.definitions.proofs.Later.{no-later-self, no-later-then}
-use Rattle.ticks.specs.Floats.{whole, floatOf, timeOf, NotAfter, Held, lane, laneTime}
+use Rattle.ticks.specs.Floats.{whole, floatOf, timeOf, Held, lane, laneTime}
 use Rattle.ticks.specs.Lanes.{lesser, greater, sent, leastLane}
 use Rattle.ticks.proofs.Wholes.{Fine, add-whole, mul-whole, lt-whole, never-add, never-lt, lt-never, never-lt-never, time-whole, time-never, to-signed, eq-never, never-eq-never}
 
@@ -31,15 +33,11 @@ pub never-holds : {b : ℕ} → Holds b (inf false) never
 never-holds = (record { is = rw time-never; most = rw time-never tt }, time-never)
 
 -- A bound can be raised.
-after-more : (t : Time) (b c : ℕ) → b ≤ c → NotAfter b t → NotAfter c t
-after-more (tick n) b c l h = omega arith
-after-more never b c l h = tt
-
 pub held-more : {b c : ℕ} {x : Float} → b ≤ c → Held b x → Held c x
-held-more {b} {c} {x} l h = record { is = h .is; most = after-more (timeOf x) b c l (h .most) }
+held-more {b} {c} {x} l h = record { is = h .is; most = weaker (timeOf x) l (h .most) }
 
 -- A message.
-add-times : (b n : ℕ) (t : Time) → Fine (b + n) → NotAfter b t → Holds (b + n) (add binary64 (floatOf t) (whole n)) (after n t)
+add-times : (b n : ℕ) (t : Time) → Fine (b + n) → Within b t → Holds (b + n) (add binary64 (floatOf t) (whole n)) (after n t)
 add-times b n never h w = rw (never-add n (omega arith)) never-holds
 add-times b n (tick a) h w = rw (add-whole a n (omega arith) (omega arith)) (whole-holds (a + n) (b + n) h (omega arith))
 
@@ -57,7 +55,7 @@ before (tick a) (tick b) = ltb a b
 before (tick a) never = true
 before never t = false
 
-lt-times : (b : ℕ) (s t : Time) → Fine b → NotAfter b s → NotAfter b t → lt (floatOf s) (floatOf t) ≡ before s t
+lt-times : (b : ℕ) (s t : Time) → Fine b → Within b s → Within b t → lt (floatOf s) (floatOf t) ≡ before s t
 lt-times b (tick m) (tick n) f v w = lt-whole m n (omega arith) (omega arith)
 lt-times b (tick m) never f v w = lt-never m (omega arith)
 lt-times b never (tick n) f v w = never-lt n (omega arith)
@@ -162,7 +160,7 @@ abbrev isNever : Time → Bool
 isNever never = true
 isNever (tick n) = false
 
-signed-times : (b : ℕ) (t : Time) → Fine b → NotAfter b t → (n : ℕ) → t ≡ tick n → T (inSigned binary64 63 (floatOf t)) × (toSigned 63 (floatOf t) ≡ pos n) × (n ≤ b)
+signed-times : (b : ℕ) (t : Time) → Fine b → Within b t → (n : ℕ) → t ≡ tick n → T (inSigned binary64 63 (floatOf t)) × (toSigned 63 (floatOf t) ≡ pos n) × (n ≤ b)
 signed-times b never f w n e = let z : _≡_ {A = ℕ} 0 1 = cc in absurd (omega arith)
 signed-times b (tick m) f w n e = let q = to-signed m (omega arith) 63 (omega arith) in let k : m ≡ n = cc in (q .0, q .1 ∙ ap pos k, omega arith)
 
@@ -170,7 +168,7 @@ pub signed-holds : {b : ℕ} {x : Float} → Fine b → Held b x → (n : ℕ) �
 signed-holds {b} {x} f h n e =
     subst (λ (z : Float). T (inSigned binary64 63 z) × (toSigned 63 z ≡ pos n) × (n ≤ b)) (sym (h .is)) (signed-times b (timeOf x) f (h .most) n e)
 
-never-times : (b : ℕ) (t : Time) → Fine b → NotAfter b t → eq (floatOf t) (inf false) ≡ isNever t
+never-times : (b : ℕ) (t : Time) → Fine b → Within b t → eq (floatOf t) (inf false) ≡ isNever t
 never-times b never f w = never-eq-never
 never-times b (tick n) f w = eq-never n (omega arith)
 

@@ -1,5 +1,5 @@
 -- Times in lanes of 64-bit floats: a tick is the float of that whole number, never is the infinity.
-use Prim.Native.Nat.{ℕ, _*_, _/_, _≤_, _<_}
+use Prim.Native.Nat.{ℕ, _*_, _/_}
 use mathlib.Core.Path.{_≡_}
 use mathlib.Core.List.{List}
 use mathlib.Core.Bool.{false}
@@ -7,6 +7,7 @@ use lib.IntN.{pos}
 use lib.ListN.{getD}
 use lib.Ieee.{Float, nan, inf, fin, binary64, ofInt, up, down}
 use Rattle.definitions.specs.Times.{Time, tick, never}
+use Rattle.definitions.specs.Claims.{Within}
 
 -- The float of a whole number.
 abbrev pub whole : ℕ → Float
@@ -23,15 +24,10 @@ timeOf nan = never
 timeOf (inf s) = never
 timeOf (fin s m e) = tick (m * up e / down e)
 
--- A time is never, or a tick that does not pass b.
-abbrev pub NotAfter : ℕ → Time → Type 0
-NotAfter b (tick n) = n ≤ b
-NotAfter b never = Unit
-
 -- The float is that of a time, which does not pass b if it comes.
 pub record Held (b : ℕ) (x : Float) : Type 0 where
   pub is : x ≡ floatOf (timeOf x)
-  pub most : NotAfter b (timeOf x)
+  pub most : Within b (timeOf x)
 
 -- Lane p of some, and its time.
 abbrev pub lane : List Float → ℕ → Float
