@@ -43,7 +43,8 @@ fn run_line(
     stops: &[u64],
     ready: Ready,
 ) -> Ready
-    requires { ⌜ DelayTable document01 (now delays) (now mem) × NoDelayOver most (now mem) × (most ≤ document01 .delay) × Ended document01 capacity k (now mem) (now ends) × Running document01 capacity k 0 (ready .at) (now mem) × (k < nth (now mem) 0) × PredecessorsBefore capacity k (now mem)
+    requires { ⌜ DelayTable document01 (now delays) (now mem) × NoDelayOver most (now mem) × (most ≤ document01 .delay)
+        × Ended document01 capacity k (now mem) (now ends) × Running document01 capacity k 0 (ready .at) (now mem) × (k < nth (now mem) 0) × PredecessorsBefore capacity k (now mem)
         × (length (now stops) ≡ lanesMost)
         × LinksHeld (now mem) (now links) ⌝ }
     ensures { λ r. ⌜ Running document01 capacity (suc k) 0 (r .at) (now (mem .exit)) × LineRun capacity k (now (stops .entry)) (now (mem .entry)) (now (mem .exit))
