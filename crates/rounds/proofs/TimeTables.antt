@@ -1,6 +1,7 @@
 -- Tables with a lane for each processor: the delays, and when data is there.
-use Rattle.lists.proofs.Prelude.{_≡_, refl, ap, _∙_, sym, ⊎-elim, List, [], _∷_, _++_, map, append-nil, append-assoc, Bool, true, false, ℕ, zero, suc, _+_, _-_, _*_, _/_, _%_, _^_, _<_, _≤_, min, arith, mul-le-mul, add-one, add-zero, sub-zero, eqb-true, eqb-false, eqb, length, set, length-set, replicate, length-replicate, getD-replicate, getD-set-same, getD-set-other, if_then_else_, nth, In, incoming, delay, Edge, Time, tick, never, later, sooner, after, least, largest, Outcome, ofTask, arrival, Limits}
+use Rattle.lists.proofs.Prelude.{_≡_, refl, ap, _∙_, sym, ⊎-elim, List, [], _∷_, _++_, map, append-nil, append-assoc, Bool, true, false, ℕ, zero, suc, _+_, _-_, _*_, _/_, _%_, _^_, _<_, _≤_, min, arith, mul-le-mul, add-one, add-zero, sub-zero, eqb-true, eqb-false, eq-eqb, ltb-true, ltb-false, lt-ltb, le-ltb, ltb, eqb, length, set, length-set, replicate, length-replicate, getD-replicate, getD-set-same, getD-set-other, if_then_else_, nth, In, incoming, delay, Edge, Time, tick, never, later, sooner, after, least, largest, Outcome, ofTask, arrival, Limits}
 use lib.Ieee.{Float, nan}
+use native.Mathlib.Nat.{lt-of-not-le}
 use Rattle.definitions.specs.Times.{times, message}
 use Rattle.definitions.specs.Shelf.{NoLater}
 use Rattle.definitions.proofs.Later.{later-comm, later-assoc, later-zero, no-later-then}
@@ -10,11 +11,11 @@ use Rattle.orders.proofs.Walk.{Passed}
 use Rattle.heads.specs.Layout.{jobSize, processorAt, timeAt, lanesMost}
 use Rattle.ticks.specs.Cells.{timeIn}
 use Rattle.ticks.specs.Floats.{whole, timeOf, Held, lane, laneTime}
-use Rattle.ticks.specs.Lanes.{lanes, lesser, greater, sent, leastLane}
+use Rattle.ticks.specs.Lanes.{lanes, lesser, greater, sent, delayAt, laneIn, leastLane}
 use Rattle.ticks.proofs.HeldLaws.{Holds, whole-holds, held-more, held-in, sent-holds, lesser-holds, greater-holds, least-holds}
 use Rattle.ticks.proofs.LaneLaws.{lanes-each}
 use Rattle.rounds.specs.Schedule.{edgeFrom, choiceOf, arrivalIn, dataIn, PredecessorsPlaced}
-use Rattle.rounds.specs.Arrivals.{laneMost, DelayTable, NoDelayOver, TimeTable, LanesHeld, Raised, RaisedBy, EdgeEnds, Supplied, laneTimes, endAt, BothSupplied, ShortTicks, TicksHeld, delayCells}
+use Rattle.rounds.specs.Arrivals.{laneMost, DelayTable, NoDelayOver, TimeTable, OfHalf, HalfTable, LanesHeld, Raised, RaisedBy, RaisedIn, EdgeEnds, Supplied, laneTimes, endAt, BothSupplied, ShortTicks, TicksHeld, delayCells}
 use Rattle.jobs.specs.Held.{jobIn, JobHeld}
 use Rattle.jobs.specs.Tables.{messageMost, lastShort}
 use Rattle.plans.specs.Lines.{rowOutcomes, rowOf, LinesHeld}
@@ -78,15 +79,6 @@ module _ {lim : Limits} {mem : List ℕ} where
       let each : (p : ℕ) → p < nth mem 1 → lane (replicate lanesMost x) p ≡ x = λ p o. getD-replicate {A = Float} lanesMost p x nan (omega arith) in
       record { time = λ p o. rw (each p o) (h .1); held = λ p o. rw (each p o) (h .0) }
 
-  -- One lane changed.
-  pub table-set : {f : ℕ → Time} {e : List Float} {t : Time} (q : ℕ) (x : Float) → TimeTable lim f mem e → q < nth mem 1 → Holds (laneMost lim) x t
-      → TimeTable lim (λ p. if eqb q p then t else f p) mem (set e q x)
-  table-set {f} {e} {t} q x s o h = record { time = λ p l. by p l (eqb q p) refl .1; held = λ p l. by p l (eqb q p) refl .0 }
-    where
-      by : (p : ℕ) → p < nth mem 1 → (b : Bool) → eqb q p ≡ b → Holds (laneMost lim) (lane (set e q x) p) (if b then t else f p)
-      by p l true i = rw (← eqb-true q p i, getD-set-same e q x nan (held-in e q (s .held q o))) h
-      by p l false i = let n = eqb-false q p i in rw (getD-set-other e q p x nan (λ z. n (sym z))) (s .held p l, s .time p l)
-
   -- All lanes changed.
   pub table-lanes : {f g : ℕ → Time} {d e : List Float} (op : ℕ → Float → Float) → nth mem 1 ≤ lanesMost → TimeTable lim f mem d
       → ((p : ℕ) → p < nth mem 1 → Holds (laneMost lim) (op p (lane d p)) (g p)) → e ≡ lanes op 16 d → TimeTable lim g mem e
@@ -101,12 +93,104 @@ module _ {lim : Limits} {capacity : ℕ} {mem : List ℕ} (held : JobHeld lim ca
   fine : laneMost lim ≤ 2 ^ 53
   fine = held .tabled .cell-fits
 
-  module _ {f g : ℕ → Time} {d e low : List Float} (t : TimeTable lim f mem d) (u : TimeTable lim g mem low) where
-    pub table-raise : e ≡ lanes (λ p z. greater z (lane low p)) 16 d → TimeTable lim (λ p. later (f p) (g p)) mem e
-    table-raise = table-lanes (λ p z. greater z (lane low p)) few t (λ p o. greater-holds fine (t .held p o, t .time p o) (u .held p o, u .time p o))
+-- Tables of a half ----------------------------------------------------------------------------------------------------
 
-    pub table-lower : e ≡ lanes (λ p z. lesser (lane low p) z) 16 d → TimeTable lim (λ p. sooner (f p) (g p)) mem e
-    table-lower = table-lanes (λ p z. lesser (lane low p) z) few t (λ p o. lesser-holds fine (u .held p o, u .time p o) (t .held p o, t .time p o))
+-- A processor of the half has its own lane there, one of none of these lanes.
+lane-here : (q h i : ℕ) → i < 8 → q ≡ 8 * h + i → laneIn q h ≡ i
+lane-here q h i l e = rw (eq-eqb (q / 8) h (omega arith)) (omega arith)
+
+lane-apart : (q h i : ℕ) → i < 8 → (q ≡ 8 * h + i → ⊥) → i ≡ laneIn q h → ⊥
+lane-apart q h i l n = by (eqb (q / 8) h) refl
+  where
+    by : (b : Bool) → eqb (q / 8) h ≡ b → i ≡ (if b then q % 8 else 8) → ⊥
+    by true e g = let z = eqb-true (q / 8) h e in n (omega arith)
+    by false e g = omega arith
+
+pub lane-most : (q h : ℕ) → laneIn q h < 9
+lane-most q h = by (eqb (q / 8) h)
+  where
+    by : (b : Bool) → (if b then q % 8 else 8) < 9
+    by true = omega arith
+    by false = omega arith
+
+module _ {lim : Limits} {h : ℕ} {mem : List ℕ} where
+  -- The same times.
+  pub half-same : {f g : ℕ → Time} {e : List Float} → ((p : ℕ) → p < nth mem 1 → f p ≡ g p) → HalfTable lim h f mem e → HalfTable lim h g mem e
+  half-same k t = record { time = λ i o. t .time i o ∙ k (8 * h + i) (o .1); held = t .held }
+
+  -- One time for all.
+  pub half-all : {t : Time} (n : ℕ) (x : Float) → 8 ≤ n → Holds (laneMost lim) x t → HalfTable lim h (λ p. t) mem (replicate n x)
+  half-all {t} n x l k =
+      let each : (i : ℕ) → OfHalf h mem i → lane (replicate n x) i ≡ x = λ i o. getD-replicate {A = Float} n i x nan (omega (arith, o .0)) in
+      record { time = λ i o. rw (each i o) (k .1); held = λ i o. rw (each i o) (k .0) }
+
+  -- The lane of one processor changed, if it is of the half.
+  pub half-set : {f : ℕ → Time} {e : List Float} {t : Time} (q : ℕ) (x : Float) → HalfTable lim h f mem e → Holds (laneMost lim) x t
+      → HalfTable lim h (λ p. if eqb q p then t else f p) mem (set e (laneIn q h) x)
+  half-set {f} {e} {t} q x s k = record { time = λ i o. by i o (eqb q (8 * h + i)) refl .1; held = λ i o. by i o (eqb q (8 * h + i)) refl .0 }
+    where
+      by : (i : ℕ) → OfHalf h mem i → (b : Bool) → eqb q (8 * h + i) ≡ b → Holds (laneMost lim) (lane (set e (laneIn q h) x) i) (if b then t else f (8 * h + i))
+      by i o true g = rw (lane-here q h i (o .0) (eqb-true q (8 * h + i) g), getD-set-same e i x nan (held-in e i (s .held i o))) k
+      by i o false g = rw (getD-set-other e (laneIn q h) i x nan (lane-apart q h i (o .0) (eqb-false q (8 * h + i) g))) (s .held i o, s .time i o)
+
+  -- All lanes changed.
+  pub half-lanes : {f g : ℕ → Time} {d e : List Float} (op : ℕ → Float → Float) → HalfTable lim h f mem d
+      → ((i : ℕ) → OfHalf h mem i → Holds (laneMost lim) (op i (lane d i)) (g (8 * h + i))) → e ≡ lanes op 8 d → HalfTable lim h g mem e
+  half-lanes {d = d} {e} op t k g =
+      let each : (i : ℕ) → OfHalf h mem i → lane e i ≡ op i (lane d i) = λ i o. lanes-each op d e g i (o .0) (held-in d i (t .held i o)) in
+      record { time = λ i o. rw (each i o) (k i o .1); held = λ i o. rw (each i o) (k i o .0) }
+
+module _ {lim : Limits} {capacity : ℕ} {mem : List ℕ} (held : JobHeld lim capacity mem) {h : ℕ} {f g : ℕ → Time} {d e low : List Float} where
+  module _ (t : HalfTable lim h f mem d) (u : HalfTable lim h g mem low) where
+    half-raise : e ≡ lanes (λ p z. greater z (lane low p)) 8 d → HalfTable lim h (λ p. later (f p) (g p)) mem e
+    half-raise = half-lanes (λ p z. greater z (lane low p)) t (λ i o. greater-holds (fine held) (t .held i o, t .time i o) (u .held i o, u .time i o))
+
+    half-lower : e ≡ lanes (λ p z. lesser (lane low p) z) 8 d → HalfTable lim h (λ p. sooner (f p) (g p)) mem e
+    half-lower = half-lanes (λ p z. lesser (lane low p) z) t (λ i o. lesser-holds (fine held) (u .held i o, u .time i o) (t .held i o, t .time i o))
+
+  -- A whole table, raised to the times of a half.
+  pub table-raise : TimeTable lim f mem d → HalfTable lim h g mem low → h < 2
+      → e ≡ lanes (λ p z. if eqb (p / 8) (h % 2) then greater z (lane low (p % 8)) else z) 16 d
+      → TimeTable lim (λ p. if eqb (p / 8) h then later (f p) (g p) else f p) mem e
+  table-raise t u l i =
+      let same : h % 2 ≡ h = omega arith in
+      table-lanes (λ p z. if eqb (p / 8) h then greater z (lane low (p % 8)) else z) (few held) t (λ p o. by p o (eqb (p / 8) h) refl) (rw same at i)
+    where
+      by : (p : ℕ) → p < nth mem 1 → (b : Bool) → eqb (p / 8) h ≡ b
+          → Holds (laneMost lim) (if b then greater (lane d p) (lane low (p % 8)) else lane d p) (if b then later (f p) (g p) else f p)
+      by p o false q = (t .held p o, t .time p o)
+      by p o true q =
+          let same = eqb-true (p / 8) h q in
+          let here : 8 * h + p % 8 ≡ p = omega arith in
+          let on : OfHalf h mem (p % 8) = (omega arith, rw here o) in
+          greater-holds (fine held) (t .held p o, t .time p o) (u .held (p % 8) on, rw here at (u .time (p % 8) on))
+
+-- The halves below h were raised to the data of the line at a, by an edge of this volume.
+abbrev pub HalvesRaised : Limits → ℕ → Bool → ℕ → ℕ → List ℕ → List Float → List Float → Type 0
+HalvesRaised lim h late volume a mem e f = TimeTable lim (λ p. if ltb p (8 * h) then later (laneTime e p) (arrivalIn late volume p a mem) else laneTime e p) mem f
+
+module _ {lim : Limits} {mem : List ℕ} (late : Bool) (volume a : ℕ) (e : List Float) where
+  pub halves-none : LanesHeld lim mem e → HalvesRaised lim 0 late volume a mem e e
+  halves-none t = table-same (λ p o. rw (le-ltb p (8 * 0) (omega arith))) t
+
+  pub halves-next : (h : ℕ) {f g : List Float} → HalvesRaised lim h late volume a mem e f → RaisedIn lim h late volume a mem f g → HalvesRaised lim (h + 1) late volume a mem e g
+  halves-next h {f} t r = table-same (λ p o. rw (t .time p o) (by p (ltb p (8 * h)) (eqb (p / 8) h) refl refl)) r
+    where
+      beyond : (p : ℕ) → 8 * h ≤ p → (p / 8 ≡ h → ⊥) → 8 * (h + 1) ≤ p
+      beyond p l n = let k : 8 * (h + 1) < p + 1 = lt-of-not-le (λ (k : p + 1 ≤ 8 * (h + 1)). n (omega arith)) in omega arith
+
+      by : (p : ℕ) (b c : Bool) → ltb p (8 * h) ≡ b → eqb (p / 8) h ≡ c
+          → (if c then later (if b then later (laneTime e p) (arrivalIn late volume p a mem) else laneTime e p) (arrivalIn late volume p a mem)
+          else if b then later (laneTime e p) (arrivalIn late volume p a mem) else laneTime e p)
+          ≡ (if ltb p (8 * (h + 1)) then later (laneTime e p) (arrivalIn late volume p a mem) else laneTime e p)
+      by p true true i j = let l = ltb-true p (8 * h) i in let q = eqb-true (p / 8) h j in absurd (omega arith)
+      by p true false i j = let l = ltb-true p (8 * h) i in rw (lt-ltb p (8 * (h + 1)) (omega arith))
+      by p false true i j = let q = eqb-true (p / 8) h j in rw (lt-ltb p (8 * (h + 1)) (omega arith))
+      by p false false i j = let l = ltb-false p (8 * h) i in let n = eqb-false (p / 8) h j in rw (le-ltb p (8 * (h + 1)) (beyond p l n))
+
+  pub halves-done : (h : ℕ) {f : List Float} → nth mem 1 ≤ 8 * h → HalvesRaised lim h late volume a mem e f
+      → TimeTable lim (λ p. later (laneTime e p) (arrivalIn late volume p a mem)) mem f
+  halves-done h l t = table-same (λ p o. rw (lt-ltb p (8 * h) (omega arith))) t
 
 -- The data of one predecessor ---------------------------------------------------------------------------------------
 
@@ -136,71 +220,79 @@ module _ (late : Bool) (a : ℕ) (mem : List ℕ) where
 abbrev pub sentBy : ℕ → List ℕ → ℕ → Outcome → Time
 sentBy volume mem p d = after (volume * delay (jobIn mem) (d .processor) p) (d .time)
 
--- Replicas c and on of the line at a, w in all, were offered to all processors, each with an own one its own.
-pub record Offered (lim : Limits) (volume a c w : ℕ) (mem : List ℕ) (low high first last : List Float) : Type 0 where
-  pub low-of : TimeTable lim (λ p. least (map (sentBy volume mem p) (rowFrom false a c (w - c) mem))) mem low
-  pub high-of : TimeTable lim (λ p. largest (map (sentBy volume mem p) (rowFrom true a c (w - c) mem))) mem high
-  pub first-of : TimeTable lim (λ p. ownTime (tick 0) p (rowFrom false a c (w - c) mem)) mem first
-  pub last-of : TimeTable lim (λ p. ownTime never p (rowFrom true a c (w - c) mem)) mem last
+-- Replicas c and on of the line at a, w in all, were offered to the processors of half h, each with an own one its own.
+pub record Offered (lim : Limits) (h volume a c w : ℕ) (mem : List ℕ) (low high first last : List Float) : Type 0 where
+  pub low-of : HalfTable lim h (λ p. least (map (sentBy volume mem p) (rowFrom false a c (w - c) mem))) mem low
+  pub high-of : HalfTable lim h (λ p. largest (map (sentBy volume mem p) (rowFrom true a c (w - c) mem))) mem high
+  pub first-of : HalfTable lim h (λ p. ownTime (tick 0) p (rowFrom false a c (w - c) mem)) mem first
+  pub last-of : HalfTable lim h (λ p. ownTime never p (rowFrom true a c (w - c) mem)) mem last
 
-module _ {lim : Limits} {capacity : ℕ} {mem : List ℕ} (held : JobHeld lim capacity mem) (volume a : ℕ) where
-  pub offered-none : (w : ℕ) {x y : Float} → Holds (laneMost lim) x (tick 0) → Holds (laneMost lim) y never → Offered lim volume a w w mem
-      (replicate lanesMost y) (replicate lanesMost x) (replicate lanesMost x) (replicate lanesMost y)
+module _ {lim : Limits} {capacity : ℕ} {mem : List ℕ} (held : JobHeld lim capacity mem) (h volume a : ℕ) where
+  pub offered-none : (w : ℕ) {x y : Float} → Holds (laneMost lim) x (tick 0) → Holds (laneMost lim) y never → Offered lim h volume a w w mem
+      (replicate 8 y) (replicate 8 x) (replicate 9 x) (replicate 9 y)
   unfolding rowFrom least largest ownTime
   offered-none w z n =
       let none : w - w ≡ 0 = omega arith in
       record {
-        low-of = table-same (λ p o. rw none) (table-all _ (few held) n);
-        high-of = table-same (λ p o. rw none) (table-all _ (few held) z);
-        first-of = table-same (λ p o. rw none) (table-all _ (few held) z);
-        last-of = table-same (λ p o. rw none) (table-all _ (few held) n);
+        low-of = half-same (λ p o. rw none) (half-all 8 _ (omega arith) n);
+        high-of = half-same (λ p o. rw none) (half-all 8 _ (omega arith) z);
+        first-of = half-same (λ p o. rw none) (half-all 9 _ (omega arith) z);
+        last-of = half-same (λ p o. rw none) (half-all 9 _ (omega arith) n);
       }
 
-  module _ (small : (lim .volume ≤ 2 ^ 53) × (lim .delay ≤ 2 ^ 53)) {delays : List ℕ} (table : DelayTable lim delays mem) (v : volume ≤ lim .volume) {q : ℕ} (o : q < nth mem 1) where
-    -- What q sends at x is offered to p.
-    sent-to : {x : Float} {t : Time} → Holds (lim .tick) x t → (p : ℕ) → p < nth mem 1
-        → Holds (laneMost lim) (sent x volume (nth delays (q % 16 * 16 + p))) (after (volume * delay (jobIn mem) q p) t)
-    sent-to {x} {t} h p l =
-        let i : q % 16 * 16 + p ≡ q * lanesMost + p = omega (arith, few held) in
-        let d = table .most (q * lanesMost + p) (omega (arith, few held)) in
+  module _ (small : (lim .volume ≤ 2 ^ 53) × (lim .delay ≤ 2 ^ 53)) (two : h < 2) {delays : List ℕ} (table : DelayTable lim delays mem) (v : volume ≤ lim .volume)
+      {q : ℕ} (o : q < nth mem 1) where
+    -- What q sends at x is offered to lane i.
+    sent-to : {x : Float} {t : Time} → Holds (lim .tick) x t → (i : ℕ) → OfHalf h mem i
+        → Holds (laneMost lim) (sent x volume (nth delays (delayAt q h + i))) (after (volume * delay (jobIn mem) q (8 * h + i)) t)
+    sent-to {x} {t} k i l =
+        let p = 8 * h + i in
+        let e : delayAt q h + i ≡ q * lanesMost + p = omega (arith, few held) in
+        let d = table .most (q * lanesMost + p) (omega (arith, few held, l .1)) in
         let m = message-most lim volume (nth delays (q * lanesMost + p)) v d in
         let g = fine held in
-        let z = sent-holds h volume (nth delays (q * lanesMost + p)) (omega (arith, small)) (omega (arith, small, d)) (omega (arith, m, g)) in
-        rw (i, ← table .cell q p o l) (held-more (omega (arith, m)) (z .0), z .1)
+        let z = sent-holds k volume (nth delays (q * lanesMost + p)) (omega (arith, small)) (omega (arith, small, d)) (omega (arith, m, g)) in
+        rw (e, ← table .cell q p o (l .1)) (held-more (omega (arith, m)) (z .0), z .1)
 
     wide : {x : Float} {t : Time} → Holds (lim .tick) x t → Holds (laneMost lim) x t
-    wide h = (held-more (omega arith) (h .0), h .1)
+    wide k = (held-more (omega arith) (k .0), k .1)
 
-    pub offered-next : {c w : ℕ} {low high first last low′ high′ : List Float} → Offered lim volume a (c + 1) w mem low high first last → c < w
+    pub offered-next : {c w : ℕ} {low high first last low′ high′ : List Float} → Offered lim h volume a (c + 1) w mem low high first last → c < w
         → q ≡ nth mem (processorAt a c) → {x y : Float} → Holds (lim .tick) x (timeIn (nth mem (timeAt false a c))) → Holds (lim .tick) y (timeIn (nth mem (timeAt true a c)))
-        → low′ ≡ lanes (λ p z. lesser (sent x volume (nth delays (q % 16 * 16 + p))) z) 16 low
-        → high′ ≡ lanes (λ p z. greater z (sent y volume (nth delays (q % 16 * 16 + p)))) 16 high
-        → Offered lim volume a c w mem low′ high′ (set first q x) (set last q y)
-    offered-next {c} {w} s l on h k i j =
+        → low′ ≡ lanes (λ p z. lesser (sent x volume (nth delays (delayAt q h + p))) z) 8 low
+        → high′ ≡ lanes (λ p z. greater z (sent y volume (nth delays (delayAt q h + p)))) 8 high
+        → Offered lim h volume a c w mem low′ high′ (set first (laneIn q h) x) (set last (laneIn q h) y)
+    offered-next {c} {w} s l on k m i j =
         let n = w - (c + 1) in
         let more : w - c ≡ n + 1 = omega arith in
         let early = row-last false a mem c n (w - c) more in
         let late = row-last true a mem c n (w - c) more in
+        let first : Time = timeIn (nth mem (timeAt false a c)) in
+        let last : Time = timeIn (nth mem (timeAt true a c)) in
         record {
-          low-of = table-same (λ p b. rw (early, ← on) (sym (least-last (sentBy volume mem p) (rowFrom false a (c + 1) n mem) _)))
-              (table-lanes _ (few held) (s .low-of) (λ p b. lesser-holds (fine held) (sent-to h p b) (s .low-of .held p b, s .low-of .time p b)) i);
-          high-of = table-same (λ p b. rw (late, ← on) (sym (largest-last (sentBy volume mem p) (rowFrom true a (c + 1) n mem) _)))
-              (table-lanes _ (few held) (s .high-of) (λ p b. greater-holds (fine held) (s .high-of .held p b, s .high-of .time p b) (sent-to k p b)) j);
-          first-of = table-same (λ p b. rw (early, ← on) (sym (own-last (tick 0) p (rowFrom false a (c + 1) n mem) _))) (table-set q _ (s .first-of) o (wide h));
-          last-of = table-same (λ p b. rw (late, ← on) (sym (own-last never p (rowFrom true a (c + 1) n mem) _))) (table-set q _ (s .last-of) o (wide k));
+          low-of = half-same {f = λ p. sooner (least (map (sentBy volume mem p) (rowFrom false a (c + 1) n mem))) (after (volume * delay (jobIn mem) q p) first)}
+              (λ p b. rw (early, ← on) (sym (least-last (sentBy volume mem p) (rowFrom false a (c + 1) n mem) _)))
+              (half-lanes _ (s .low-of) (λ p b. lesser-holds (fine held) (sent-to k p b) (s .low-of .held p b, s .low-of .time p b)) i);
+          high-of = half-same {f = λ p. later (largest (map (sentBy volume mem p) (rowFrom true a (c + 1) n mem))) (after (volume * delay (jobIn mem) q p) last)}
+              (λ p b. rw (late, ← on) (sym (largest-last (sentBy volume mem p) (rowFrom true a (c + 1) n mem) _)))
+              (half-lanes _ (s .high-of) (λ p b. greater-holds (fine held) (s .high-of .held p b, s .high-of .time p b) (sent-to m p b)) j);
+          first-of = half-same {f = λ p. if eqb q p then first else ownTime (tick 0) p (rowFrom false a (c + 1) n mem)}
+              (λ p b. rw (early, ← on) (sym (own-last (tick 0) p (rowFrom false a (c + 1) n mem) _))) (half-set q _ (s .first-of) (wide k));
+          last-of = half-same {f = λ p. if eqb q p then last else ownTime never p (rowFrom true a (c + 1) n mem)}
+              (λ p b. rw (late, ← on) (sym (own-last never p (rowFrom true a (c + 1) n mem) _))) (half-set q _ (s .last-of) (wide m));
         }
 
   -- All were offered: what is left is what the equations name.
-  pub offered-all : {low high first last low′ high′ : List Float} → Offered lim volume a 0 (nth mem 3 + 1) mem low high first last
-      → low′ ≡ lanes (λ p z. greater z (lane first p)) 16 low → high′ ≡ lanes (λ p z. lesser (lane last p) z) 16 high
-      → TimeTable lim (λ p. arrivalIn false volume p a mem) mem low′ × TimeTable lim (λ p. arrivalIn true volume p a mem) mem high′
+  pub offered-all : {low high first last low′ high′ : List Float} → Offered lim h volume a 0 (nth mem 3 + 1) mem low high first last
+      → low′ ≡ lanes (λ p z. greater z (lane first p)) 8 low → high′ ≡ lanes (λ p z. lesser (lane last p) z) 8 high
+      → HalfTable lim h (λ p. arrivalIn false volume p a mem) mem low′ × HalfTable lim h (λ p. arrivalIn true volume p a mem) mem high′
   offered-all s i j =
       let w = nth mem 3 + 1 in
       let whole : (late : Bool) → rowFrom late a 0 (w - 0) mem ≡ rowOutcomes late a w mem = λ late. rw (sub-zero w) (row-whole late a mem w) in (
-        table-same (λ p o. rw (whole false) (sym (arrival-least (jobIn mem) (rowOutcomes false a w mem) p (edgeFrom volume a mem) (row-all false mem (nth mem a) a w refl) (own p o))))
-            (table-raise held (s .low-of) (s .first-of) i),
-        table-same (λ p o. rw (whole true) (sym (arrival-largest (jobIn mem) (rowOutcomes true a w mem) p (edgeFrom volume a mem) (row-all true mem (nth mem a) a w refl) (own p o))))
-            (table-lower held (s .high-of) (s .last-of) j),
+        half-same (λ p o. rw (whole false) (sym (arrival-least (jobIn mem) (rowOutcomes false a w mem) p (edgeFrom volume a mem) (row-all false mem (nth mem a) a w refl) (own p o))))
+            (half-raise held (s .low-of) (s .first-of) i),
+        half-same (λ p o. rw (whole true) (sym (arrival-largest (jobIn mem) (rowOutcomes true a w mem) p (edgeFrom volume a mem) (row-all true mem (nth mem a) a w refl) (own p o))))
+            (half-lower held (s .high-of) (s .last-of) j),
       )
     where
       own : (p : ℕ) → p < nth mem 1 → delay (jobIn mem) p p ≡ 0

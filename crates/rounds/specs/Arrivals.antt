@@ -2,7 +2,8 @@
 use mathlib.Core.Path.{_≡_}
 use mathlib.Core.List.{List}
 use mathlib.Core.Bool.{Bool, true, false}
-use Prim.Native.Nat.{ℕ, _+_, _*_, _≤_, _<_}
+use Prim.Native.Nat.{ℕ, _+_, _*_, _/_, _≤_, _<_}
+use lib.Dec.{eqb}
 use lib.ListN.{length}
 use lib.Ieee.{Float}
 use Rattle.definitions.specs.Lists.{if_then_else_, nth, In}
@@ -45,11 +46,25 @@ pub record TimeTable (l : Limits) (f : ℕ → Time) (mem : List ℕ) (e : List 
   pub time : (p : ℕ) → p < nth mem 1 → laneTime e p ≡ f p
   pub held : (p : ℕ) → p < nth mem 1 → Held (laneMost l) (lane e p)
 
+-- Lane i of a table of half h is of a processor of the job.
+abbrev pub OfHalf : ℕ → List ℕ → ℕ → Type 0
+OfHalf h mem i = (i < 8) × (8 * h + i < nth mem 1)
+
+-- The lanes of e hold the time f p for each processor p of the job that is of half h.
+pub record HalfTable (l : Limits) (h : ℕ) (f : ℕ → Time) (mem : List ℕ) (e : List Float) : Type 0 where
+  pub time : (i : ℕ) → OfHalf h mem i → laneTime e i ≡ f (8 * h + i)
+  pub held : (i : ℕ) → OfHalf h mem i → Held (laneMost l) (lane e i)
+
 -- The lanes of e hold times.
 abbrev pub LanesHeld : Limits → List ℕ → List Float → Type 0
 LanesHeld l mem e = TimeTable l (laneTime e) mem e
 
--- The times in e became those in f: none is before the data of edge a is there; none is before all data of t is there.
+-- The times in e became those in f: on the processors of half h none is before the data of the line at a is there, by an edge of this
+-- volume; none is before the data of edge a is there; none is before all data of t is there.
+abbrev pub RaisedIn : Limits → ℕ → Bool → ℕ → ℕ → List ℕ → List Float → List Float → Type 0
+RaisedIn l h late volume a mem e f =
+    TimeTable l (λ p. if eqb (p / 8) h then later (laneTime e p) (arrivalIn late volume p a mem) else laneTime e p) mem f
+
 abbrev pub RaisedBy : Limits → ℕ → Bool → Edge → List ℕ → List Float → List Float → Type 0
 RaisedBy l capacity late a mem e f = TimeTable l (λ p. later (laneTime e p) (arrivalIn late (a .volume) p (rowOf capacity (a .from) mem) mem)) mem f
 

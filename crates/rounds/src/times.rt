@@ -17,7 +17,7 @@ ghost use Rattle.plans.specs.Lines.{rowEnd, rowOutcomes, RowHeld, LinesHeld};
 ghost use Rattle.rounds.specs.Schedule.{edgeFrom, dataIn};
 ghost use Rattle.jobs.specs.Held.{jobIn, JobHeld, SomeJobHeld, LinksHeld};
 ghost use Rattle.rounds.specs.Walks.{Feeds};
-ghost use Rattle.rounds.specs.Arrivals.{laneMost, lastArrival, DelayTable, NoDelayOver, TimeTable, LanesHeld, Raised, RaisedBy, endAt, EdgeEnds, EndsPut, Supplied, laneTimes, clockTimes, readyTimes, BothSupplied, ShortClocks, TicksHeld, BothFinish};
+ghost use Rattle.rounds.specs.Arrivals.{laneMost, lastArrival, DelayTable, NoDelayOver, TimeTable, HalfTable, LanesHeld, Raised, RaisedBy, RaisedIn, endAt, EdgeEnds, EndsPut, Supplied, laneTimes, clockTimes, readyTimes, BothSupplied, ShortClocks, TicksHeld, BothFinish};
 use crate::makespans;
 use crate::numbers;
 use crate::row;
@@ -97,20 +97,20 @@ fn cell_of(x: f64) -> u64
     x as i64 as u64
 }
 
-// Least and largest: when the data of a predecessor whose line is at `a` is on each processor, by the replicas that feed it, early by the
-// first of them and late by the last. One pass; each replica is looked at once, the first on a processor after the others there.
-fn arrivals(mem: &[u64], delays: &[u16; 256], a: usize, volume: u16) -> Both
+// Least and largest: when the data of a predecessor whose line is at `a` is on each processor of half h, by the replicas that feed it, early
+// by the first of them and late by the last. One pass; each replica is looked at once, the first on a processor after the others there.
+fn arrivals(mem: &[u64], delays: &[u16; 256], a: usize, volume: u16, h: usize) -> Both
     requires { ⌜ SomeJobHeld document01 (now mem) × DelayTable document01 (now delays) (now mem) × RowHeld document01 a (now mem)
-        × (rowEnd a ≤ length (now mem)) × (volume ≤ document01 .volume) ⌝ }
-    ensures { λ r. ⌜ TimeTable document01 (λ p. arrival (jobIn (now (mem .entry))) least (rowOutcomes false a (nth (now (mem .entry)) 3 + 1) (now (mem .entry))) p
+        × (rowEnd a ≤ length (now mem)) × (volume ≤ document01 .volume) × (h < 2) ⌝ }
+    ensures { λ r. ⌜ HalfTable document01 h (λ p. arrival (jobIn (now (mem .entry))) least (rowOutcomes false a (nth (now (mem .entry)) 3 + 1) (now (mem .entry))) p
         (edgeFrom volume a (now (mem .entry)))) (now (mem .entry)) (r .early)
-        × TimeTable document01 (λ p. arrival (jobIn (now (mem .entry))) largest (rowOutcomes true a (nth (now (mem .entry)) 3 + 1) (now (mem .entry))) p
+        × HalfTable document01 h (λ p. arrival (jobIn (now (mem .entry))) largest (rowOutcomes true a (nth (now (mem .entry)) 3 + 1) (now (mem .entry))) p
         (edgeFrom volume a (now (mem .entry)))) (now (mem .entry)) (r .late) ⌝ }
 {
-    let mut low = [lanes::no_time(); 16];
-    let mut high = [0.0f64; 16];
-    let mut first = [0.0f64; 16];
-    let mut last = [lanes::no_time(); 16];
+    let mut low = [lanes::no_time(); 8];
+    let mut high = [0.0f64; 8];
+    let mut first = [0.0f64; 9];
+    let mut last = [lanes::no_time(); 9];
     let mut c = mem[3] as usize + 1;
     while c > 0 {
         c -= 1;
@@ -118,9 +118,10 @@ fn arrivals(mem: &[u64], delays: &[u16; 256], a: usize, volume: u16) -> Both
         let q = x.processor;
         let early = lane_of(x.early);
         let late = lane_of(x.late);
-        lanes::offer(&mut low, &mut high, delays, q, volume, early, late);
-        first[q] = early;
-        last[q] = late;
+        lanes::offer(&mut low, &mut high, delays, q, h, volume, early, late);
+        let i = lanes::lane_in(q, h);
+        first[i] = early;
+        last[i] = late;
     }
     lanes::raise(&mut low, &first);
     lanes::lower(&mut high, &last);
@@ -144,6 +145,27 @@ fn may_wait(ends: &[f64], cell: u64, most: u16, x: f64, y: f64) -> bool
     y < ends[2 * t + 1] + n
 }
 
+// The times of each processor of half h, raised to those at which the data of a predecessor whose line is at `a` is there.
+fn raise_arrivals(
+    mem: &[u64],
+    delays: &[u16; 256],
+    a: usize,
+    volume: u16,
+    h: usize,
+    early: &mut [f64; 16],
+    late: &mut [f64; 16],
+)
+    requires { ⌜ SomeJobHeld document01 (now mem) × DelayTable document01 (now delays) (now mem) × RowHeld document01 a (now mem)
+        × (rowEnd a ≤ length (now mem)) × (volume ≤ document01 .volume) × (h < 2)
+        × LanesHeld document01 (now mem) (now early) × LanesHeld document01 (now mem) (now late) ⌝ }
+    ensures { λ _. ⌜ RaisedIn document01 h false volume a (now (mem .entry)) (now (early .entry)) (now (early .exit))
+        × RaisedIn document01 h true volume a (now (mem .entry)) (now (late .entry)) (now (late .exit)) ⌝ }
+{
+    let r = arrivals(mem, delays, a, volume, h);
+    lanes::raise_half(early, &r.early, h);
+    lanes::raise_half(late, &r.late, h);
+}
+
 // The times of each processor, raised to those at which the data of the edge in a cell is there.
 fn raise_edge(
     mem: &[u64],
@@ -159,9 +181,12 @@ fn raise_edge(
         × RaisedBy document01 capacity true (edgeIn cell) (now (mem .entry)) (now (late .entry)) (now (late .exit)) ⌝ }
 {
     let e = walk::entering(mem, capacity, cell);
-    let r = arrivals(mem, delays, e.row, e.volume);
-    lanes::raise(early, &r.early);
-    lanes::raise(late, &r.late);
+    let n = mem[1] as usize;
+    let mut h = 0;
+    while 8 * h < n {
+        raise_arrivals(mem, delays, e.row, e.volume, h, early, late);
+        h += 1;
+    }
 }
 
 // The times of each processor, raised to those at which all data of t is there.

@@ -1,6 +1,7 @@
 -- What is done on all processors at once, processor by processor; the clocks after a line.
-use Rattle.lists.proofs.Prelude.{_≡_, refl, ap, _∙_, ⊎-elim, List, [], _∷_, _++_, ℕ, zero, suc, _+_, _*_, _%_, _^_, _<_, _≤_, max, arith, add-one, lt-ltb, le-ltb, length, set, take, length-set, getD-set-same, getD-set-other, take-suc, nth, sum, greatest}
+use Rattle.lists.proofs.Prelude.{_≡_, refl, sym, ap, _∙_, ⊎-elim, List, [], _∷_, _++_, ℕ, zero, suc, _+_, _*_, _%_, _^_, _<_, _≤_, max, arith, add-one, add-zero, lt-ltb, le-ltb, length, set, take, length-set, getD-set-same, getD-set-other, take-suc, nth, sum, greatest}
 use lib.Ieee.{Float, nan}
+use lib.Seq.{set-getD}
 use Rattle.lists.proofs.Counting.{last-or-before}
 use Rattle.lists.proofs.Upward.{sum-last}
 use Rattle.ticks.specs.Floats.{lane}
@@ -40,13 +41,23 @@ module _ (f : ℕ → Float → Float) where
       let v : x ≡ f n (lane xs n) = g ∙ ap (f n) w in
       rw (add-one n, e, v)
 
-  -- All 16 places are changed.
-  pub lanes-all : (xs : List Float) {ys : List Float} (n : ℕ) → ys ≡ lanes f n xs → n ≡ 16 → ys ≡ lanes f 16 xs
+  -- All k places are changed.
+  pub lanes-all : (xs : List Float) {ys : List Float} (n : ℕ) {k : ℕ} → ys ≡ lanes f n xs → n ≡ k → ys ≡ lanes f k xs
   lanes-all xs n e h = e ∙ ap (λ (k : ℕ). lanes f k xs) h
 
   -- What a place is then.
-  pub lanes-each : (xs ys : List Float) → ys ≡ lanes f 16 xs → (p : ℕ) → p < 16 → p < length xs → lane ys p ≡ f p (lane xs p)
-  lanes-each xs ys e p g h = ap (λ (l : List Float). lane l p) e ∙ lane-done 16 xs p g h
+  pub lanes-each : (xs ys : List Float) {k : ℕ} → ys ≡ lanes f k xs → (p : ℕ) → p < k → p < length xs → lane ys p ≡ f p (lane xs p)
+  lanes-each xs ys {k} e p g h = ap (λ (l : List Float). lane l p) e ∙ lane-done k xs p g h
+
+  -- The k places from n on keep what they hold.
+  pub lanes-idle : (xs : List Float) (n k : ℕ) → ((p : ℕ) → n ≤ p → p < n + k → (z : Float) → f p z ≡ z) → lanes f (n + k) xs ≡ lanes f n xs
+  unfolding lanes
+  lanes-idle xs n zero h = rw (add-zero n)
+  lanes-idle xs n (suc k) h =
+      let e : n + suc k ≡ suc (n + k) = omega arith in
+      let v : f (n + k) (lane xs (n + k)) ≡ lane (lanes f (n + k) xs) (n + k) =
+      h (n + k) (omega arith) (omega arith) (lane xs (n + k)) ∙ sym (lane-left (n + k) xs (n + k) (omega arith)) in
+      rw (e, v) (set-getD (lanes f (n + k) xs) (n + k) nan ∙ lanes-idle xs n k (λ p l g. h p l (omega arith)))
 
 -- The sum of the first members, with one more, in 64 bits.
 pub total-more : (cells : List ℕ) (q x y : ℕ) → q < length cells → x ≡ sum (take q cells) % 2 ^ 64 → y ≡ (x + nth cells q) % 2 ^ 64

@@ -1,8 +1,8 @@
 -- What is done on all processors at once, in lanes of 64-bit floats.
 use mathlib.Core.List.{List}
 use mathlib.Core.Bool.{false}
-use Prim.Native.Nat.{ℕ, zero, suc, _+_, _*_, _^_, _%_}
-use lib.Dec.{ltb}
+use Prim.Native.Nat.{ℕ, zero, suc, _+_, _*_, _^_, _/_, _%_}
+use lib.Dec.{ltb, eqb}
 use lib.ListN.{set}
 use lib.Ieee.{Float, binary64, inf, add, mul, lt}
 use Rattle.definitions.specs.Lists.{if_then_else_, nth}
@@ -23,6 +23,14 @@ greater x y = if lt x y then y else x
 -- When a message that is sent at x arrives.
 abbrev pub sent : Float → ℕ → ℕ → Float
 sent x volume delay = add binary64 x (mul binary64 (whole volume) (whole delay))
+
+-- Where the table of delays, a row of 16 for each sender, has those from q to the processors of half h.
+abbrev pub delayAt : ℕ → ℕ → ℕ
+delayAt q h = q % 16 * 16 + h % 2 * 8
+
+-- The lane of processor q in a table of half h, or the ninth one, which is of none of them.
+abbrev pub laneIn : ℕ → ℕ → ℕ
+laneIn q h = if eqb (q / 8) h then q % 8 else 8
 
 -- The least of the first n lanes; the infinity, of none.
 unfoldable pub leastLane : ℕ → List Float → Float
