@@ -80,7 +80,8 @@ fn lines_agree(mem: &[u64], links: &[u64], capacity: usize, ends: &mut [f64]) ->
     ensures { λ r. ⌜ r ≡ ticksAgree (jobIn (now (mem .entry))) (planIn capacity (now (mem .entry)) .lines) ⌝ }
 {
     let v = mem[0] as usize;
-    let delays = times::delay_table(mem);
+    let mut delays = [0u16; 256];
+    times::fill_delays(mem, &mut delays);
     let most = times::most_delay(mem, &delays);
     let mut clocks = Clocks::new();
     let mut k = 0;

@@ -184,7 +184,8 @@ fn draw_lines(mem: &mut [u64], links: &[u64], capacity: usize, ends: &mut [f64])
     ensures { λ _. ⌜ KeptOutside (levelAt capacity) (memorySize capacity) (now (mem .entry)) (now (mem .exit)) × Drawn document01 capacity (nth (now (mem .entry)) 0) (now (mem .exit)) ⌝ }
 {
     let v = mem[0] as usize;
-    let delays = times::delay_table(&mem[..]);
+    let mut delays = [0u16; 256];
+    times::fill_delays(&mem[..], &mut delays);
     let most = times::most_delay(&mem[..], &delays);
     let mut clocks = Clocks::new();
     let mut free = [0u8; 256];

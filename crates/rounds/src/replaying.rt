@@ -2,7 +2,7 @@
 ghost use mathlib.Core.Path.{_≡_};
 ghost use mathlib.Core.List.{[]};
 ghost use Prim.Native.Nat.{ℕ, suc, _*_, _<_, _≤_};
-ghost use lib.ListN.{length};
+ghost use lib.ListN.{length, replicate};
 ghost use Rattle.definitions.specs.Lists.{nth};
 ghost use Rattle.definitions.specs.Limits.{document01};
 ghost use Rattle.definitions.specs.Times.{unlessStopped};
@@ -18,7 +18,6 @@ use crate::numbers;
 use crate::row;
 use crate::times;
 use replicas::First;
-use ticks::clocks::Ready;
 use ticks::lanes::NEVER;
 
 // A finish that does not come by the stop never comes.
@@ -31,53 +30,65 @@ fn unless_stopped(stop: u64, x: u64) -> u64
     x
 }
 
-// Line k, replica by replica. The answer is the ready times after it.
-fn run_line(
-    mem: &mut [u64],
-    links: &[u64],
-    capacity: usize,
-    delays: &[u16; 256],
-    most: u16,
-    ends: &mut [f64],
-    k: usize,
-    stops: &[u64],
-    ready: Ready,
-) -> Ready
-    requires { ⌜ DelayTable document01 (now delays) (now mem) × NoDelayOver most (now mem) × (most ≤ document01 .delay)
-        × Ended document01 capacity k (now mem) (now ends) × Running document01 capacity k 0 (ready .at) (now mem) × (k < nth (now mem) 0) × PredecessorsBefore capacity k (now mem)
-        × (length (now stops) ≡ lanesMost)
-        × LinksHeld (now mem) (now links) ⌝ }
-    ensures { λ r. ⌜ Running document01 capacity (suc k) 0 (r .at) (now (mem .exit)) × LineRun capacity k (now (stops .entry)) (now (mem .entry)) (now (mem .exit))
-        × Ended document01 capacity (suc k) (now (mem .exit)) (now (ends .exit)) ⌝ }
-{
-    let w = mem[3] as usize + 1;
-    let a = row::row_at(capacity, k);
-    let t = mem[a] as usize;
-    let starts = times::first_starts(
-        &mem[..],
-        links,
-        capacity,
-        delays,
-        most,
-        &ends[..],
-        t,
-        &ready.at,
-    );
-    let mut after = ready;
-    let mut c = 0;
-    while c < w {
-        let r = row::replica_at(&mem[..], a, c);
-        let p = r.processor;
-        let n = numbers::run_time(&mem[..], t, p);
-        let x = times::finish_of(after.at[p], starts[p], n);
-        let y = unless_stopped(stops[p], x);
-        row::put_early(mem, a, c, y);
-        let next = after.advance(p, y);
-        after = next;
-        c += 1;
+// For each processor the time at which its newest replica finishes.
+struct Ready {
+    at: [u64; 16],
+}
+
+impl Ready {
+    // All processors are ready at 0.
+    fn new() -> Ready
+        ensures { λ r. ⌜ r .at ≡ replicate 16 0 ⌝ }
+    {
+        Ready { at: [0; 16] }
     }
-    times::put_ends(&mem[..], a, t, ends);
-    after
+
+    // Runs line k; the times advance replica by replica. The answer is those after it.
+    fn run_line(
+        mut self,
+        mem: &mut [u64],
+        links: &[u64],
+        capacity: usize,
+        delays: &[u16; 256],
+        most: u16,
+        ends: &mut [f64],
+        k: usize,
+        stops: &[u64],
+    ) -> Ready
+        requires { ⌜ DelayTable document01 (now delays) (now mem) × NoDelayOver most (now mem) × (most ≤ document01 .delay)
+            × Ended document01 capacity k (now mem) (now ends) × Running document01 capacity k 0 (self .at) (now mem) × (k < nth (now mem) 0) × PredecessorsBefore capacity k (now mem)
+            × (length (now stops) ≡ lanesMost)
+            × LinksHeld (now mem) (now links) ⌝ }
+        ensures { λ r. ⌜ Running document01 capacity (suc k) 0 (r .at) (now (mem .exit)) × LineRun capacity k (now (stops .entry)) (now (mem .entry)) (now (mem .exit))
+            × Ended document01 capacity (suc k) (now (mem .exit)) (now (ends .exit)) ⌝ }
+    {
+        let w = mem[3] as usize + 1;
+        let a = row::row_at(capacity, k);
+        let t = mem[a] as usize;
+        let starts = times::first_starts(
+            &mem[..],
+            links,
+            capacity,
+            delays,
+            most,
+            &ends[..],
+            t,
+            &self.at,
+        );
+        let mut c = 0;
+        while c < w {
+            let r = row::replica_at(&mem[..], a, c);
+            let p = r.processor;
+            let n = numbers::run_time(&mem[..], t, p);
+            let x = times::finish_of(self.at[p], times::cell_of(starts[p]), n);
+            let y = unless_stopped(stops[p], x);
+            row::put_early(mem, a, c, y);
+            self.at[p] = y;
+            c += 1;
+        }
+        times::put_ends(&mem[..], a, t, ends);
+        self
+    }
 }
 
 // All lines of the plan in memory, with a table for their ends.
@@ -87,12 +98,13 @@ fn run_lines(mem: &mut [u64], links: &[u64], capacity: usize, stops: &[u64], end
     ensures { λ _. ⌜ RoundRun document01 capacity (now (stops .entry)) (now (mem .entry)) (now (mem .exit)) ⌝ }
 {
     let v = mem[0] as usize;
-    let delays = times::delay_table(&mem[..]);
+    let mut delays = [0u16; 256];
+    times::fill_delays(&mem[..], &mut delays);
     let most = times::most_delay(&mem[..], &delays);
     let mut ready = Ready::new();
     let mut k = 0;
     while k < v {
-        let after = run_line(mem, links, capacity, &delays, most, ends, k, stops, ready);
+        let after = ready.run_line(mem, links, capacity, &delays, most, ends, k, stops);
         ready = after;
         k += 1;
     }

@@ -3,7 +3,7 @@ ghost use mathlib.Core.Path.{_≡_};
 ghost use mathlib.Core.Logic.{_⊎_};
 ghost use mathlib.Core.Bool.{true, false};
 ghost use Prim.Native.Nat.{ℕ, _+_, _*_, _≤_, _<_};
-ghost use lib.ListN.{length};
+ghost use lib.ListN.{length, replicate};
 ghost use Rattle.definitions.specs.Lists.{if_then_else_, nth};
 ghost use Rattle.definitions.specs.Limits.{document01};
 ghost use Rattle.definitions.specs.Job.{runTime};
@@ -17,7 +17,7 @@ ghost use Rattle.plans.specs.Lines.{rowEnd, rowOutcomes, RowHeld, LinesHeld};
 ghost use Rattle.rounds.specs.Schedule.{edgeFrom, dataIn};
 ghost use Rattle.jobs.specs.Held.{jobIn, JobHeld, SomeJobHeld, LinksHeld};
 ghost use Rattle.rounds.specs.Walks.{Feeds};
-ghost use Rattle.rounds.specs.Arrivals.{laneMost, lastArrival, DelayTable, NoDelayOver, TimeTable, HalfTable, LanesHeld, Raised, RaisedBy, RaisedIn, endAt, EdgeEnds, EndsPut, Supplied, laneTimes, clockTimes, readyTimes, BothSupplied, ShortClocks, TicksHeld, BothFinish};
+ghost use Rattle.rounds.specs.Arrivals.{laneMost, lastArrival, delayCells, DelayTable, NoDelayOver, TimeTable, HalfTable, LanesHeld, Raised, RaisedBy, RaisedIn, endAt, EdgeEnds, EndsPut, Supplied, laneTimes, clockTimes, readyTimes, BothSupplied, ShortClocks, TicksHeld, BothFinish};
 use crate::makespans;
 use crate::numbers;
 use crate::row;
@@ -44,14 +44,13 @@ pub fn chosen_of(late: bool, x: u64, y: u64) -> u64
     y
 }
 
-// The delays of the job in memory, as a table.
-pub fn delay_table(mem: &[u64]) -> [u16; 256]
-    requires { ⌜ SomeJobHeld document01 (now mem) ⌝ }
-    ensures { λ r. ⌜ DelayTable document01 r (now (mem .entry)) ⌝ }
+// Fills a table of delays, all 0, with those of the job in memory.
+pub fn fill_delays(mem: &[u64], delays: &mut [u16; 256])
+    requires { ⌜ SomeJobHeld document01 (now mem) × (now delays ≡ replicate delayCells 0) ⌝ }
+    ensures { λ _. ⌜ DelayTable document01 (now (delays .exit)) (now (mem .entry)) ⌝ }
 {
     let m = mem[1] as usize;
     let n = 16 * m;
-    let mut delays = [0u16; 256];
     let mut i = 0;
     while i < n {
         let p = i % 16;
@@ -62,7 +61,6 @@ pub fn delay_table(mem: &[u64]) -> [u16; 256]
             i += 16 - p;
         }
     }
-    delays
 }
 
 // The greatest delay of the job in memory.
@@ -83,11 +81,11 @@ fn lane_of(x: u64) -> f64
     if x == NEVER {
         return lanes::no_time();
     }
-    x as u32 as f64
+    x as i64 as f64
 }
 
 // A lane's time in a cell.
-fn cell_of(x: f64) -> u64
+pub fn cell_of(x: f64) -> u64
     requires { ⌜ Held (laneMost document01) x ⌝ }
     ensures { λ r. ⌜ (timeIn r ≡ timeOf x) × Small (laneMost document01) r ⌝ }
 {
@@ -299,21 +297,6 @@ fn lanes_of(mem: &[u64], cells: &[u64; 16]) -> [f64; 16]
     times
 }
 
-// The times of lanes in cells, one for each processor of the job.
-fn cells_of(mem: &[u64], times: &[f64; 16]) -> [u64; 16]
-    requires { ⌜ SomeJobHeld document01 (now mem) × LanesHeld document01 (now mem) (now times) ⌝ }
-    ensures { λ r. ⌜ (length r ≡ lanesMost) × ((p : ℕ) → p < nth (now (mem .entry)) 1 → (timeIn (nth r p) ≡ laneTime (now (times .entry)) p) × Small (laneMost document01) (nth r p)) ⌝ }
-{
-    let m = mem[1] as usize;
-    let mut cells = [0u64; 16];
-    let mut p = 0;
-    while p < m {
-        cells[p] = cell_of(times[p]);
-        p += 1;
-    }
-    cells
-}
-
 // When t can start on each processor, by the first data, if it is ready at the times in the cells.
 pub fn first_starts(
     mem: &[u64],
@@ -324,13 +307,12 @@ pub fn first_starts(
     ends: &[f64],
     t: usize,
     ready: &[u64; 16],
-) -> [u64; 16]
+) -> [f64; 16]
     requires { ⌜ ((k : ℕ) × LinesHeld document01 capacity k (now mem)) × LinksHeld (now mem) (now links) × DelayTable document01 (now delays) (now mem)
         × NoDelayOver most (now mem) × (most ≤ document01 .delay) × (t < nth (now mem) 0)
         × ((p : ℕ) → p < nth (now mem) 1 → Small (document01 .tick) (nth (now ready) p))
         × Supplied document01 capacity t (readyTimes (now ready)) (now mem) (now ends) ⌝ }
-    ensures { λ r. ⌜ (length r ≡ lanesMost) × ((p : ℕ) → p < nth (now (mem .entry)) 1
-        → (timeIn (nth r p) ≡ later (timeIn (nth (now (ready .entry)) p)) (dataIn capacity false t p (now (mem .entry)))) × Small (laneMost document01) (nth r p)) ⌝ }
+    ensures { λ r. ⌜ TimeTable document01 (λ p. later (timeIn (nth (now (ready .entry)) p)) (dataIn capacity false t p (now (mem .entry)))) (now (mem .entry)) r ⌝ }
 {
     let mut early = lanes_of(mem, ready);
     let mut late = [lanes::no_time(); 16];
@@ -345,7 +327,7 @@ pub fn first_starts(
         &mut early,
         &mut late,
     );
-    cells_of(mem, &early)
+    early
 }
 
 // Notes the ends of the line at `a`, which is of task t: its first early finish, and its last late one.

@@ -1,10 +1,8 @@
 // The ready ticks of the processors, which advance replica by replica.
 ghost use mathlib.Core.Path.{_≡_};
-ghost use lib.Dec.{ltb};
 ghost use Prim.Native.Nat.{_/_};
-ghost use lib.ListN.{length, set, replicate};
+ghost use lib.ListN.{length, replicate};
 ghost use Rattle.ticks.specs.Lanes.{advanced};
-ghost use Rattle.definitions.specs.Lists.{if_then_else_};
 
 // For each processor the finish of its newest replica, early and late.
 pub struct Clocks {
@@ -37,30 +35,6 @@ impl Clocks {
                 self.late[processor] = (cells[3 * c + 2] % 4294967296) as u32;
             }
             c += 1;
-        }
-        self
-    }
-}
-
-// For each processor the time at which its newest replica finishes in the replay.
-pub struct Ready {
-    pub at: [u64; 16],
-}
-
-impl Ready {
-    // All processors are ready at 0.
-    pub fn new() -> Ready
-        ensures { λ r. ⌜ r .at ≡ replicate 16 0 ⌝ }
-    {
-        Ready { at: [0; 16] }
-    }
-
-    // The ready times after a replica on a processor, with its time.
-    pub fn advance(mut self, processor: usize, time: u64) -> Ready
-        ensures { λ r. ⌜ r .at ≡ (if ltb processor 16 then set (self .at) processor time else self .at) ⌝ }
-    {
-        if processor < 16 {
-            self.at[processor] = time;
         }
         self
     }

@@ -1,10 +1,10 @@
 -- The cells' times in lanes, raised to the first data; late they are never, so nothing is waited for.
-use Rattle.lists.proofs.Prelude.{_≡_, refl, ap, _∙_, arith, needs, true, false, replicate, never, document01}
+use Rattle.lists.proofs.Prelude.{needs, replicate, never, document01}
 use Rattle.heads.specs.Layout.{lanesMost}
 use Rattle.jobs.proofs.Held.{sizes}
 use Rattle.rounds.specs.Arrivals.{TimeTable}
 use Rattle.ticks.proofs.HeldLaws.{never-holds}
-use Rattle.rounds.proofs.TimeTables.{table-all, table-held, supplied-lanes}
+use Rattle.rounds.proofs.TimeTables.{table-same, table-all, table-held, supplied-lanes}
 use Rattle.rounds.proofs.times.first_starts.Statement.{statement}
 use Rattle.rounds.proofs.times.first_starts.Tie as tie
 
@@ -19,14 +19,8 @@ raise-data-requires c κs =
     rw (c .before .before .no-time .ensures) (table-all _ (sizes (s .1 .job) .lanes-fit) never-holds) in
     (s, links, delays, most, limit, t, supplied-lanes (s .1) (c .before .before .before .before .before .before .before .args .t) y e f, table-held e, table-held f)
 
-cells-of-requires : tie.Need-cells-of-requires
-cells-of-requires c κs = ((_, c .before .before .before .before .before .before .before .before .before .pre .0 .1 .job), table-held (c .before .raise-data .ensures .0))
-
 returns : tie.Need-returns
-returns c =
-    let (size, each) = c .cells-of .ensures in
-    (size, λ p o. let (x, y) = each p o in (x ∙ c .before .before .raise-data .ensures .0 .time p o ∙ rw (c .before .before .before .before .before .before .lanes-of .ensures .time p o), y))
+returns c = table-same (λ p o. rw (c .before .before .before .before .lanes-of .ensures .time p o)) (c .raise-data .ensures .0)
 
 pub first-starts-spec : {M : Type 1} → statement M
-first-starts-spec = tie.close (tie.spec
-    lanes-of-requires (λ c κs. search needs) raise-data-requires cells-of-requires returns)
+first-starts-spec = tie.close (tie.spec lanes-of-requires (λ c κs. search needs) raise-data-requires returns)

@@ -3,14 +3,14 @@ use Rattle.lists.proofs.Prelude.{_≤_, _-_, arith, needs, nth, document01}
 use Rattle.heads.specs.Layout.{lanesMost}
 use Rattle.jobs.proofs.Held.{sizes}
 use Rattle.rounds.proofs.TimeTables.{DelaysTo, delays-none, delays-next, delays-row, delays-done}
-use Rattle.rounds.proofs.times.delay_table.Statement.{statement}
-use Rattle.rounds.proofs.times.delay_table.Tie as tie
+use Rattle.rounds.proofs.times.fill_delays.Statement.{statement}
+use Rattle.rounds.proofs.times.fill_delays.Tie as tie
 
 abbrev Inv-loop : tie.InvT-loop
-Inv-loop mem m n delays₀ i₀ delays i = (i ≤ n) × (nth mem 1 ≤ lanesMost) × DelaysTo document01 mem i delays
+Inv-loop mem delays₀ m n i₀ delays i = (i ≤ n) × (nth mem 1 ≤ lanesMost) × DelaysTo document01 mem i delays
 
 abbrev μ-loop : tie.MeasureT-loop
-μ-loop mem m n delays₀ i₀ delays i = n - i
+μ-loop mem delays₀ m n i₀ delays i = n - i
 
 loop-again : tie.Need-loop-again Inv-loop μ-loop
 loop-again c =
@@ -22,10 +22,10 @@ loop-again-2 c =
     let (_, few, t) = c .before .before .loop .inv in
     (omega (arith, c .before .loop-test .taken), few, delays-row few t (c .if1 .left))
 
-pub delay-table-spec : {M : Type 1} → statement M
-delay-table-spec = tie.close (tie.spec
-    Inv-loop μ-loop (λ c. search needs) (λ c. search needs) (λ c. (search needs, sizes (c .before .before .pre .1) .lanes-fit, delays-none))
-    (λ c κs. (c .before .before .before .before .before .pre, omega (arith, c .before .loop-test .taken), c .if1 .taken))
+pub fill-delays-spec : {M : Type 1} → statement M
+fill-delays-spec = tie.close (tie.spec
+    Inv-loop μ-loop (λ c. search needs) (λ c. search needs) (λ c. (search needs, sizes (c .before .before .pre .0 .1) .lanes-fit, rw (c .before .before .pre .1) delays-none))
+    (λ c κs. (c .before .before .before .before .before .pre .0, omega (arith, c .before .loop-test .taken), c .if1 .taken))
     (λ c. omega (arith, c .delay .ensures .1)) (λ c. search needs) (λ c. search needs) (λ c. search needs) (λ c. search needs) loop-again
     (λ c. search needs) (λ c. search needs) (λ c. search needs) loop-again-2
     (λ c. delays-done (c .before .loop .inv .1) (c .before .loop .inv .2) (omega (arith, c .loop-test .left))))

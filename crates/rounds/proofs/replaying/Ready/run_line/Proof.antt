@@ -1,17 +1,17 @@
 -- Replica by replica the outcomes are those of the walk, and then the ends of the line are noted.
-use Rattle.lists.proofs.Prelude.{_≡_, ℕ, _≤_, _<_, _-_, arith, needs, length, nth, lt-ltb, document01}
+use Rattle.lists.proofs.Prelude.{_≡_, _∙_, ℕ, _≤_, _<_, _-_, arith, needs, length, nth, document01}
 use Rattle.heads.specs.Layout.{rowAt, processorAt, replicaEnd}
 use Rattle.jobs.proofs.Held.{sizes}
 use Rattle.rounds.proofs.RunLaws.{LineRuns, LineStep, line-supplied, line-first, line-step, line-next, line-done, line-row, line-ended}
-use Rattle.rounds.proofs.replaying.run_line.Statement.{statement}
-use Rattle.rounds.proofs.replaying.run_line.Tie as tie
+use Rattle.rounds.proofs.replaying.Ready.run_line.Statement.{statement}
+use Rattle.rounds.proofs.replaying.Ready.run_line.Tie as tie
 
 abbrev Inv-loop : tie.InvT-loop
-Inv-loop mem₀ links capacity delays most ends k stops w a t starts after₀ c₀ mem after c =
-    (c ≤ w) × (w ≤ 8) × (a ≡ rowAt capacity k) × LineRuns document01 capacity k c stops (after₀ .at) (after .at) mem₀ mem
+Inv-loop mem₀ links capacity delays most ends k stops self₀ w a t starts c₀ mem self c =
+    (c ≤ w) × (w ≤ 8) × (a ≡ rowAt capacity k) × LineRuns document01 capacity k c stops (self₀ .at) (self .at) mem₀ mem
 
 abbrev μ-loop : tie.MeasureT-loop
-μ-loop mem₀ links capacity delays most ends k stops w a t starts after₀ c₀ mem after c = w - c
+μ-loop mem₀ links capacity delays most ends k stops self₀ w a t starts c₀ mem self c = w - c
 
 -- Replica c of the line is in the memory.
 room : (c : tie.In-loop Inv-loop μ-loop) → replicaEnd (c .before .before .before .before .before .before .before .before .row-at .result) (c .before .loop .c) ≤ length (c .before .loop .mem)
@@ -20,6 +20,10 @@ room c =
     let i = c .before .loop .inv in
     omega (arith, sizes (p .4 .standing .job), p .5, i .3 .retimed .outside .size, i .2, c .loop-test .taken)
 
+-- What was given, as known at that replica.
+abbrev start : tie.After-replica-at Inv-loop μ-loop → tie.Start Inv-loop μ-loop
+start c = c .before .before .before .before .before .before .before .before .before .before .before .before .before .before .before .before
+
 -- Its processor, and what is known of it.
 abbrev its : tie.After-replica-at Inv-loop μ-loop → ℕ
 its c =
@@ -27,14 +31,13 @@ its c =
     nth (c .before .before .before .loop .mem) (processorAt (rowAt (a .capacity) (a .k)) (c .before .before .before .loop .c))
 
 step : (c : tie.After-replica-at Inv-loop μ-loop)
-    → let a = c .before .before .before .before .before .before .before .before .before .before .before .before .before .before .before .before .args in
+    → let a = start c .args in
     let l = c .before .before .before .loop in
-    LineStep document01 (nth (a .mem .now) (rowAt (a .capacity) (a .k))) (its c) (l .after .at) (a .mem .now) (l .mem)
+    LineStep document01 (nth (a .mem .now) (rowAt (a .capacity) (a .k))) (its c) (l .self .at) (a .mem .now) (l .mem)
 step c =
-    let start = c .before .before .before .before .before .before .before .before .before .before .before .before .before .before .before .before in
-    let p = start .pre in
+    let p = start c .pre in
     let l = c .before .before .before .loop in
-    line-step (start .args .k) (l .c) (l .inv .3) (p .4 .standing) (p .5) (p .6) (c .before .before .loop-test .taken)
+    line-step (start c .args .k) (l .c) (l .inv .3) (p .4 .standing) (p .5) (p .6) (c .before .before .loop-test .taken)
 
 on : (c : tie.After-replica-at Inv-loop μ-loop) → c .replica-at .result .processor ≡ its c
 on c = rw (c .before .before .before .loop .inv .2) at (c .replica-at .ensures .0)
@@ -56,42 +59,43 @@ loop-holds c =
     let z = sizes (pre .4 .standing .job) in
     (search needs, omega arith, c .before .before .before .before .before .before .row-at .ensures, line-first (args .k) (args .stops .now) (pre .4))
 
+cell-of-requires : tie.Need-cell-of-requires Inv-loop μ-loop
+cell-of-requires c κs =
+    let here = c .before .before .before in
+    rw (on here) (c .before .before .before .before .before .before .before .first-starts .ensures .held _ (step here .processor))
+
 finish-of-requires : tie.Need-finish-of-requires Inv-loop μ-loop
 finish-of-requires c κs =
-    let here = c .before .before .before in
-    let s = step here in
-    rw (on here) (s .ready-small, here .before .before .before .before .first-starts .ensures .1 _ (s .processor) .1, c .before .run-time .ensures .1)
+    let here = c .before .before .before .before in
+    (rw (on here) (step here .ready-small), c .cell-of .ensures .1, c .before .before .run-time .ensures .1)
 
 shared-slice-read-unless-stopped : tie.Need-shared-slice-read-unless-stopped Inv-loop μ-loop
-shared-slice-read-unless-stopped c =
-    let here = c .before .before .before .before .before in
-    omega (arith, below here, here .before .before .before .before .before .before .before .before .before .before .before .before .before .before .before .before .pre .7)
+shared-slice-read-unless-stopped c = let here = c .before .before .before .before .before .before in omega (arith, below here, start here .pre .7)
 
 add-c : tie.Need-add-c Inv-loop μ-loop
-add-c c =
-    let here = c .before .before .before .before .before .before .before .before .before .before .before .before .before in
-    omega (arith, here .loop-test .taken, here .before .loop .inv .1)
+add-c c = let turn = c .before .before .before .before .before .before .before .before .before .before .before .before .before in omega (arith, turn .loop-test .taken, turn .before .loop .inv .1)
 
 loop-again : tie.Need-loop-again Inv-loop μ-loop
 loop-again c =
     let here = c .before .before .before .before .before .before .before .before .before .before .before in
-    let start = here .before .before .before .before .before .before .before .before .before .before .before .before .before .before .before .before in
-    let l = here .before .before .before .loop in
-    let p = start .pre in
+    let a = start here .args in
+    let p = start here .pre in
+    let l = c .before .before .before .before .before .before .before .before .before .before .before .before .before .before .loop in
     let row = here .before .before .before .before .before .before .before .before .before .before .row-at .ensures in
-    let first-starts = here .before .before .before .before .first-starts in
+    let first-starts = c .before .before .before .before .before .before .before .before .before .before .before .before .before .before .before .first-starts in
     let run-time = c .before .before .before .before .before .before .before .before .before .run-time in
-    let finish-of = c .before .before .before .before .before .before .before .finish-of in
-    let unless-stopped = c .before .before .before .before .before .unless-stopped in
+    let cell-of = c .before .before .before .before .before .before .before .cell-of in
+    let finish-of = c .before .before .before .before .before .before .finish-of in
+    let unless-stopped = c .before .before .before .before .unless-stopped in
     let s = step here in
     let q = on here in (
       search needs,
       l .inv .1,
       l .inv .2,
-      rw (c .before .before .before .put-early .ensures, c .advance .ensures, q, lt-ltb _ 16 (s .below), l .inv .2)
-          (line-next (start .args .k) (l .c) (l .inv .3) (p .4 .standing) (p .5) (p .6) (here .before .before .loop-test .taken)
-          (nth (first-starts .result) (its here)) (run-time .result) (finish-of .result) (unless-stopped .result)
-          (rw row at (first-starts .ensures .1 _ (s .processor) .0)) (rw (row, q) at (run-time .ensures .0)) (rw q at (finish-of .ensures .0))
+      rw (c .before .before .put-early .ensures, q, l .inv .2)
+          (line-next (a .k) (l .c) (l .inv .3) (p .4 .standing) (p .5) (p .6) (here .before .before .loop-test .taken)
+          (cell-of .result) (run-time .result) (finish-of .result) (unless-stopped .result)
+          (rw q at (cell-of .ensures .0) ∙ rw row at (first-starts .ensures .time _ (s .processor))) (rw (row, q) at (run-time .ensures .0)) (rw q at (finish-of .ensures .0))
           (rw q at (unless-stopped .ensures .0)) (unless-stopped .ensures .1)),
     )
 
@@ -127,7 +131,9 @@ run-line-spec = tie.close (tie.spec
     (λ c. let p = c .before .before .before .before .before .before .before .pre in omega (arith, sizes (p .4 .standing .job), p .5, c .before .row-at .ensures))
     first-starts-requires loop-holds (λ c κs. room (c .before))
     (λ c κs. rw (c .before .before .before .before .before .before .before .before .before .before .before .row-at .ensures, on (c .before)) (step (c .before) .asked))
-    (λ c. omega (arith, below (c .before .before))) (λ c. below (c .before .before)) (λ c. omega (arith, below (c .before .before .before)))
-    (λ c. omega (arith, below (c .before .before .before))) finish-of-requires (λ c. omega (arith, below (c .before .before .before .before))) shared-slice-read-unless-stopped
-    (λ c κs. search needs) (λ c κs. room (c .before .before .before .before .before .before .before .before .before)) (λ c κs. search needs) add-c (λ c. search needs) loop-again
+    (λ c. omega (arith, below (c .before .before))) (λ c. below (c .before .before)) (λ c. omega (arith, below (c .before .before .before))) (λ c. below (c .before .before .before))
+    cell-of-requires finish-of-requires (λ c. omega (arith, below (c .before .before .before .before .before))) shared-slice-read-unless-stopped
+    (λ c κs. search needs) (λ c κs. room (c .before .before .before .before .before .before .before .before .before .before))
+    (λ c. omega (arith, below (c .before .before .before .before .before .before .before .before .before .before .before)))
+    (λ c. below (c .before .before .before .before .before .before .before .before .before .before .before)) add-c (λ c. search needs) loop-again
     put-ends-requires (λ c. c .before .before .before .before .before .before .loop .inv .3 .retimed .outside .size) (λ c. c .before .before .put-ends .ensures .size) returns)
