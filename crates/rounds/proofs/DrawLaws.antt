@@ -1,9 +1,9 @@
 -- One turn of the planner: the free tasks, the critical one, its line, and what waits after it.
-use Rattle.lists.proofs.Prelude.{_≡_, refl, ap, ap₂, _∙_, sym, inl, inr, List, [], _∷_, _++_, map, map-map, reverseAux, Bool, true, false, not, _&&_, ℕ, zero, suc, _+_, _-_, _<_, _≤_, arith, ne-eqb, eqb, ltb, length, if_then_else_, In, nth, keep, all, countFrom, below, Job, least, largest, Placement, Outcome, finish, walk, placementsOf, placementOf, tickOf, Waiting, waitingFrom, freeTasks, ranked, trial, goesBefore, replicas, place, length-append}
+use Rattle.lists.proofs.Prelude.{_≡_, refl, ap, ap₂, _∙_, sym, inl, inr, List, [], _∷_, _++_, map, map-map, reverseAux, Bool, true, false, not, _&&_, ℕ, zero, suc, _+_, _-_, _<_, _≤_, arith, ne-eqb, eqb, ltb, length, if_then_else_, In, nth, keep, all, countFrom, below, Job, least, largest, Placement, Outcome, finish, walk, placementsOf, placementOf, tickOf, Waiting, waitingFrom, freeTasks, ranked, trial, goesBefore, replicas, place}
 use mathlib.Core.Bool.{and-comm}
 use Rattle.definitions.specs.Planner.{criticalTask, chosen}
-use Rattle.definitions.proofs.Lists.{in-below, nth-below}
-use Rattle.definitions.proofs.Chosen.{chosen-count}
+use Rattle.definitions.proofs.Lists.{in-keep, in-below, nth-in, nth-below}
+use Rattle.choices.specs.Choices.{isChosen, chosenOf}
 use Rattle.definitions.proofs.Placing.{greatest-in}
 use Rattle.rounds.specs.Planning.{criticalOf}
 use Rattle.lists.proofs.ListLaws.{keep-same, keep-keep}
@@ -127,16 +127,11 @@ replicas-map f g (p ∷ ps) = ap₂ _∷_ refl (replicas-map f g ps)
 
 -- The processors that are chosen ------------------------------------------------------------------------------------
 
--- One of the w processors of least finish, of m.
-abbrev pub isChosen : List ℕ → ℕ → ℕ → ℕ → Bool
-isChosen finishes m w p = ltb (length (keep (goesBefore finishes p) (below m))) w
-
-pub chosen-same : (j : Job) (w : ℕ) (xs ys : List ℕ) → ((p : ℕ) → p < j .processors → nth xs p ≡ nth ys p)
-    → keep (isChosen xs (j .processors) w) (below (j .processors)) ≡ chosen j w ys
+pub chosen-same : (j : Job) (w : ℕ) (xs ys : List ℕ) → ((p : ℕ) → p < j .processors → nth xs p ≡ nth ys p) → chosenOf w (j .processors) xs ≡ chosen j w ys
 unfolding chosen
 chosen-same j w xs ys h =
     let m = j .processors in
-    keep-same (isChosen xs m w) (isChosen ys m w) (below m)
+    keep-same (isChosen w m xs) (isChosen w m ys) (below m)
     (λ p i. ap (λ (ps : List ℕ). ltb (length ps) w)
     (keep-same (goesBefore xs p) (goesBefore ys p) (below m) (λ q k. rw (h p (in-below m p i), h q (in-below m q k)))))
 
@@ -146,11 +141,7 @@ trial-nth j placed t p h =
     let f : Placement → ℕ = λ c. tickOf (finish j least [] placed c) in
     ap (λ (xs : List ℕ). nth xs p) (map-map f (placementOf j t) (below (j .processors))) ∙ nth-below (λ p. f (placementOf j t p)) (j .processors) p h
 
--- While one more is chosen, fewer than w were.
-pub chosen-room : (j : Job) (xs : List ℕ) (w p : ℕ) → w ≤ j .processors → p < j .processors → isChosen xs (j .processors) w p ≡ true
-    → length (keep (isChosen xs (j .processors) w) (below p)) < w
+-- Number c of those chosen is a processor.
+pub chosen-nth : (j : Job) (w : ℕ) (xs : List ℕ) (c : ℕ) → c < length (chosen j w xs) → nth (chosen j w xs) c < j .processors
 unfolding chosen
-chosen-room j xs w p h l e =
-    let f = isChosen xs (j .processors) w in
-    let c : length (keep f (below (j .processors))) ≡ w = chosen-count j xs w h in
-    omega (arith, ap length (keep-at f p (j .processors) l e), length-append (keep f (below p)) (p ∷ keep f (countFrom (suc p) (j .processors - suc p))))
+chosen-nth j w xs c h = in-below (j .processors) _ (in-keep (isChosen w (j .processors) xs) _ (below (j .processors)) (nth-in (chosen j w xs) c h) .0)

@@ -1,8 +1,10 @@
 -- The memory while a plan is drawn up: its ticks, a line more, and what a change elsewhere leaves as it was.
-use Rattle.lists.proofs.Prelude.{_≡_, refl, ap, _∙_, sym, ⊎-elim, List, [], _∷_, _++_, map, map-map, map-append, append-nil, Bool, true, false, not, _&&_, ℕ, zero, suc, _+_, _*_, _-_, _<_, _≤_, arith, mul-le-mul, add-zero, add-one, eqb-false, eq-eqb, ne-eqb, lt-ltb, not-true, eqb, ltb, length, set, length-append, length-map, length-set, getD-set-same, getD-set-other, In, nth, keep, all, has, below, Limits, Edge, runTime, delay, incoming, after, arrival, dataReady, start, stopTime, finish, placementOf, tickOf, Waiting, freeTasks, ranked, trial, replicas, place, planFor}
+use Rattle.lists.proofs.Prelude.{_≡_, refl, ap, _∙_, sym, ⊎-elim, List, [], _∷_, _++_, map, map-map, map-append, append-nil, Bool, true, false, not, _&&_, ℕ, zero, suc, _+_, _*_, _-_, _<_, _≤_, min, arith, mul-le-mul, add-zero, add-one, eqb-false, eq-eqb, ne-eqb, lt-ltb, not-true, eqb, ltb, length, set, take, take-all, take-suc, length-take-le, length-append, length-map, length-set, getD-set-same, getD-set-other, In, nth, keep, all, has, below, Limits, Edge, runTime, delay, incoming, after, arrival, dataReady, start, stopTime, finish, placementOf, tickOf, Waiting, freeTasks, ranked, trial, replicas, place, planFor}
 use Rattle.definitions.proofs.Lists.{in-map, in-keep, map-same, map-keep, in-below, all-in}
 use Rattle.definitions.proofs.Tasks.{in-incoming}
 use Rattle.definitions.proofs.Placing.{placed-count}
+use Rattle.definitions.proofs.Chosen.{chosen-count}
+use Rattle.choices.specs.Choices.{chosenOf, Begins}
 use Rattle.heads.specs.Layout.{levelAt, lineAt, blockedAt, priorityAt, replicasMost, rowAt, largestDelayAt, processorAt, earlyAt, lateAt, replicaEnd}
 use Rattle.jobs.specs.Held.{jobIn}
 use Rattle.jobs.specs.Tables.{messageMost, lineTicks}
@@ -16,11 +18,10 @@ use Rattle.jobs.proofs.Held.{tasks-in, processors-in, Sizes, sizes, job-kept}
 use Rattle.lists.proofs.Kept.{Same, same-before, same-behind, kept-all, kept-set, kept-then, kept-wider}
 use Rattle.plans.proofs.Lines.{replicas-same, lines-same, standing-choice}
 use Rattle.rounds.proofs.Tables.{from-below, levels-kept, far-kept, placed-kept}
-use Rattle.lists.proofs.Upward.{below-more, keep-yes, keep-no}
 use Rattle.rounds.proofs.Placed.{has-placed, predecessors-all, level-placed, data-placed}
 use Rattle.lists.proofs.ListLaws.{keep-same, keep-keep, all-same}
 use Rattle.rounds.proofs.FreeLaws.{free-both}
-use Rattle.rounds.proofs.DrawLaws.{isChosen, chosen-room, chosen-same, trial-nth, none-kept, some-free, critical-in, waiting-from}
+use Rattle.rounds.proofs.DrawLaws.{chosen-same, chosen-nth, trial-nth, none-kept, some-free, critical-in, waiting-from}
 use Rattle.rounds.proofs.Outcomes.{Comes, comes-wider, comes-after, comes-later, ready-comes, short-most, cells-most, all-come, data-comes}
 
 -- The cells of a line -----------------------------------------------------------------------------------------------
@@ -114,56 +115,61 @@ pub begun-none : {capacity k t : ℕ} {d : List ℕ} → Begun capacity k t [] d
 unfolding rowReplicas
 begun-none = record { kept = kept-all; replicas = refl }
 
--- Processor by processor.
+-- Replica by replica.
 module _ {lim : Limits} {capacity k t : ℕ} {early late : List ℕ} {d : List ℕ} (o : Tried lim capacity k t early late d) where
-  -- The processors that are chosen.
-  abbrev takes : ℕ → Bool
-  takes = isChosen early (nth d 1) (nth d 3 + 1)
+  -- The processors of the line: as many as it is to have replicas, and those of least finish.
+  abbrev ps : List ℕ
+  ps = processorsFor capacity k t d
+
+  processors-count : length ps ≡ nth d 3 + 1
+  unfolding jobIn
+  processors-count = chosen-count (jobIn d) (trial (jobIn d) (earliesIn capacity k d) t) (nth d 3 + 1) (sizes (o .drawn .standing .job) .enough)
+
+  processors-same : chosenOf (nth d 3 + 1) (nth d 1) early ≡ ps
+  unfolding jobIn finishOn
+  processors-same =
+      chosen-same (jobIn d) (nth d 3 + 1) early (trial (jobIn d) (earliesIn capacity k d) t)
+      (λ q l. ap tickOf (o .early-finishes q l) ∙ sym (trial-nth (jobIn d) (earliesIn capacity k d) t q l))
 
   few-tasks : k < 8 * capacity
   few-tasks = omega (arith, o .more, sizes (o .drawn .standing .job) .tasks-most)
 
-  -- Those below p were asked, of which c are chosen and have their replicas.
-  module _ {p c : ℕ} {mem : List ℕ} (l : p < nth d 1) (b : (c ≡ length (keep takes (below p))) × Begun capacity k t (keep takes (below p)) d mem) where
-    pub pass-processor : takes p ≡ false → (c ≡ length (keep takes (below (p + 1)))) × Begun capacity k t (keep takes (below (p + 1))) d mem
-    pass-processor f = rw (below-more p, keep-no takes (below p) p f) b
+  -- All replicas are there.
+  pub replicas-all : {c : ℕ} {mem : List ℕ} → c ≡ nth d 3 + 1 → Begun capacity k t (take c ps) d mem → Begun capacity k t ps d mem
+  replicas-all {c} e b = rw (take-all c ps (omega (arith, e, processors-count))) at b
 
-    module _ (f : takes p ≡ true) where
-      pub processor-room : c < replicasMost
+  module _ {c : ℕ} (l : c < nth d 3 + 1) where
+    -- Where replica c goes, of those that are listed.
+    module _ {list : List ℕ} (b : Begins (chosenOf (nth d 3 + 1) (min (nth d 1) 16) early) list) where
+      pub replica-on : nth list c ≡ nth ps c
+      replica-on =
+          let e : min (nth d 1) 16 ≡ nth d 1 = omega (arith, sizes (o .drawn .standing .job) .lanes-fit) in
+          (rw (e, processors-same) at b) .each c (omega (arith, l, processors-count))
+
+      pub replica-lane : nth list c < nth d 1
       unfolding jobIn
-      processor-room = let w = sizes (o .drawn .standing .job) in omega (arith, b .0, chosen-room (jobIn d) early (nth d 3 + 1) p (w .enough) l f)
+      replica-lane = rw replica-on (chosen-nth (jobIn d) (nth d 3 + 1) (trial (jobIn d) (earliesIn capacity k d) t) c (omega (arith, l, processors-count)))
 
-      pub processor-within : replicaEnd (rowAt capacity k) c ≤ length mem
-      processor-within = omega (arith, few-tasks, processor-room, b .1 .kept .size, o .drawn .standing .job .size)
+    -- The first c have been written.
+    module _ {mem : List ℕ} (b : Begun capacity k t (take c ps) d mem) where
+      pub replica-within : replicaEnd (rowAt capacity k) c ≤ length mem
+      replica-within = omega (arith, l, few-tasks, sizes (o .drawn .standing .job), b .kept .size, o .drawn .standing .job .size)
 
-      pub take-processor : {e : List ℕ} → Wrote (rowAt capacity k) c p (nth early p) (nth late p) mem e
-          → (c + 1 ≡ length (keep takes (below (p + 1)))) × Begun capacity k t (keep takes (below (p + 1))) d e
+      pub replica-more : {p : ℕ} {e : List ℕ} → p < nth d 1 → p ≡ nth ps c → Wrote (rowAt capacity k) c p (nth early p) (nth late p) mem e
+          → Begun capacity k t (take (c + 1) ps) d e
       unfolding rowReplicas finishOn
-      take-processor {e} y =
-          let ps = keep takes (below p) in
+      replica-more {p} {e} g q x =
           let at = rowAt capacity k in
-          let (n, g) = b in
-          let m : length ps < replicasMost = omega (arith, processor-room) in
           let low = few-tasks in
-          let x = rw n at y in
-          let more : length (ps ++ p ∷ []) ≡ suc (length ps) = length-append ps (p ∷ []) ∙ add-one (length ps) in
-          let new : replicaIn at (length ps) e ≡ replicaOn capacity k d t p = rw (x .processor, x .early-finish, x .late-finish, ← o .early-finishes p l, ← o .late-finishes p l) in
-          let old = replicas-same mem e at (length ps) (same-before at (processorAt at (length ps)) (x .kept) (omega arith)) in
-          rw (below-more p, keep-yes takes (below p) p f) (
-            ap (_+ 1) n ∙ sym (length-append ps (p ∷ [])),
-            record {
-              kept = kept-then (g .kept) (kept-wider at (largestDelayAt capacity) (x .kept) (omega arith) (omega arith));
-              replicas = rw (more, old, new, g .replicas) (sym (map-append (replicaOn capacity k d t) ps (p ∷ [])));
-            },
-          )
-
-  -- All processors have been asked.
-  pub processors-taken : {p : ℕ} {mem : List ℕ} → p ≡ nth d 1 → Begun capacity k t (keep takes (below p)) d mem → Begun capacity k t (processorsFor capacity k t d) d mem
-  unfolding jobIn finishOn
-  processors-taken {p} {mem} e b =
-      let same = chosen-same (jobIn d) (nth d 3 + 1) early (trial (jobIn d) (earliesIn capacity k d) t)
-      (λ q l. ap tickOf (o .early-finishes q l) ∙ sym (trial-nth (jobIn d) (earliesIn capacity k d) t q l)) in
-      rw (← same) (rw e at b)
+          let w = sizes (o .drawn .standing .job) in
+          let n : length (take c ps) ≡ c = length-take-le c ps (omega (arith, l, processors-count)) in
+          let more : length (take c ps ++ p ∷ []) ≡ suc c = length-append (take c ps) (p ∷ []) ∙ rw n (add-one c) in
+          let new : replicaIn at c e ≡ replicaOn capacity k d t p = rw (x .processor, x .early-finish, x .late-finish, ← o .early-finishes p g, ← o .late-finishes p g) in
+          let old = replicas-same mem e at c (same-before at (processorAt at c) (x .kept) (omega arith)) in
+          rw (add-one c, take-suc ps c 0 (omega (arith, l, processors-count)), ← q) (record {
+            kept = kept-then (b .kept) (kept-wider at (largestDelayAt capacity) (x .kept) (omega arith) (omega arith));
+            replicas = rw (more, old, new, rw n at (b .replicas)) (sym (map-append (replicaOn capacity k d t) (take c ps) (p ∷ [])));
+          })
 
 -- The free tasks ----------------------------------------------------------------------------------------------------
 

@@ -60,14 +60,12 @@ fn fill_line(
     let m = mem[1] as usize;
     let w = mem[3] as usize + 1;
     let a = row::row_at(capacity, k);
+    let list = choices::chosen(&early, m, w);
     let mut c = 0;
-    let mut p = 0;
-    while p < m {
-        if choices::is_chosen(&early, m, w, p) {
-            row::put_replica(mem, a, c, p, early[p] as u64, late[p] as u64);
-            c += 1;
-        }
-        p += 1;
+    while c < w {
+        let p = list[c];
+        row::put_replica(mem, a, c, p, early[p] as u64, late[p] as u64);
+        c += 1;
     }
 }
 
