@@ -130,11 +130,11 @@ pub record Compared (lim : Limits) (capacity k a : ℕ) (mem es ls : List ℕ) (
 
 pub compared-none : {lim : Limits} {capacity k a : ℕ} {mem es ls : List ℕ} {clocks : Clocks} → PlanHeld lim capacity mem → k < nth mem 0 → ClocksAfter capacity k mem clocks
     → a ≡ rowAt capacity k
-    → BothFinish capacity (nth mem a) clocks mem es ls → Compared lim capacity k a mem es ls 0
+    → BothFinish capacity (nth mem a) (clocks .early) (clocks .late) mem es ls → Compared lim capacity k a mem es ls 0
 compared-none {capacity} {k} {a} {mem} {es} {ls} {clocks} h l s e b₀ =
     record { plan = h; line = l; row = e; found = found; agree = λ late i g. absurd (omega arith) }
   where
-    b : BothFinish capacity (nth mem (rowAt capacity k)) clocks mem es ls
+    b : BothFinish capacity (nth mem (rowAt capacity k)) (clocks .early) (clocks .late) mem es ls
     b = rw e at b₀
 
     found : (late : Bool) (i : ℕ) → i < nth mem 3 + 1 → tick (nth (if late then ls else es) (nth mem (processorAt (rowAt capacity k) i))) ≡ finishIn capacity late k i mem

@@ -1,5 +1,5 @@
 -- One turn of the planner: the free tasks, the critical one, its line, and what waits after it.
-use Rattle.lists.proofs.Prelude.{_≡_, refl, ap, ap₂, _∙_, sym, inl, inr, List, [], _∷_, _++_, map, map-map, reverseAux, Bool, true, false, not, _&&_, ℕ, zero, suc, _+_, _-_, _<_, _≤_, arith, ne-eqb, eqb, ltb, length, if_then_else_, In, nth, keep, all, countFrom, below, Job, least, largest, Placement, Outcome, finish, walk, placementsOf, placementOf, tickOf, Waiting, waitingFrom, freeTasks, ranked, trial, goesBefore, replicas, place}
+use Rattle.lists.proofs.Prelude.{_≡_, refl, ap, ap₂, _∙_, sym, inl, inr, List, [], _∷_, _++_, map, map-map, reverseAux, Bool, true, false, not, _&&_, ℕ, zero, suc, _+_, _-_, _<_, arith, ne-eqb, eqb, ltb, length, if_then_else_, In, nth, keep, all, countFrom, below, Job, least, largest, Placement, Outcome, finish, walk, placementsOf, placementOf, tickOf, Waiting, waitingFrom, freeTasks, ranked, trial, goesBefore, replicas, place}
 use mathlib.Core.Bool.{and-comm}
 use Rattle.definitions.specs.Planner.{criticalTask, chosen}
 use Rattle.definitions.proofs.Lists.{in-keep, in-below, nth-in, nth-below}

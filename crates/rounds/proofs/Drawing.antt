@@ -5,7 +5,7 @@ use Rattle.definitions.proofs.Tasks.{in-incoming}
 use Rattle.definitions.proofs.Placing.{placed-count}
 use Rattle.definitions.proofs.Chosen.{chosen-count}
 use Rattle.choices.specs.Choices.{chosenOf, Begins}
-use Rattle.heads.specs.Layout.{levelAt, lineAt, blockedAt, priorityAt, replicasMost, rowAt, largestDelayAt, processorAt, earlyAt, lateAt, replicaEnd}
+use Rattle.heads.specs.Layout.{levelAt, lineAt, blockedAt, priorityAt, rowAt, largestDelayAt, processorAt, earlyAt, lateAt, replicaEnd}
 use Rattle.jobs.specs.Held.{jobIn}
 use Rattle.jobs.specs.Tables.{messageMost, lineTicks}
 use Rattle.plans.specs.Lines.{replicaIn, rowOutcomes, placedIn, rowReplicas, linesIn, rowOf}
@@ -117,10 +117,11 @@ begun-none = record { kept = kept-all; replicas = refl }
 
 -- Replica by replica.
 module _ {lim : Limits} {capacity k t : ℕ} {early late : List ℕ} {d : List ℕ} (o : Tried lim capacity k t early late d) where
-  -- The processors of the line: as many as it is to have replicas, and those of least finish.
+  -- The processors of the line.
   abbrev ps : List ℕ
   ps = processorsFor capacity k t d
 
+  -- They are as many as the line has replicas, and those of least finish.
   processors-count : length ps ≡ nth d 3 + 1
   unfolding jobIn
   processors-count = chosen-count (jobIn d) (trial (jobIn d) (earliesIn capacity k d) t) (nth d 3 + 1) (sizes (o .drawn .standing .job) .enough)
@@ -131,15 +132,16 @@ module _ {lim : Limits} {capacity k t : ℕ} {early late : List ℕ} {d : List �
       chosen-same (jobIn d) (nth d 3 + 1) early (trial (jobIn d) (earliesIn capacity k d) t)
       (λ q l. ap tickOf (o .early-finishes q l) ∙ sym (trial-nth (jobIn d) (earliesIn capacity k d) t q l))
 
+  -- The line has its cells.
   few-tasks : k < 8 * capacity
   few-tasks = omega (arith, o .more, sizes (o .drawn .standing .job) .tasks-most)
 
-  -- All replicas are there.
+  -- With all of them the line is begun.
   pub replicas-all : {c : ℕ} {mem : List ℕ} → c ≡ nth d 3 + 1 → Begun capacity k t (take c ps) d mem → Begun capacity k t ps d mem
   replicas-all {c} e b = rw (take-all c ps (omega (arith, e, processors-count))) at b
 
   module _ {c : ℕ} (l : c < nth d 3 + 1) where
-    -- Where replica c goes, of those that are listed.
+    -- The processor of replica c, by the list of those chosen.
     module _ {list : List ℕ} (b : Begins (chosenOf (nth d 3 + 1) (min (nth d 1) 16) early) list) where
       pub replica-on : nth list c ≡ nth ps c
       replica-on =
@@ -150,7 +152,7 @@ module _ {lim : Limits} {capacity k t : ℕ} {early late : List ℕ} {d : List �
       unfolding jobIn
       replica-lane = rw replica-on (chosen-nth (jobIn d) (nth d 3 + 1) (trial (jobIn d) (earliesIn capacity k d) t) c (omega (arith, l, processors-count)))
 
-    -- The first c have been written.
+    -- The first c replicas are there: there is room for one more, and it is there.
     module _ {mem : List ℕ} (b : Begun capacity k t (take c ps) d mem) where
       pub replica-within : replicaEnd (rowAt capacity k) c ≤ length mem
       replica-within = omega (arith, l, few-tasks, sizes (o .drawn .standing .job), b .kept .size, o .drawn .standing .job .size)

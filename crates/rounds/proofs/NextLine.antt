@@ -85,8 +85,8 @@ module _ {lim : Limits} {capacity k t : ℕ} {d : List ℕ} (g : Critical lim ca
       }
 
   -- The finishes that the code computes are the task's.
-  pub tried : {clocks : Clocks} {early late : List ℕ} → ClocksHeld clocks (jobIn d) (earliesIn capacity k d) (latesIn capacity k d) → BothFinish capacity t clocks d early late
-      → Tried lim capacity k t early late d
+  pub tried : {clocks : Clocks} {early late : List ℕ} → ClocksHeld clocks (jobIn d) (earliesIn capacity k d) (latesIn capacity k d)
+      → BothFinish capacity t (clocks .early) (clocks .late) d early late → Tried lim capacity k t early late d
   unfolding finishOn
   tried {clocks} c f =
       let all = predecessors-all (s .standing) t (task-predecessors g) in

@@ -106,12 +106,15 @@ pub record Supplied (l : Limits) (capacity t : ℕ) (z : Bool → ℕ → Time) 
   pub behind : (late : Bool) (a : Edge) (c : ℕ) → In a (incoming (jobIn mem) t) → c < nth mem 3 + 1
       → NoLater (timeIn (nth mem (timeAt late (rowOf capacity (a .from) mem) c))) (z late (nth mem (processorAt (rowOf capacity (a .from) mem) c)))
 
--- The times in two tables of lanes, early and late; those of the clocks.
+-- The times in two tables of lanes, early and late; those of two tables of ticks; those of the clocks.
 abbrev pub laneTimes : List Float → List Float → Bool → ℕ → Time
 laneTimes e f late p = laneTime (if late then f else e) p
 
+abbrev pub tickTimes : List ℕ → List ℕ → Bool → ℕ → Time
+tickTimes e f late p = tick (nth (if late then f else e) p)
+
 abbrev pub clockTimes : Clocks → Bool → ℕ → Time
-clockTimes clocks late p = tick (nth (if late then clocks .late else clocks .early) p)
+clockTimes clocks = tickTimes (clocks .early) (clocks .late)
 
 -- The early and the late ticks of the line at a are short.
 abbrev pub BothShort : ℕ → List ℕ → Type 0
@@ -137,11 +140,9 @@ ShortClocks clocks mem = ShortTicks mem (clocks .early) × ShortTicks mem (clock
 abbrev pub TicksHeld : Limits → List ℕ → List Float → Type 0
 TicksHeld l mem e = (p : ℕ) → p < nth mem 1 → Held (laneMost l) (lane e p) × ((x : ℕ) × (laneTime e p ≡ tick x) × (x ≤ lastArrival l))
 
--- The finishes of t on each processor, early and late, if they are ready at the clocks' ticks.
-pub record BothFinish (capacity t : ℕ) (clocks : Clocks) (mem e l : List ℕ) : Type 0 where
+-- The finishes of t on each processor, early in e and late in l, if they are ready at the ticks in x and in y.
+pub record BothFinish (capacity t : ℕ) (x y mem e l : List ℕ) : Type 0 where
   pub early-size : length e ≡ lanesMost
   pub late-size : length l ≡ lanesMost
-  pub early-finish : (p : ℕ) → p < nth mem 1
-      → tick (nth e p) ≡ after (runTime (jobIn mem) t p) (later (tick (nth (clocks .early) p)) (dataIn capacity false t p mem))
-  pub late-finish : (p : ℕ) → p < nth mem 1
-      → tick (nth l p) ≡ after (runTime (jobIn mem) t p) (later (tick (nth (clocks .late) p)) (dataIn capacity true t p mem))
+  pub early-finish : (p : ℕ) → p < nth mem 1 → tick (nth e p) ≡ after (runTime (jobIn mem) t p) (later (tick (nth x p)) (dataIn capacity false t p mem))
+  pub late-finish : (p : ℕ) → p < nth mem 1 → tick (nth l p) ≡ after (runTime (jobIn mem) t p) (later (tick (nth y p)) (dataIn capacity true t p mem))

@@ -58,15 +58,29 @@ fn line_agrees(
     let w = mem[3] as usize + 1;
     let a = row::row_at(capacity, k);
     let t = mem[a] as usize;
-    let f = times::finishes(mem, links, capacity, delays, most, ends, t, clocks);
+    let mut early = [0u32; 16];
+    let mut late = [0u32; 16];
+    times::finishes(
+        mem,
+        links,
+        capacity,
+        delays,
+        most,
+        ends,
+        t,
+        &clocks.early,
+        &clocks.late,
+        &mut early,
+        &mut late,
+    );
     let mut c = 0;
     while c < w {
         let x = row::replica_at(mem, a, c);
         let p = x.processor;
-        if f.early[p] as u64 != x.early {
+        if times::cell(early[p]) != x.early {
             return false;
         }
-        if f.late[p] as u64 != x.late {
+        if times::cell(late[p]) != x.late {
             return false;
         }
         c += 1;

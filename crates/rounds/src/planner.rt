@@ -51,20 +51,22 @@ fn fill_line(
     capacity: usize,
     k: usize,
     t: usize,
-    early: [u32; 16],
-    late: [u32; 16],
+    early: &[u32; 16],
+    late: &[u32; 16],
 )
-    requires { ⌜ Tried document01 capacity k t early late (now mem) ⌝ }
+    requires { ⌜ Tried document01 capacity k t (now early) (now late) (now mem) ⌝ }
     ensures { λ _. ⌜ Begun capacity k t (processorsFor capacity k t (now (mem .entry))) (now (mem .entry)) (now (mem .exit)) ⌝ }
 {
     let m = mem[1] as usize;
     let w = mem[3] as usize + 1;
     let a = row::row_at(capacity, k);
-    let list = choices::chosen(&early, m, w);
+    let list = choices::chosen(early, m, w);
     let mut c = 0;
     while c < w {
         let p = list[c];
-        row::put_replica(mem, a, c, p, early[p] as u64, late[p] as u64);
+        let x = times::cell(early[p]);
+        let y = times::cell(late[p]);
+        row::put_replica(mem, a, c, p, x, y);
         c += 1;
     }
 }
@@ -89,7 +91,9 @@ fn place_task(
         × ClocksHeld r (jobIn (now (mem .exit))) (earliesIn capacity (k + 1) (now (mem .exit))) (latesIn capacity (k + 1) (now (mem .exit)))
         × Taken capacity t (now (mem .entry)) (now (mem .exit)) × Ended document01 capacity (k + 1) (now (mem .exit)) (now (ends .exit)) ⌝ }
 {
-    let f = times::finishes(
+    let mut early = [0u32; 16];
+    let mut late = [0u32; 16];
+    times::finishes(
         &mem[..],
         links,
         capacity,
@@ -97,11 +101,12 @@ fn place_task(
         most,
         &ends[..],
         t,
-        clocks,
+        &clocks.early,
+        &clocks.late,
+        &mut early,
+        &mut late,
     );
-    let early = f.early;
-    let late = f.late;
-    fill_line(mem, capacity, k, t, early, late);
+    fill_line(mem, capacity, k, t, &early, &late);
     let a = row::row_at(capacity, k);
     mem[a] = t as u64;
     row::put_line(mem, capacity, t, k);

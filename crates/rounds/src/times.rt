@@ -17,12 +17,11 @@ ghost use Rattle.plans.specs.Lines.{rowEnd, rowOutcomes, RowHeld, LinesHeld};
 ghost use Rattle.rounds.specs.Schedule.{edgeFrom, dataIn};
 ghost use Rattle.jobs.specs.Held.{jobIn, JobHeld, SomeJobHeld, LinksHeld};
 ghost use Rattle.rounds.specs.Walks.{Feeds};
-ghost use Rattle.rounds.specs.Arrivals.{laneMost, lastArrival, delayCells, DelayTable, NoDelayOver, TimeTable, HalfTable, LanesHeld, Raised, RaisedBy, RaisedIn, endAt, EdgeEnds, EndsPut, Supplied, laneTimes, clockTimes, readyTimes, BothSupplied, ShortClocks, TicksHeld, BothFinish};
+ghost use Rattle.rounds.specs.Arrivals.{laneMost, lastArrival, delayCells, DelayTable, NoDelayOver, TimeTable, HalfTable, LanesHeld, Raised, RaisedBy, RaisedIn, endAt, EdgeEnds, EndsPut, Supplied, laneTimes, tickTimes, readyTimes, BothSupplied, ShortTicks, TicksHeld, BothFinish};
 use crate::makespans;
 use crate::numbers;
 use crate::row;
 use crate::walk;
-use ticks::clocks::Clocks;
 use ticks::lanes;
 use ticks::lanes::Both;
 use ticks::lanes::NEVER;
@@ -71,6 +70,13 @@ pub fn most_delay(mem: &[u64], delays: &[u16; 256]) -> u16
     let n = 16 * mem[1] as usize;
     let all = &delays[..];
     lanes::most(&all[..n])
+}
+
+// A tick of 32 bits in a cell.
+pub fn cell(x: u32) -> u64
+    ensures { λ r. ⌜ r ≡ x ⌝ }
+{
+    x as u64
 }
 
 // A cell's time in a lane.
@@ -226,29 +232,22 @@ fn finish_tick(x: f64, n: u64) -> u32
     x as u32 + n as u32
 }
 
-// The finishes of t on each processor of the job, if it starts there at these times.
-fn run_lanes(mem: &[u64], t: usize, starts: &[f64; 16]) -> [u32; 16]
-    requires { ⌜ SomeJobHeld document01 (now mem) × (t < nth (now mem) 0) × TicksHeld document01 (now mem) (now starts) ⌝ }
-    ensures { λ r. ⌜ (length r ≡ lanesMost) × ((p : ℕ) → p < nth (now (mem .entry)) 1 → tick (nth r p) ≡ after (runTime (jobIn (now (mem .entry))) t p) (laneTime (now (starts .entry)) p)) ⌝ }
+// Writes the finishes of t on each processor of the job, if it starts there at these times.
+fn run_lanes(mem: &[u64], t: usize, starts: &[f64; 16], finishes: &mut [u32; 16])
+    requires { ⌜ SomeJobHeld document01 (now mem) × (t < nth (now mem) 0) × TicksHeld document01 (now mem) (now starts) × (length (now finishes) ≡ lanesMost) ⌝ }
+    ensures { λ _. ⌜ (length (now (finishes .exit)) ≡ lanesMost) × ((p : ℕ) → p < nth (now (mem .entry)) 1
+        → tick (nth (now (finishes .exit)) p) ≡ after (runTime (jobIn (now (mem .entry))) t p) (laneTime (now (starts .entry)) p)) ⌝ }
 {
     let m = mem[1] as usize;
-    let mut finishes = [0u32; 16];
     let mut p = 0;
     while p < m {
         finishes[p] = finish_tick(starts[p], numbers::run_time(mem, t, p));
         p += 1;
     }
-    finishes
 }
 
-// For each processor an early and a late finish.
-pub struct Ticks {
-    pub early: [u32; 16],
-    pub late: [u32; 16],
-}
-
-// The early and the late finish of t on each processor, if it is ready at the clocks' ticks.
-pub fn finishes(
+// Writes the early and the late finish of t on each processor, if it is ready at the ticks in e, and late at those in l.
+pub fn finishes<'a>(
     mem: &[u64],
     links: &[u64],
     capacity: usize,
@@ -256,15 +255,19 @@ pub fn finishes(
     most: u16,
     ends: &[f64],
     t: usize,
-    clocks: Clocks,
-) -> Ticks
+    e: &'a [u32; 16],
+    l: &'a [u32; 16],
+    early: &mut [u32; 16],
+    late: &mut [u32; 16],
+)
     requires { ⌜ ((k : ℕ) × LinesHeld document01 capacity k (now mem)) × DelayTable document01 (now delays) (now mem) × NoDelayOver most (now mem) × (most ≤ document01 .delay)
-        × (t < nth (now mem) 0) × BothSupplied capacity t (now mem) × ShortClocks clocks (now mem)
-        × Supplied document01 capacity t (clockTimes clocks) (now mem) (now ends) × LinksHeld (now mem) (now links) ⌝ }
-    ensures { λ r. ⌜ BothFinish capacity t clocks (now (mem .entry)) (r .early) (r .late) ⌝ }
+        × (t < nth (now mem) 0) × BothSupplied capacity t (now mem) × ShortTicks (now mem) (now e) × ShortTicks (now mem) (now l)
+        × Supplied document01 capacity t (tickTimes (now e) (now l)) (now mem) (now ends) × LinksHeld (now mem) (now links)
+        × (length (now early) ≡ lanesMost) × (length (now late) ≡ lanesMost) ⌝ }
+    ensures { λ _. ⌜ BothFinish capacity t (now (e .entry)) (now (l .entry)) (now (mem .entry)) (now (early .exit)) (now (late .exit)) ⌝ }
 {
-    let mut early = lanes::floats(&clocks.early);
-    let mut late = lanes::floats(&clocks.late);
+    let mut first = lanes::floats(e);
+    let mut last = lanes::floats(l);
     raise_data(
         mem,
         links,
@@ -273,13 +276,11 @@ pub fn finishes(
         most,
         ends,
         t,
-        &mut early,
-        &mut late,
+        &mut first,
+        &mut last,
     );
-    Ticks {
-        early: run_lanes(mem, t, &early),
-        late: run_lanes(mem, t, &late),
-    }
+    run_lanes(mem, t, &first, early);
+    run_lanes(mem, t, &last, late);
 }
 
 // The times of cells in lanes, one for each processor of the job.

@@ -1,5 +1,5 @@
 -- The line is what the definition places next.
-use Rattle.lists.proofs.Prelude.{_≡_, _<_, _+_, _*_, arith, length, set, length-set}
+use Rattle.lists.proofs.Prelude.{_≡_, refl, _<_, _+_, _*_, arith, length, set, length-set}
 use Rattle.heads.specs.Layout.{memorySize, lineAt, rowAt}
 use Rattle.jobs.proofs.Held.{sizes}
 use Rattle.rounds.proofs.Placed.{predecessors-all}
@@ -21,23 +21,27 @@ small c =
 
 finishes-requires : tie.Need-finishes-requires
 finishes-requires c κs =
-    let (delays, none-over, most, ended, g, clocks, links) = c .before .before .before .before .before .pre in
+    let (delays, none-over, most, ended, g, clocks, links) = c .before .before .before .before .before .before .before .before .before .before .pre in
     let s = g .drawn in
-    let all = predecessors-all (s .standing) _ (task-predecessors g) in (
+    let all = predecessors-all (s .standing) _ (task-predecessors g) in
+    let short = clocks-short (s .standing) (omega arith) (s .ticks) clocks in (
       (_, s .standing),
       delays,
       none-over,
       most,
       task-below g,
       predecessors-short (s .standing) (omega arith) (s .ticks) _ all,
-      clocks-short (s .standing) (omega arith) (s .ticks) clocks,
+      short .0,
+      short .1,
       supplied-clocks (s .standing) (omega arith) _ all ended (s .settled) clocks,
       links,
+      refl,
+      refl,
     )
 
 -- The line is laid when its task and the task's line are stored.
 abbrev start : tie.After-fill-line → tie.Start
-start c = c .before .before .before .before .before .before .before .before .before .before
+start c = c .before .before .before .before .before .before .before .before .before .before .before .before .before .before .before
 
 line : (c : tie.After-fill-line) → let a = start c .args in
     Laid (a .capacity) (a .k) (a .t) (a .mem .now) (set (set (c .fill-line .last .0) (rowAt (a .capacity) (a .k)) (a .t)) (lineAt (a .capacity) + a .t) (a .k + 1))
@@ -88,18 +92,18 @@ returns c =
 pub place-task-spec : {M : Type 1} → statement M
 place-task-spec = tie.close (tie.spec
     finishes-requires
-    (λ c κs. let p = c .before .before .before .before .before .before .before .before .before .pre in tried (p .4) (p .5) (c .before .before .before .finishes .ensures))
-    (λ c κs. omega (arith, small (c .before .before .before .before .before .before .before .before .before .before .before .before)))
-    (λ c. omega (arith, small (c .before .before .before .before .before .before .before .before .before .before .before .before .before), c .row-at .ensures))
+    (λ c κs. let p = c .before .before .before .before .before .before .before .before .before .before .before .before .before .before .pre in tried (p .4) (p .5) (c .before .before .before .finishes .ensures))
+    (λ c κs. omega (arith, small (c .before .before .before .before .before .before .before .before .before .before .before .before .before .before .before .before .before)))
+    (λ c. omega (arith, small (c .before .before .before .before .before .before .before .before .before .before .before .before .before .before .before .before .before .before), c .row-at .ensures))
     (λ c. omega (
       arith,
-      small (c .before .before .before .before .before .before .before .before .before .before .before .before .before),
+      small (c .before .before .before .before .before .before .before .before .before .before .before .before .before .before .before .before .before .before),
       c .row-at .ensures,
       c .before .before .before .fill-line .ensures .kept .size,
     ))
     (λ c κs. simp length-set (omega (
       arith,
-      small (c .before .before .before .before .before .before .before .before .before .before .before .before .before .before),
+      small (c .before .before .before .before .before .before .before .before .before .before .before .before .before .before .before .before .before .before .before),
       c .before .before .before .before .fill-line .ensures .kept .size,
     )))
     put-ends-requires advance-line-requires

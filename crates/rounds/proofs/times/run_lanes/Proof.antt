@@ -8,10 +8,10 @@ use Rattle.rounds.proofs.times.run_lanes.Statement.{statement}
 use Rattle.rounds.proofs.times.run_lanes.Tie as tie
 
 abbrev Inv-loop : tie.InvT-loop
-Inv-loop mem t starts m finishes₀ p₀ finishes p = (p ≤ m) × (length finishes ≡ 16) × (m ≤ 16) × ((q : ℕ) → q < p → tick (nth finishes q) ≡ after (runTime (jobIn mem) t q) (laneTime starts q))
+Inv-loop mem t starts finishes₀ m p₀ finishes p = (p ≤ m) × (length finishes ≡ 16) × (m ≤ 16) × ((q : ℕ) → q < p → tick (nth finishes q) ≡ after (runTime (jobIn mem) t q) (laneTime starts q))
 
 abbrev μ-loop : tie.MeasureT-loop
-μ-loop mem t starts m finishes₀ p₀ finishes p = m - p
+μ-loop mem t starts finishes₀ m p₀ finishes p = m - p
 
 run-time-requires : tie.Need-run-time-requires Inv-loop μ-loop
 run-time-requires c κs = (c .before .before .before .before .before .pre .0, c .before .before .before .before .before .pre .1, c .before .loop-test .taken)
@@ -37,6 +37,6 @@ loop-again c =
 pub run-lanes-spec : {M : Type 1} → statement M
 run-lanes-spec = tie.close (tie.spec
     Inv-loop μ-loop (λ c. let s = sizes (c .before .before .pre .0 .1) in omega arith)
-    (λ c. (omega arith, refl, sizes (c .before .before .pre .0 .1) .lanes-fit, λ q h. absurd (omega arith))) (λ c. search needs) (λ c. search needs) run-time-requires
+    (λ c. (omega arith, c .before .before .pre .3, sizes (c .before .before .pre .0 .1) .lanes-fit, λ q h. absurd (omega arith))) (λ c. search needs) (λ c. search needs) run-time-requires
     finish-tick-requires (λ c. search needs) (λ c. search needs) (λ c. search needs) (λ c. search needs) loop-again
     (λ c. (c .before .loop .inv .1, λ p h. c .before .loop .inv .3 p (omega arith))))
