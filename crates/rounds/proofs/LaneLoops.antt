@@ -1,46 +1,19 @@
--- Tables that are filled lane by lane: one lane more, the greatest delay, the ends of a line.
-use Rattle.lists.proofs.Prelude.{_≡_, _∙_, ⊎-elim, List, [], _∷_, Bool, true, false, ℕ, zero, suc, _+_, _*_, _<_, _≤_, arith, length, set, take, length-set, length-take, getD-set-same, getD-set-other, getD-take, nth, greatest, delay, times, Limits}
+-- Tables that are filled lane by lane: one lane more, the ends of a line.
+use Rattle.lists.proofs.Prelude.{_≡_, _∙_, ⊎-elim, List, Bool, true, false, ℕ, _+_, _*_, _<_, arith, length, set, length-set, getD-set-same, getD-set-other, nth, times, Limits}
 use lib.Ieee.{Float, nan}
 use Rattle.lists.proofs.Counting.{last-or-before}
-use Rattle.heads.specs.Layout.{lanesMost}
-use Rattle.jobs.specs.Held.{jobIn}
 use Rattle.plans.specs.Lines.{rowOutcomes}
 use Rattle.ticks.specs.Cells.{timeIn}
 use Rattle.ticks.specs.Floats.{lane}
 use Rattle.ticks.proofs.HeldLaws.{Holds}
 use Rattle.rounds.specs.Schedule.{choiceOf}
-use Rattle.rounds.specs.Arrivals.{DelayTable, NoDelayOver, EndOf, EndsPut, endAt}
+use Rattle.rounds.specs.Arrivals.{EndOf, EndsPut, endAt}
 
 -- What holds of the first n lanes, with one lane more.
 pub each-lane : (P : ℕ → Float → Type 0) (xs : List Float) (n : ℕ) (x : Float) → n < length xs → ((i : ℕ) → i < n → P i (lane xs i)) → P n x
     → (i : ℕ) → i < n + 1 → P i (lane (set xs n x) i)
 each-lane P xs n x h g e i l =
     ⊎-elim (λ (q : i ≡ n). rw (q, getD-set-same xs n x nan h) e) (λ b. rw (getD-set-other xs n i x nan (λ q. omega arith)) (g i b)) (last-or-before n i (omega arith))
-
--- The greatest of some numbers.
-nth-greatest : (xs : List ℕ) (i : ℕ) → nth xs i ≤ greatest xs
-unfolding greatest
-nth-greatest [] i = omega arith
-nth-greatest (x ∷ xs) zero = omega arith
-nth-greatest (x ∷ xs) (suc i) = omega (arith, nth-greatest xs i)
-
-greatest-within : (b : ℕ) (xs : List ℕ) → ((i : ℕ) → i < length xs → nth xs i ≤ b) → greatest xs ≤ b
-unfolding greatest
-greatest-within b [] h = omega arith
-greatest-within b (x ∷ xs) h = let g : x ≤ b = h 0 (omega arith) in omega (arith, g, greatest-within b xs (λ i l. h (suc i) (omega arith)))
-
--- No delay passes the greatest cell of the job's rows.
-pub delays-most : {lim : Limits} {mem delays : List ℕ} → DelayTable lim delays mem → nth mem 1 ≤ lanesMost → {r : ℕ} → r ≡ greatest (take (lanesMost * nth mem 1) delays)
-    → NoDelayOver r mem × (r ≤ lim .delay)
-delays-most {lim} {mem} {delays} t few {r} e =
-    let n = lanesMost * nth mem 1 in (
-      λ q p a b.
-          let at : nth (take n delays) (q * lanesMost + p) ≡ delay (jobIn mem) q p = getD-take n delays (q * lanesMost + p) 0 (omega arith) ∙ t .cell q p a b in
-          omega (arith, at, e, nth-greatest (take n delays) (q * lanesMost + p)),
-      rw e (greatest-within (lim .delay) (take n delays) (λ i l.
-          let k : i < n = omega (arith, length-take n delays) in
-          rw (getD-take n delays i 0 k) (t .most i (omega arith)))),
-    )
 
 -- The ends of a line, noted for its task.
 pub ends-put : {lim : Limits} {a t : ℕ} {mem : List ℕ} (ends : List Float) {x y : Float} (r s : ℕ) → 2 * t + 1 < length ends

@@ -1,5 +1,5 @@
 -- Tables with a lane for each processor: the delays, and when data is there.
-use Rattle.lists.proofs.Prelude.{_≡_, refl, ap, _∙_, sym, ⊎-elim, List, [], _∷_, _++_, map, append-nil, append-assoc, Bool, true, false, ℕ, zero, suc, _+_, _-_, _*_, _/_, _%_, _^_, _<_, _≤_, min, arith, mul-le-mul, add-one, add-zero, sub-zero, eqb-true, eqb-false, eq-eqb, ltb-true, ltb-false, lt-ltb, le-ltb, ltb, eqb, length, set, length-set, replicate, length-replicate, getD-replicate, getD-set-same, getD-set-other, if_then_else_, nth, In, incoming, delay, Edge, Time, tick, never, later, sooner, after, least, largest, Outcome, ofTask, arrival, Limits}
+use Rattle.lists.proofs.Prelude.{_≡_, refl, ap, _∙_, sym, ⊎-elim, List, [], _∷_, _++_, map, append-nil, append-assoc, Bool, true, false, ℕ, zero, suc, _+_, _-_, _*_, _/_, _%_, _^_, _<_, _≤_, max, min, arith, mul-le-mul, add-one, add-zero, sub-zero, eqb-true, eqb-false, eq-eqb, ltb-true, ltb-false, lt-ltb, le-ltb, ltb, eqb, length, set, length-set, replicate, length-replicate, getD-replicate, getD-set-same, getD-set-other, if_then_else_, nth, In, incoming, delay, Edge, Time, tick, never, later, sooner, after, least, largest, Outcome, ofTask, arrival, Limits}
 use lib.Ieee.{Float, nan}
 use native.Mathlib.Nat.{lt-of-not-le}
 use Rattle.definitions.specs.Times.{times, message}
@@ -28,18 +28,27 @@ use Rattle.rounds.proofs.TimeLaws.{gathered, gather-none, gather-next, 
 
 -- The table of delays -----------------------------------------------------------------------------------------------
 
--- The cells before i hold the delays.
-pub record DelaysTo (lim : Limits) (mem : List ℕ) (i : ℕ) (delays : List ℕ) : Type 0 where
+-- The cells before i hold the delays, and no cell is over n.
+pub record DelaysTo (lim : Limits) (mem : List ℕ) (i : ℕ) (delays : List ℕ) (n : ℕ) : Type 0 where
   pub size : length delays ≡ delayCells
   pub cell : (q p : ℕ) → q < nth mem 1 → p < nth mem 1 → q * lanesMost + p < i → nth delays (q * lanesMost + p) ≡ delay (jobIn mem) q p
-  pub most : (k : ℕ) → k < delayCells → nth delays k ≤ lim .delay
+  pub most : (k : ℕ) → k < delayCells → nth delays k ≤ n
+  pub within : n ≤ lim .delay
 
-pub delays-none : {lim : Limits} {mem : List ℕ} → DelaysTo lim mem 0 (replicate delayCells 0)
-delays-none = record { size = length-replicate {A = ℕ} delayCells 0; cell = λ q p a b l. absurd (omega arith); most = λ k l. rw (getD-replicate {A = ℕ} delayCells k 0 0 l) (omega arith) }
+-- No delay is in the table yet.
+pub delays-none : {lim : Limits} {mem : List ℕ} → DelaysTo lim mem 0 (replicate delayCells 0) 0
+delays-none =
+    record {
+      size = length-replicate {A = ℕ} delayCells 0;
+      cell = λ q p a b l. absurd (omega arith);
+      most = λ k l. rw (getD-replicate {A = ℕ} delayCells k 0 0 l) (omega arith);
+      within = omega arith;
+    }
 
-module _ {lim : Limits} {mem : List ℕ} (few : nth mem 1 ≤ lanesMost) {i : ℕ} {d : List ℕ} (t : DelaysTo lim mem i d) where
-  pub delays-next : (z : ℕ) → i < delayCells → z ≡ delay (jobIn mem) (i / lanesMost) (i % lanesMost) → z ≤ lim .delay → DelaysTo lim mem (i + 1) (set d i z)
-  delays-next z l e m =
+module _ {lim : Limits} {mem : List ℕ} (few : nth mem 1 ≤ lanesMost) {i : ℕ} {d : List ℕ} {n : ℕ} (t : DelaysTo lim mem i d n) where
+  -- One delay more.
+  pub delays-next : (z : ℕ) {r : ℕ} → i < delayCells → z ≡ delay (jobIn mem) (i / lanesMost) (i % lanesMost) → z ≤ lim .delay → r ≡ max n z → DelaysTo lim mem (i + 1) (set d i z) r
+  delays-next z {r} l e m x =
       let here = getD-set-same d i z 0 (omega (arith, t .size)) in
       record {
         size = length-set d i z ∙ t .size;
@@ -47,15 +56,21 @@ module _ {lim : Limits} {mem : List ℕ} (few : nth mem 1 ≤ lanesMost) {i : �
             (λ (s : q * lanesMost + p ≡ i). let u : q ≡ i / lanesMost = omega arith in let v : p ≡ i % lanesMost = omega arith in rw (s, here, u, v) e)
             (λ s. getD-set-other d i (q * lanesMost + p) z 0 s ∙ t .cell q p a b (omega arith))
             (equal-or-not (q * lanesMost + p) i);
-        most = λ k o. ⊎-elim (λ (s : k ≡ i). rw (s, here) m) (λ s. rw (getD-set-other d i k z 0 s) (t .most k o)) (equal-or-not k i);
+        most = λ k o. ⊎-elim (λ (s : k ≡ i). rw (s, here) (omega arith)) (λ s. rw (getD-set-other d i k z 0 s) (omega (arith, t .most k o))) (equal-or-not k i);
+        within = omega (arith, t .within);
       }
 
   -- The rest of a row is for no processor.
-  pub delays-row : nth mem 1 ≤ i % lanesMost → DelaysTo lim mem (i + (lanesMost - i % lanesMost)) d
-  delays-row l = record { size = t .size; cell = λ q p a b o. t .cell q p a b (omega arith); most = t .most }
+  pub delays-row : nth mem 1 ≤ i % lanesMost → DelaysTo lim mem (i + (lanesMost - i % lanesMost)) d n
+  delays-row l = record { size = t .size; cell = λ q p a b o. t .cell q p a b (omega arith); most = t .most; within = t .within }
 
-  pub delays-done : lanesMost * nth mem 1 ≤ i → DelayTable lim d mem
-  delays-done l = record { cell = λ q p a b. t .cell q p a b (omega arith); most = t .most }
+  -- All delays of the job are in the table.
+  pub delays-done : lanesMost * nth mem 1 ≤ i → DelayTable lim d mem × NoDelayOver n mem × (n ≤ lim .delay)
+  delays-done l = (
+    record { cell = λ q p a b. t .cell q p a b (omega arith); most = λ k o. omega (arith, t .most k o, t .within) },
+    λ q p a b. rw (← t .cell q p a b (omega arith)) (t .most (q * lanesMost + p) (omega arith)),
+    t .within,
+  )
 
 -- The table is that of a memory with the same job.
 pub delays-kept : {lim : Limits} {capacity : ℕ} {delays d e : List ℕ} → JobHeld lim capacity d → Same 0 (jobSize capacity) d e → DelayTable lim delays d → DelayTable lim delays e

@@ -95,8 +95,7 @@ fn lines_agree(mem: &[u64], links: &[u64], capacity: usize, ends: &mut [f64]) ->
 {
     let v = mem[0] as usize;
     let mut delays = [0u16; 256];
-    times::fill_delays(mem, &mut delays);
-    let most = times::most_delay(mem, &delays);
+    let most = times::fill_delays(mem, &mut delays);
     let mut clocks = Clocks::new();
     let mut k = 0;
     while k < v {

@@ -188,8 +188,7 @@ fn draw_lines(mem: &mut [u64], links: &[u64], capacity: usize, ends: &mut [f64])
 {
     let v = mem[0] as usize;
     let mut delays = [0u16; 256];
-    times::fill_delays(&mem[..], &mut delays);
-    let most = times::most_delay(&mem[..], &delays);
+    let most = times::fill_delays(&mem[..], &mut delays);
     let mut clocks = Clocks::new();
     let mut free = [0u8; 256];
     let mut n = free::list_free(&mem[..], capacity, &mut free);

@@ -99,8 +99,7 @@ fn run_lines(mem: &mut [u64], links: &[u64], capacity: usize, stops: &[u64], end
 {
     let v = mem[0] as usize;
     let mut delays = [0u16; 256];
-    times::fill_delays(&mem[..], &mut delays);
-    let most = times::most_delay(&mem[..], &delays);
+    let most = times::fill_delays(&mem[..], &mut delays);
     let mut ready = Ready::new();
     let mut k = 0;
     while k < v {

@@ -2,23 +2,22 @@
 ghost use mathlib.Core.Path.{_≡_};
 ghost use mathlib.Core.Logic.{_⊎_};
 ghost use mathlib.Core.Bool.{true, false};
-ghost use Prim.Native.Nat.{ℕ, _+_, _*_, _≤_, _<_};
+ghost use Prim.Native.Nat.{ℕ, _+_, _*_, _≤_, _<_, max};
 ghost use lib.ListN.{length, replicate};
 ghost use Rattle.definitions.specs.Lists.{if_then_else_, nth};
 ghost use Rattle.definitions.specs.Limits.{document01};
 ghost use Rattle.definitions.specs.Job.{runTime};
-ghost use Rattle.definitions.specs.Times.{tick, later, sooner, after, least, largest, arrival};
+ghost use Rattle.definitions.specs.Times.{tick, later, sooner, after, least, largest, arrival, times};
 ghost use Rattle.definitions.specs.Shelf.{NoLater};
 ghost use Rattle.heads.specs.Layout.{lanesMost};
 ghost use Rattle.orders.specs.Edges.{edgeIn};
 ghost use Rattle.ticks.specs.Cells.{timeIn, Small};
 ghost use Rattle.ticks.specs.Floats.{timeOf, Held, lane, laneTime};
 ghost use Rattle.plans.specs.Lines.{rowEnd, rowOutcomes, RowHeld, LinesHeld};
-ghost use Rattle.rounds.specs.Schedule.{edgeFrom, dataIn};
+ghost use Rattle.rounds.specs.Schedule.{edgeFrom, choiceOf, dataIn};
 ghost use Rattle.jobs.specs.Held.{jobIn, JobHeld, SomeJobHeld, LinksHeld};
 ghost use Rattle.rounds.specs.Walks.{Feeds};
 ghost use Rattle.rounds.specs.Arrivals.{laneMost, lastArrival, delayCells, DelayTable, NoDelayOver, TimeTable, HalfTable, LanesHeld, Raised, RaisedBy, RaisedIn, endAt, EdgeEnds, EndsPut, Supplied, laneTimes, tickTimes, readyTimes, BothSupplied, ShortTicks, TicksHeld, BothFinish};
-use crate::makespans;
 use crate::numbers;
 use crate::row;
 use crate::walk;
@@ -43,33 +42,34 @@ pub fn chosen_of(late: bool, x: u64, y: u64) -> u64
     y
 }
 
-// Fills a table of delays, all 0, with those of the job in memory.
-pub fn fill_delays(mem: &[u64], delays: &mut [u16; 256])
+// The greater of two delays.
+fn larger(x: u16, y: u16) -> u16
+    ensures { λ r. ⌜ r ≡ max x y ⌝ }
+{
+    if x < y { y } else { x }
+}
+
+// Fills a table of delays, all 0, with those of the job in memory. The answer is the greatest.
+pub fn fill_delays(mem: &[u64], delays: &mut [u16; 256]) -> u16
     requires { ⌜ SomeJobHeld document01 (now mem) × (now delays ≡ replicate delayCells 0) ⌝ }
-    ensures { λ _. ⌜ DelayTable document01 (now (delays .exit)) (now (mem .entry)) ⌝ }
+    ensures { λ r. ⌜ DelayTable document01 (now (delays .exit)) (now (mem .entry)) × NoDelayOver r (now (mem .entry)) × (r ≤ document01 .delay) ⌝ }
 {
     let m = mem[1] as usize;
     let n = 16 * m;
+    let mut most = 0;
     let mut i = 0;
     while i < n {
         let p = i % 16;
         if p < m {
-            delays[i] = numbers::delay(mem, i / 16, p) as u16;
+            let x = numbers::delay(mem, i / 16, p) as u16;
+            delays[i] = x;
+            most = larger(most, x);
             i += 1;
         } else {
             i += 16 - p;
         }
     }
-}
-
-// The greatest delay of the job in memory.
-pub fn most_delay(mem: &[u64], delays: &[u16; 256]) -> u16
-    requires { ⌜ SomeJobHeld document01 (now mem) × DelayTable document01 (now delays) (now mem) ⌝ }
-    ensures { λ r. ⌜ NoDelayOver r (now (mem .entry)) × (r ≤ document01 .delay) ⌝ }
-{
-    let n = 16 * mem[1] as usize;
-    let all = &delays[..];
-    lanes::most(&all[..n])
+    most
 }
 
 // A tick of 32 bits in a cell.
@@ -331,15 +331,39 @@ pub fn first_starts(
     early
 }
 
+// The first early and the last late time of a line.
+struct Ends {
+    first: u64,
+    last: u64,
+}
+
+// Those of the line at `a`.
+fn ends_in(mem: &[u64], a: usize) -> Ends
+    requires { ⌜ SomeJobHeld document01 (now mem) × (rowEnd a ≤ length (now mem)) ⌝ }
+    ensures { λ r. ⌜ (timeIn (r .first) ≡ choiceOf false (times (rowOutcomes false a (nth (now (mem .entry)) 3 + 1) (now (mem .entry)))))
+        × (timeIn (r .last) ≡ choiceOf true (times (rowOutcomes true a (nth (now (mem .entry)) 3 + 1) (now (mem .entry))))) ⌝ }
+{
+    let w = mem[3] as usize + 1;
+    let mut first = NEVER;
+    let mut last = 0;
+    let mut c = 0;
+    while c < w {
+        let r = row::replica_at(mem, a, c);
+        first = chosen_of(false, r.early, first);
+        last = chosen_of(true, r.late, last);
+        c += 1;
+    }
+    Ends { first, last }
+}
+
 // Notes the ends of the line at `a`, which is of task t: its first early finish, and its last late one.
 pub fn put_ends(mem: &[u64], a: usize, t: usize, ends: &mut [f64])
     requires { ⌜ SomeJobHeld document01 (now mem) × RowHeld document01 a (now mem) × (rowEnd a ≤ length (now mem)) × (t < 256) × (2 * t + 1 < length (now ends)) ⌝ }
     ensures { λ _. ⌜ EndsPut document01 a t (now (mem .entry)) (now (ends .entry)) (now (ends .exit)) ⌝ }
 {
-    let first = makespans::chosen_in(mem, false, a);
-    let last = makespans::chosen_in(mem, true, a);
-    ends[2 * t] = lane_of(first);
-    ends[2 * t + 1] = lane_of(last);
+    let e = ends_in(mem, a);
+    ends[2 * t] = lane_of(e.first);
+    ends[2 * t + 1] = lane_of(e.last);
 }
 
 // The finish of what is ready, and has its data, at these times, and then runs for n ticks.

@@ -1,5 +1,5 @@
 -- What is done on all processors at once, processor by processor; the clocks after a line.
-use Rattle.lists.proofs.Prelude.{_≡_, refl, sym, ap, _∙_, ⊎-elim, List, [], _∷_, _++_, ℕ, zero, suc, _+_, _*_, _%_, _^_, _<_, _≤_, max, arith, add-one, add-zero, lt-ltb, le-ltb, length, set, take, length-set, getD-set-same, getD-set-other, take-suc, nth, sum, greatest}
+use Rattle.lists.proofs.Prelude.{_≡_, refl, sym, ap, _∙_, ⊎-elim, List, ℕ, zero, suc, _+_, _*_, _%_, _^_, _<_, _≤_, arith, add-one, add-zero, lt-ltb, le-ltb, length, set, take, length-set, getD-set-same, getD-set-other, take-suc, nth, sum}
 use lib.Ieee.{Float, nan}
 use lib.Seq.{set-getD}
 use Rattle.lists.proofs.Counting.{last-or-before}
@@ -64,17 +64,6 @@ pub total-more : (cells : List ℕ) (q x y : ℕ) → q < length cells → x ≡
     → y ≡ sum (take (q + 1) cells) % 2 ^ 64
 total-more cells q x y h e f =
     let s : sum (take (q + 1) cells) ≡ sum (take q cells) + nth cells q = rw (add-one q, take-suc cells q 0 h) (sum-last (take q cells) (nth cells q)) in
-    omega (arith, s, e, f)
-
--- The greatest of the first members, with one more.
-greatest-last : (xs : List ℕ) (x : ℕ) → greatest (xs ++ x ∷ []) ≡ max (greatest xs) x
-unfolding greatest
-greatest-last [] x = omega arith
-greatest-last (y ∷ xs) x = omega (arith, greatest-last xs x)
-
-pub most-more : (cells : List ℕ) (i x y : ℕ) → i < length cells → x ≡ greatest (take i cells) → y ≡ max x (nth cells i) → y ≡ greatest (take (i + 1) cells)
-most-more cells i x y h e f =
-    let s : greatest (take (i + 1) cells) ≡ max (greatest (take i cells)) (nth cells i) = rw (add-one i, take-suc cells i 0 h) (greatest-last (take i cells) (nth cells i)) in
     omega (arith, s, e, f)
 
 -- The clocks after one replica more, on a processor that has one, or on none.

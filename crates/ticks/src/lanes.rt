@@ -7,7 +7,7 @@ ghost use Prim.Native.Nat.{_+_, _*_, _/_, _%_, _^_, min};
 ghost use lib.Dec.{eqb};
 ghost use lib.ListN.{replicate};
 ghost use lib.Ieee.{inf};
-ghost use Rattle.definitions.specs.Lists.{if_then_else_, nth, sum, greatest};
+ghost use Rattle.definitions.specs.Lists.{if_then_else_, nth, sum};
 ghost use Rattle.ticks.specs.Floats.{whole, lane};
 ghost use Rattle.ticks.specs.Lanes as Lanes;
 ghost use Rattle.ticks.specs.Lanes.{lanes, sent, delayAt, laneIn, leastLane};
@@ -139,22 +139,6 @@ pub fn least(times: &[f64; 16], m: usize) -> f64
     while p < n {
         x = lesser(times[p], x);
         p += 1;
-    }
-    x
-}
-
-// The greatest of some numbers; 0, of none.
-pub fn most(cells: &[u16]) -> u16
-    ensures { λ r. ⌜ r ≡ greatest (now (cells .entry)) ⌝ }
-{
-    let mut x = 0;
-    let mut i = 0;
-    while i < cells.len() {
-        let y = cells[i];
-        if x < y {
-            x = y;
-        }
-        i += 1;
     }
     x
 }

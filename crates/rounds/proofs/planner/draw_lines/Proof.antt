@@ -37,20 +37,20 @@ last-task c = let l = c .before .loop in l .inv .6 .tasks .task-of (l .n - 1) (o
 
 -- The links are the job's still.
 abbrev start : tie.In-loop Inv-loop μ-loop → tie.Start Inv-loop μ-loop
-start c = c .before .before .before .before .before .before .before .before .before .before .before .before .before .before .before .before .before
+start c = c .before .before .before .before .before .before .before .before .before .before .before .before .before .before
 
 links-here : (c : tie.In-loop Inv-loop μ-loop) → LinksHeld (c .before .loop .mem) (start c .args .links .now)
 links-here c = let pre = start c .pre in links-kept (pre .0 .standing .job) (c .before .loop .inv .2) (omega arith) (pre .2)
 
 list-free-requires : tie.Need-list-free-requires Inv-loop μ-loop
 list-free-requires c κs =
-    let s = c .before .before .before .before .before .before .before .before .before .before .before .before .before .pre .0 .standing in
+    let s = c .before .before .before .before .before .before .before .before .before .before .pre .0 .standing in
     (s .job, search needs, λ t l. ⊎-elim (λ z. z) (λ x. absurd (omega (arith, x .1))) (s .placed t l))
 
 loop-holds : tie.Need-loop-holds Inv-loop μ-loop
 unfolding placedIn
 loop-holds c =
-    let start = c .before .before .before .before .before .before .before .before .before .before .before .before .before .before .before in
+    let start = c .before .before .before .before .before .before .before .before .before .before .before .before in
     let new = c .before .before .before .before .new .ensures in
     let s = start .pre in
     let w = sizes (s .0 .standing .job) in
@@ -61,12 +61,12 @@ place-task-requires : tie.Need-place-task-requires Inv-loop μ-loop
 place-task-requires c κs =
     let turn = c .before .before .before in
     let job = start turn .pre .0 .standing .job in
-    let most = c .before .before .before .before .before .before .before .before .before .before .most-delay .ensures in
+    let (delays, most, few) = c .before .before .before .before .before .before .before .before .before .before .fill-delays .ensures in
     let l = turn .before .loop in
     let same = same-before 0 (jobSize (start turn .args .capacity)) (l .inv .2) (omega arith) in (
-      delays-kept job same (c .before .before .before .before .before .before .before .before .before .before .before .before .before .fill-delays .ensures),
-      no-delay-kept job same (most .0),
-      most .1,
+      delays-kept job same delays,
+      no-delay-kept job same most,
+      few,
       l .inv .8,
       record { drawn = l .inv .3; ranked = l .inv .4; more = omega (arith, turn .loop-test .taken, l .inv .1); lower = last-critical (l .inv .6) (some turn) },
       l .inv .5,
@@ -106,14 +106,13 @@ loop-again c =
 returns : tie.Need-returns Inv-loop μ-loop
 returns c =
     let l = c .before .loop in
-    let e : l .k ≡ nth (c .before .before .before .before .before .before .before .before .before .before .before .before .before .before .before .before .before .args .mem .now) 0 = omega arith in
+    let e : l .k ≡ nth (c .before .before .before .before .before .before .before .before .before .before .before .before .before .before .args .mem .now) 0 = omega arith in
     (l .inv .2, rw (← e) (l .inv .3))
 
 pub draw-lines-spec : {M : Type 1} → statement M
 draw-lines-spec = tie.close (tie.spec
     Inv-loop μ-loop (λ c. let w = sizes (c .before .before .before .before .pre .0 .standing .job) in omega arith)
     (λ c κs. ((_, c .before .before .before .before .before .before .pre .0 .standing .job), refl))
-    (λ c κs. ((_, c .before .before .before .before .before .before .before .before .before .pre .0 .standing .job), c .before .before .fill-delays .ensures))
     (λ c κs. search needs) (λ c. search needs) list-free-requires loop-holds (λ c. some c)
     (λ c. let l = c .before .loop in omega (arith, l .inv .6 .tasks .size, free-few (l .inv .6 .tasks), l .inv .1, l .inv .7, some c))
     (λ c. omega (arith, last-task c, c .before .loop .inv .1, c .before .loop .inv .7))

@@ -16,26 +16,25 @@ abbrev μ-loop : tie.MeasureT-loop
 
 loop-holds : tie.Need-loop-holds Inv-loop μ-loop
 loop-holds c =
-    let s = c .before .before .before .before .before .before .before .before .before .before .before .before in
+    let s = c .before .before .before .before .before .before .before .before .before in
     (search needs, rw (c .new .ensures) (round-first (s .args .stops .now) (s .pre .0)), ended-none (s .pre .4), search needs)
 
 run-line-requires : tie.Need-run-line-requires Inv-loop μ-loop
 run-line-requires c κs =
     let l = c .before .before .before .before .loop in
-    let p = c .before .before .before .before .before .before .before .before .before .before .before .before .before .before .before .before .before .pre in
-    let most-delay = c .before .before .before .before .before .before .most-delay .ensures in
-    let fill-delays = c .before .before .before .before .before .before .before .before .before .fill-delays .ensures in
-    let (t, n, a, f) = round-asks (l .k) (l .inv .1) (p .0) (p .1) fill-delays (most-delay .0) (c .before .before .before .loop-test .taken) in
-    (t, n, most-delay .1, l .inv .2, l .inv .1 .running, a, f, p .2, links-kept (p .0 .job) (l .inv .1 .retimed .outside) (omega arith) (p .3))
+    let p = c .before .before .before .before .before .before .before .before .before .before .before .before .before .before .pre in
+    let (delays, most, few) = c .before .before .before .before .before .before .fill-delays .ensures in
+    let (t, n, a, f) = round-asks (l .k) (l .inv .1) (p .0) (p .1) delays most (c .before .before .before .loop-test .taken) in
+    (t, n, few, l .inv .2, l .inv .1 .running, a, f, p .2, links-kept (p .0 .job) (l .inv .1 .retimed .outside) (omega arith) (p .3))
 
 add-k : tie.Need-add-k Inv-loop μ-loop
 add-k c =
-    let pre = c .before .before .before .before .before .before .before .before .before .before .before .before .before .before .before .before .before .before .before .before .before .before .pre in
+    let pre = c .before .before .before .before .before .before .before .before .before .before .before .before .before .before .before .before .before .before .before .pre in
     let z = sizes (pre .0 .job) in omega arith
 
 loop-again : tie.Need-loop-again Inv-loop μ-loop
 loop-again c =
-    let pre = c .before .before .before .before .before .before .before .before .before .before .before .before .before .before .before .before .before .before .before .before .before .before .pre in
+    let pre = c .before .before .before .before .before .before .before .before .before .before .before .before .before .before .before .before .before .before .before .pre in
     let l = c .before .before .before .before .before .before .before .before .before .loop in
     let run-line = c .before .before .before .before .run-line .ensures in
     let loop-test = c .before .before .before .before .before .before .before .before .loop-test in
@@ -43,13 +42,12 @@ loop-again c =
 
 returns : tie.Need-returns Inv-loop μ-loop
 returns c =
-    let pre = c .before .before .before .before .before .before .before .before .before .before .before .before .before .before .pre in
+    let pre = c .before .before .before .before .before .before .before .before .before .before .before .pre in
     let l = c .before .loop in round-done (l .k) (l .inv .1) (pre .0) (pre .1) (omega arith)
 
 pub run-lines-spec : {M : Type 1} → statement M
 run-lines-spec = tie.close (tie.spec
     Inv-loop μ-loop (λ c. let z = sizes (c .before .before .before .before .before .pre .0 .job) in omega arith)
-    (λ c κs. ((_, c .before .before .before .before .before .before .before .pre .0 .job), refl))
-    (λ c κs. ((_, c .before .before .before .before .before .before .before .before .before .before .pre .0 .job), c .before .before .fill-delays .ensures)) (λ c κs. search needs)
+    (λ c κs. ((_, c .before .before .before .before .before .before .before .pre .0 .job), refl)) (λ c κs. search needs)
     loop-holds run-line-requires add-k
     (λ c. search needs) loop-again (λ c. c .before .loop .inv .1 .retimed .outside .size) (λ c. c .before .loop .inv .3) returns)

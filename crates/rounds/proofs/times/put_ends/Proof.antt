@@ -7,14 +7,13 @@ use Rattle.rounds.proofs.times.put_ends.Tie as tie
 
 returns : tie.Need-returns
 returns c =
-    let first = c .before .before .before .chosen-in in
-    let last = c .before .before .chosen-in2 in
-    let ends = c .before .before .before .before .before .before .args .ends .now in
-    ends-put ends (first .result) (last .result) (c .before .before .before .before .before .before .pre .4) (first .ensures) (last .ensures) (c .before .lane-of .ensures) (c .lane-of2 .ensures)
+    let e = c .before .before .ends-in in
+    let start = c .before .before .before .before .before in
+    ends-put (start .args .ends .now) (e .result .first) (e .result .last) (start .pre .4) (e .ensures .0) (e .ensures .1) (c .before .lane-of .ensures) (c .lane-of2 .ensures)
 
 pub put-ends-spec : {M : Type 1} → statement M
 put-ends-spec = tie.close (tie.spec
-    (λ c κs. search needs) (λ c κs. search needs) (λ c κs. choice-small (c .before .before .before .before .pre .1) false (c .before .chosen-in .ensures))
+    (λ c κs. search needs) (λ c κs. choice-small (c .before .before .before .pre .1) false (c .ends-in .ensures .0))
     (λ c. search needs) (λ c. search needs) (λ c. search needs)
-    (λ c κs. choice-small (c .before .before .before .before .before .pre .1) true (c .before .chosen-in2 .ensures)) (λ c. search needs) (λ c. search needs)
+    (λ c κs. choice-small (c .before .before .before .before .pre .1) true (c .before .ends-in .ensures .1)) (λ c. search needs) (λ c. search needs)
     (λ c. search needs) (λ c. search needs) (λ c. search needs) returns)
