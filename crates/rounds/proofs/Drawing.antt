@@ -1,14 +1,13 @@
 -- The memory while a plan is drawn up: its ticks, a line more, and what a change elsewhere leaves as it was.
-use Rattle.lists.proofs.Prelude.{_≡_, refl, ap, _∙_, sym, ⊎-elim, List, [], _∷_, _++_, map, map-map, map-append, append-nil, Bool, true, false, not, _&&_, ℕ, zero, suc, _+_, _*_, _-_, _<_, _≤_, min, arith, mul-le-mul, add-zero, add-one, eqb-false, eq-eqb, ne-eqb, lt-ltb, not-true, eqb, ltb, length, set, take, take-all, take-suc, length-take-le, length-append, length-map, length-set, getD-set-same, getD-set-other, In, nth, keep, all, has, below, Limits, Edge, runTime, delay, incoming, after, arrival, dataReady, start, stopTime, finish, placementOf, tickOf, Waiting, freeTasks, ranked, trial, replicas, place, planFor}
+use Rattle.lists.proofs.Prelude.{_≡_, refl, ap, _∙_, sym, ⊎-elim, List, [], _∷_, _++_, map, map-map, map-append, append-nil, Bool, true, false, not, _&&_, ℕ, zero, suc, _+_, _*_, _-_, _<_, _≤_, min, arith, add-zero, add-one, eqb-false, eq-eqb, ne-eqb, lt-ltb, not-true, eqb, ltb, length, set, take, take-all, take-suc, length-take-le, length-append, length-map, length-set, getD-set-same, getD-set-other, nth, keep, all, has, below, Limits, Edge, runTime, incoming, dataReady, start, stopTime, finish, placementOf, tickOf, Waiting, freeTasks, ranked, trial, replicas, place, planFor}
 use Rattle.definitions.proofs.Lists.{in-map, in-keep, map-same, map-keep, in-below, all-in}
-use Rattle.definitions.proofs.Tasks.{in-incoming}
 use Rattle.definitions.proofs.Placing.{placed-count}
 use Rattle.definitions.proofs.Chosen.{chosen-count}
 use Rattle.choices.specs.Choices.{chosenOf, Begins}
 use Rattle.heads.specs.Layout.{levelAt, lineAt, blockedAt, priorityAt, rowAt, largestDelayAt, processorAt, earlyAt, lateAt, replicaEnd}
 use Rattle.jobs.specs.Held.{jobIn}
 use Rattle.jobs.specs.Tables.{messageMost, lineTicks}
-use Rattle.plans.specs.Lines.{replicaIn, rowOutcomes, placedIn, rowReplicas, linesIn, rowOf}
+use Rattle.plans.specs.Lines.{replicaIn, placedIn, rowReplicas, linesIn}
 use Rattle.rounds.specs.Schedule.{choiceOf, PredecessorsPlaced}
 use Rattle.lists.specs.Kept.{KeptOutside}
 use Rattle.rounds.specs.Planning.{isFree, blocking, freeIn, FreeList, waitingIn, replicaOn, Drawn, Ranked, Critical, Tried, processorsFor, Wrote, Begun}

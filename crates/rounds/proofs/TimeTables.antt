@@ -1,5 +1,5 @@
 -- Tables with a lane for each processor: the delays, and when data is there.
-use Rattle.lists.proofs.Prelude.{_≡_, refl, ap, _∙_, sym, ⊎-elim, List, [], _∷_, _++_, map, append-nil, append-assoc, Bool, true, false, ℕ, zero, suc, _+_, _-_, _*_, _/_, _%_, _^_, _<_, _≤_, max, min, arith, mul-le-mul, add-one, add-zero, sub-zero, eqb-true, eqb-false, eq-eqb, ltb-true, ltb-false, lt-ltb, le-ltb, ltb, eqb, length, set, length-set, replicate, length-replicate, getD-replicate, getD-set-same, getD-set-other, if_then_else_, nth, In, incoming, delay, Edge, Time, tick, never, later, sooner, after, least, largest, Outcome, ofTask, arrival, Limits}
+use Rattle.lists.proofs.Prelude.{_≡_, refl, ap, _∙_, sym, ⊎-elim, List, [], _∷_, _++_, map, append-nil, append-assoc, Bool, true, false, ℕ, zero, suc, _+_, _-_, _*_, _/_, _%_, _^_, _<_, _≤_, max, min, arith, mul-le-mul, add-one, add-zero, sub-zero, eqb-true, eqb-false, eq-eqb, ltb-true, ltb-false, lt-ltb, le-ltb, ltb, eqb, length, set, length-set, replicate, length-replicate, getD-replicate, getD-set-same, getD-set-other, if_then_else_, nth, In, incoming, delay, Edge, Time, tick, never, later, sooner, after, least, largest, Outcome, Limits}
 use lib.Ieee.{Float, nan}
 use native.Mathlib.Nat.{lt-of-not-le}
 use Rattle.definitions.specs.Times.{times, message}
@@ -17,7 +17,7 @@ use Rattle.ticks.proofs.LaneLaws.{lanes-each}
 use Rattle.rounds.specs.Schedule.{edgeFrom, choiceOf, arrivalIn, dataIn, PredecessorsPlaced}
 use Rattle.rounds.specs.Arrivals.{laneMost, DelayTable, NoDelayOver, TimeTable, OfHalf, HalfTable, LanesHeld, Raised, RaisedBy, RaisedIn, EdgeEnds, Supplied, laneTimes, endAt, BothSupplied, ShortTicks, TicksHeld, delayCells}
 use Rattle.jobs.specs.Held.{jobIn, JobHeld}
-use Rattle.jobs.specs.Tables.{messageMost, lastShort}
+use Rattle.jobs.specs.Tables.{lastShort}
 use Rattle.plans.specs.Lines.{rowOutcomes, rowOf, LinesHeld}
 use Rattle.lists.proofs.Counting.{equal-or-not}
 use Rattle.jobs.proofs.Held.{sizes, job-same, processors-in}

@@ -26,7 +26,7 @@ fn chosen_of_none(late: bool) -> u64
 }
 
 // The least early, or the largest late, of the times in the line at `a`.
-pub fn chosen_in(mem: &[u64], late: bool, a: usize) -> u64
+fn chosen_in(mem: &[u64], late: bool, a: usize) -> u64
     requires { ⌜ SomeJobHeld document01 (now mem) × (rowEnd a ≤ length (now mem)) ⌝ }
     ensures { λ r. ⌜ timeIn r ≡ choiceOf late (times (rowOutcomes late a (nth (now (mem .entry)) 3 + 1) (now (mem .entry)))) ⌝ }
 {

@@ -1,5 +1,5 @@
 -- From the last replica of the line to the first: those passed were offered to the processors of the half, and their own noted.
-use Rattle.lists.proofs.Prelude.{_≡_, refl, ap, _∙_, sym, ℕ, _≤_, _<_, _-_, _+_, arith, needs, nth, document01}
+use Rattle.lists.proofs.Prelude.{_≡_, refl, _∙_, _≤_, _<_, _-_, _+_, arith, needs, nth, document01}
 use Rattle.jobs.proofs.Held.{sizes}
 use Rattle.ticks.proofs.HeldLaws.{whole-holds, never-holds, zero-literal}
 use Rattle.rounds.specs.Arrivals.{laneMost}

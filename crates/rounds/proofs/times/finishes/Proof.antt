@@ -1,5 +1,5 @@
 -- The ready ticks in lanes, raised to the data, and a run after them.
-use Rattle.lists.proofs.Prelude.{_≡_, refl, ap, _∙_, arith, needs, true, false, document01}
+use Rattle.lists.proofs.Prelude.{_≡_, _∙_, arith, needs, true, false}
 use Rattle.rounds.proofs.TimeTables.{table-held, table-ticks, supplied-lanes, starts-held}
 use Rattle.rounds.proofs.times.finishes.Statement.{statement}
 use Rattle.rounds.proofs.times.finishes.Tie as tie

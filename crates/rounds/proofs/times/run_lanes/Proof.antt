@@ -1,5 +1,5 @@
 -- The lanes before p hold the finishes.
-use Rattle.lists.proofs.Prelude.{_≡_, refl, ℕ, _≤_, _<_, _-_, arith, needs, length, length-set, nth, tick, after, runTime}
+use Rattle.lists.proofs.Prelude.{_≡_, ℕ, _≤_, _<_, _-_, arith, needs, length, length-set, nth, tick, after, runTime}
 use Rattle.lists.proofs.ListLaws.{each-more}
 use Rattle.ticks.specs.Floats.{laneTime}
 use Rattle.jobs.specs.Held.{jobIn}

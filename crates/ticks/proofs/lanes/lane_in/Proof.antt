@@ -1,5 +1,5 @@
 -- By cases on the half.
-use Rattle.lists.proofs.Prelude.{arith, needs, eq-eqb, ne-eqb}
+use Rattle.lists.proofs.Prelude.{eq-eqb, ne-eqb}
 use Rattle.ticks.proofs.lanes.lane_in.Statement.{statement}
 use Rattle.ticks.proofs.lanes.lane_in.Tie as tie
 

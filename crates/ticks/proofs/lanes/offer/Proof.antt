@@ -1,5 +1,5 @@
 -- The lanes before p are done, in both tables.
-use Rattle.lists.proofs.Prelude.{_≡_, ap, _∙_, _≤_, _-_, _+_, _*_, _%_, arith, needs, nth}
+use Rattle.lists.proofs.Prelude.{_≡_, _≤_, _-_, _+_, arith, needs, nth}
 use Rattle.ticks.specs.Lanes as Lanes
 use Rattle.ticks.specs.Lanes.{lanes, sent, delayAt}
 use Rattle.ticks.proofs.LaneLaws.{lanes-none, lanes-next, lanes-all}
