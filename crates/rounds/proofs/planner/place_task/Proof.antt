@@ -92,7 +92,8 @@ returns c =
 pub place-task-spec : {M : Type 1} → statement M
 place-task-spec = tie.close (tie.spec
     finishes-requires
-    (λ c κs. let p = c .before .before .before .before .before .before .before .before .before .before .before .before .before .before .pre in tried (p .4) (p .5) (c .before .before .before .finishes .ensures))
+    (λ c κs. let p = c .before .before .before .before .before .before .before .before .before .before .before .before .before .before .pre in
+    tried (p .4) (p .5) (c .before .before .before .finishes .ensures))
     (λ c κs. omega (arith, small (c .before .before .before .before .before .before .before .before .before .before .before .before .before .before .before .before .before)))
     (λ c. omega (arith, small (c .before .before .before .before .before .before .before .before .before .before .before .before .before .before .before .before .before .before), c .row-at .ensures))
     (λ c. omega (

@@ -22,10 +22,11 @@ add-c c = let s = sizes (c .before .before .before .before .pre .0 .1) in omega 
 
 loop-holds : tie.Need-loop-holds Inv-loop μ-loop
 loop-holds c =
-    let a = c .before .before .before .before .args in (
+    let a = c .before .before .before .before .args in
+    let zero = whole-holds 0 (laneMost document01) (omega arith) (omega arith) in (
       omega arith,
       rw (c .before .before .no-time .ensures, c .before .no-time2 .ensures, zero-literal)
-          (offered-none (c .before .before .before .before .pre .0 .1) (a .h) (a .volume) (a .a) (nth (a .mem .now) 3 + 1) (whole-holds 0 (laneMost document01) (omega arith) (omega arith)) never-holds),
+          (offered-none (c .before .before .before .before .pre .0 .1) (a .h) (a .volume) (a .a) (nth (a .mem .now) 3 + 1) zero never-holds),
     )
 
 sub-c : tie.Need-sub-c Inv-loop μ-loop
