@@ -263,6 +263,7 @@ makespan_within j b choose k ds h =
 
 in_replicas : (n : Line) (r : Replica) (ns : List Line) → In n ns → In r n.replicas → In r (replicas_of ns)
 unfolding replicas_of
+in_replicas n r [] x'' k = elim x'' [ ]
 in_replicas n r (m ∷ ns) (inl e) k = append_left r m.replicas (replicas_of ns) (rw e k)
 in_replicas n r (m ∷ ns) (inr i) k = append_right r m.replicas (replicas_of ns) (in_replicas n r ns i k)
 
@@ -439,6 +440,7 @@ module _ (l : Limits) (j : Job) (jf : JobFacts l j) where
   -- A waiting task's bottom level is one of those given.
   in_waiting : (k : ℕ) (w : Waiting) (xs : List ℕ) → In w (waiting_from k xs) → In w.bottom xs
   unfolding waiting_from
+  in_waiting k w [] x' = elim x' [ ]
   in_waiting k w (x ∷ xs) (inl e) = inl (ap (λ w. w.bottom) e)
   in_waiting k w (x ∷ xs) (inr i) = inr (in_waiting (suc k) w xs i)
 

@@ -38,6 +38,7 @@ module _ {es : List Edge} {v : ℕ} where
 
   chain_below : {a n : ℕ} (c : Chain es v a n) (x : ℕ) → In x (a ∷ tasks_after c) → x < v
   unfolding tasks_after
+  chain_below (stay {a = a} l) x (inr k) = elim k [ ]
   chain_below (stay l) x (inl q) = rw (← q) l
   chain_below (step l e i f t c) x (inl q) = rw (← q) l
   chain_below (step l e i f t c) x (inr k) = chain_below c x k
@@ -45,6 +46,7 @@ module _ {es : List Edge} {v : ℕ} where
   -- There is a path to each task of a chain after its first.
   chain_path : {a n : ℕ} (c : Chain es v a n) (x : ℕ) → In x (tasks_after c) → Path es a x
   unfolding tasks_after
+  chain_path (stay {a = a} _) x x8 = elim x8 [ ]
   chain_path (step l e i f t c) x (inl q) = one e i f (t ∙ q)
   chain_path (step l e i f t c) x (inr k) = joined (one e i f t) (chain_path c x k)
 

@@ -35,6 +35,7 @@ doubled_line t ns h =
 
 pub in_once : (x : ℕ) (ps : List ℕ) → In x ps → In x (once ps)
 unfolding once
+in_once x [] i = elim i [ ]
 in_once x (p ∷ ps) i = by (has p ps) refl i (in_once x ps)
   where
     by : (b : Bool) → has p ps ≡ b → (p ≡ x) ⊎ In x ps → (In x ps → In x (once ps)) → In x (if b then once ps else p ∷ once ps)
@@ -97,6 +98,7 @@ length_halted ps = length-map ps (λ p. record { processor = p; tick = 0 })
 -- Each of them stops at tick 0.
 pub stops_at_zero : (x : ℕ) (ps : List ℕ) → In x ps → stop_time (halted ps) x ≡ tick 0
 unfolding stop_time
+stops_at_zero x [] i = elim i [ ]
 stops_at_zero x (p ∷ ps) i = by (eqb p x) refl i (stops_at_zero x ps)
   where
     by : (b : Bool) → eqb p x ≡ b → (p ≡ x) ⊎ In x ps → (In x ps → stop_time (halted ps) x ≡ tick 0) → (if b then tick 0 else stop_time (halted ps) x) ≡ tick 0
@@ -111,6 +113,7 @@ pub line_processors :
     (j : Job) (seen : List ℕ) (ns : List Line) → Ordered j seen ns → (n : Line) → In n ns → (t : ℕ) → n.task ≡ t
     → task_processors t ns ≡ processors_of n
 unfolding task_processors
+line_processors j seen [] _ n x4 t q = elim x4 [ ]
 line_processors j seen (m ∷ ns) (o, os) n (inl e) t q = rw (eq-eqb m.task t (ap (λ n. n.task) e ∙ q)) (ap processors_of e)
 line_processors j seen (m ∷ ns) (o, os) n (inr i) t q =
     let (before, f, g) = line_facts j (m.task ∷ seen) ns os n i in
@@ -132,6 +135,7 @@ line_placement j n c i =
 -- A replica of lines is a replica of one of them.
 pub placements_in_lem : (j : Job) (ns : List Line) (c : Placement) → In c (placements j ns) → (n : Line) × In n ns × PlacementOf j n c
 unfolding placements
+placements_in_lem j [] c i = elim i [ ]
 placements_in_lem j (n ∷ ns) c i =
     ⊎_elim (λ k. (n, inl refl, line_placement j n c k)) (λ k. let (m, h, f) = placements_in_lem j ns c k in (m, inr h, f))
     (in_append c (placements_of j n.task (processors_of n)) (placements j ns) i)
@@ -141,6 +145,7 @@ pub walk_in :
     (j : Job) (choose : List Time → Time) (stops : List Stop) (placed : List Outcome) (cs : List Placement) (d : Outcome) → In d (walk j choose stops placed cs)
     → (c : Placement) × In c cs × (earlier : List Outcome) × (outcome c (finish j choose stops earlier c) ≡ d)
 unfolding walk
+walk_in j choose stops placed [] d x' = elim x' [ ]
 walk_in j choose stops placed (c ∷ cs) d (inl e) = (c, inl refl, placed, e)
 walk_in j choose stops placed (c ∷ cs) d (inr i) =
     let (c', k, earlier, e) = walk_in j choose stops (outcome c (finish j choose stops placed c) ∷ placed) cs d i in
@@ -164,6 +169,7 @@ least_never (x ∷ xs) h = rw (h x (inl refl)) (least_never xs (λ y i. h y (inr
 
 largest_never : (xs : List Time) → In never xs → largest xs ≡ never
 unfolding largest
+largest_never [] x' = elim x' [ ]
 largest_never (x ∷ xs) (inl e) = rw e
 largest_never (x ∷ xs) (inr i) = by x (largest_never xs i)
   where

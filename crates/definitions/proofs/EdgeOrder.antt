@@ -46,6 +46,8 @@ else_smaller d e s h = ⊎_elim (λ q. absurd (false≢true (sym h ∙ q))) (λ 
 
 -- Each is the last, or smaller.
 up_to_last : (es : List Edge) (d : Edge) → Ascends es → get_last? es ≡ some d → (x : Edge) → In x es → (x ≡ d) ⊎ (smaller x d ≡ true)
+up_to_last [] d a l x x5 = elim x5 [ ]
+up_to_last (y ∷ []) d a l x (inr i) = elim i [ ]
 up_to_last (y ∷ []) d a l x (inl e) = let q : y ≡ d = cc in inl (sym e ∙ q)
 up_to_last (y ∷ z ∷ es) d a l x (inl e) = inr (rw (← e) (a.0 d (last_in (z ∷ es) d l)))
 up_to_last (y ∷ z ∷ es) d a l x (inr i) = up_to_last (z ∷ es) d a.1 l x i

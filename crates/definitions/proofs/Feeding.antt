@@ -25,6 +25,7 @@ last_cases [] = inl refl
 last_cases (x ∷ xs) = inr (last_more x xs)
 
 last_some : {A : Type 0} (x : A) (xs : List A) → In x xs → (y : A) × In y xs × (last_of xs ≡ y ∷ [])
+last_some {A = A} x [] i = elim i [ ]
 last_some x (y ∷ xs) i = last_more y xs
 
 -- Those on a processor.

@@ -245,6 +245,7 @@ module _ (j : Job) (stops : List Stop) where
 
   safe_lines : (ns : List Line) → Spared ns → (t : ℕ) → In t (line_tasks ns) → Safe t (placements j ns)
   unfolding placements
+  safe_lines [] s t x'' = elim x'' [ ]
   safe_lines (n ∷ ns) s t (inl e) =
       let (p, i, f) = s n (inl refl) in
       let ps = processors_of n in

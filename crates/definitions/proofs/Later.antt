@@ -117,11 +117,13 @@ sooner_of never y h = sooner_never y ∙ sym h
 -- The least is no later than any; none is later than the largest, nor is the largest if all are not.
 pub least_no_later : (x : Time) (xs : List Time) → In x xs → NoLater (least xs) x
 unfolding least
+least_no_later x [] x'' = elim x'' [ ]
 least_no_later x (y ∷ xs) (inl e) = rw e (sooner_first x (least xs))
 least_no_later x (y ∷ xs) (inr i) = no_later_then (sooner y (least xs)) (least xs) x (sooner_second y (least xs)) (least_no_later x xs i)
 
 pub no_later_largest : (x : Time) (xs : List Time) → In x xs → NoLater x (largest xs)
 unfolding largest
+no_later_largest x [] x'' = elim x'' [ ]
 no_later_largest x (y ∷ xs) (inl e) = rw e (first_no_later x (largest xs))
 no_later_largest x (y ∷ xs) (inr i) = no_later_then x (largest xs) (later y (largest xs)) (no_later_largest x xs i) (second_no_later y (largest xs))
 

@@ -64,6 +64,7 @@ in_append x (y ∷ xs) ys (inl e) = inl (inl e)
 in_append x (y ∷ xs) ys (inr h) = ⊎_elim (λ i. inl (inr i)) inr (in_append x xs ys h)
 
 pub append_left : {A : Type 0} (x : A) (xs ys : List A) → In x xs → In x (xs ++ ys)
+append_left {A = A} x [] ys x'' = elim x'' [ ]
 append_left x (y ∷ xs) ys (inl e) = inl e
 append_left x (y ∷ xs) ys (inr h) = inr (append_left x xs ys h)
 
@@ -72,10 +73,12 @@ append_right x [] ys h = h
 append_right x (y ∷ xs) ys h = inr (append_right x xs ys h)
 
 pub in_map : {A B : Type 0} (f : A → B) (y : B) (xs : List A) → In y (map f xs) → (x : A) × In x xs × (f x ≡ y)
+in_map {A = A} {B = B} f y [] x' = elim x' [ ]
 in_map f y (x ∷ xs) (inl e) = (x, inl refl, e)
 in_map f y (x ∷ xs) (inr h) = let r = in_map f y xs h in (r.0, inr r.1, r.2)
 
 pub map_in : {A B : Type 0} (f : A → B) (x : A) (xs : List A) → In x xs → In (f x) (map f xs)
+map_in {A = A} {B = B} f x [] x'' = elim x'' [ ]
 map_in f x (y ∷ xs) (inl e) = inl (ap f e)
 map_in f x (y ∷ xs) (inr h) = inr (map_in f x xs h)
 
@@ -88,10 +91,13 @@ reverse_right x [] ys i = i
 reverse_right x (y ∷ xs) ys i = reverse_right x xs (y ∷ ys) (inr i)
 
 pub reverse_left : {A : Type 0} (x : A) (xs ys : List A) → In x xs → In x (reverse_aux xs ys)
+reverse_left {A = A} x [] ys x'' = elim x'' [ ]
 reverse_left x (y ∷ xs) ys (inl e) = reverse_right x xs (y ∷ ys) (inl e)
 reverse_left x (y ∷ xs) ys (inr i) = reverse_left x xs (y ∷ ys) i
 
 pub in_take : {A : Type 0} (k : ℕ) (x : A) (xs : List A) → In x (take k xs) → In x xs
+in_take {A = A} zero x xs x3 = elim x3 [ ]
+in_take {A = A} (suc k) x [] x5 = elim x5 [ ]
 in_take (suc k) x (y ∷ xs) (inl e) = inl e
 in_take (suc k) x (y ∷ xs) (inr i) = inr (in_take k x xs i)
 
@@ -101,6 +107,7 @@ some_in [] h = absurd (true≢false h)
 some_in (x ∷ xs) h = (x, inl refl)
 
 pub in_some : {A : Type 0} (x : A) (xs : List A) → In x xs → empty xs ≡ false
+in_some {A = A} x [] i = elim i [ ]
 in_some x (y ∷ xs) i = refl
 
 pub last_of : {A : Type 0} (xs : List A) (x : A) → get_last? (xs ++ x ∷ []) ≡ some x
@@ -114,6 +121,7 @@ last_in (y ∷ []) x h = inl cc
 last_in (y ∷ z ∷ xs) x h = inr (last_in (z ∷ xs) x h)
 
 pub no_last : {A : Type 0} (xs : List A) → get_last? xs ≡ none → (x : A) → In x xs → ⊥
+no_last {A = A} [] h x i = elim i [ ]
 no_last (y ∷ []) h x i = let z : ◌≡◌ {A = ℕ} 0 1 = cc in omega arith
 no_last (y ∷ z ∷ xs) h x i = no_last (z ∷ xs) h z (inl refl)
 
@@ -143,11 +151,13 @@ any_in f (x ∷ xs) h =
 
 pub in_any : {A : Type 0} (f : A → Bool) (x : A) (xs : List A) → In x xs → f x ≡ true → any f xs ≡ true
 unfolding any
+in_any {A = A} f x [] x3 t = elim x3 [ ]
 in_any f x (y ∷ xs) (inl e) t = let q : f y ≡ true = rw e t in rw q
 in_any f x (y ∷ xs) (inr h) t = either_right (f y) (in_any f x xs h t)
 
 pub none_in : {A : Type 0} (f : A → Bool) (x : A) (xs : List A) → any f xs ≡ false → In x xs → f x ≡ false
 unfolding any
+none_in {A = A} f x [] h x3 = elim x3 [ ]
 none_in f x (y ∷ xs) h (inl e) = let q = (neither (f y) (any f xs) h).0 in rw e at q
 none_in f x (y ∷ xs) h (inr i) = none_in f x xs (neither (f y) (any f xs) h).1 i
 
@@ -158,6 +168,7 @@ none_any f (x ∷ xs) h = neither_false (h x (inl refl)) (none_any f xs (λ y i.
 
 pub all_in : {A : Type 0} (f : A → Bool) (x : A) (xs : List A) → all f xs ≡ true → In x xs → f x ≡ true
 unfolding all
+all_in {A = A} f x [] h x3 = elim x3 [ ]
 all_in f x (y ∷ xs) h (inl e) = let q = (both (f y) (all f xs) h).0 in rw e at q
 all_in f x (y ∷ xs) h (inr i) = all_in f x xs (both (f y) (all f xs) h).1 i
 
@@ -170,6 +181,7 @@ in_all f (x ∷ xs) h = both_true (h x (inl refl)) (in_all f xs (λ y i. h y (in
 
 pub in_keep : {A : Type 0} (f : A → Bool) (x : A) (xs : List A) → In x (keep f xs) → In x xs × (f x ≡ true)
 unfolding keep
+in_keep {A = A} f x [] h = elim h [ ]
 in_keep f x (y ∷ xs) h = by (f y) refl h (in_keep f x xs)
   where
     by : (b : Bool) → f y ≡ b → In x (if b then y ∷ keep f xs else keep f xs) → (In x (keep f xs) → In x xs × (f x ≡ true)) → ((y ≡ x) ⊎ In x xs) × (f x ≡ true)
@@ -179,6 +191,7 @@ in_keep f x (y ∷ xs) h = by (f y) refl h (in_keep f x xs)
 
 pub keep_in : {A : Type 0} (f : A → Bool) (x : A) (xs : List A) → In x xs → f x ≡ true → In x (keep f xs)
 unfolding keep
+keep_in {A = A} f x [] x3 t = elim x3 [ ]
 keep_in f x (y ∷ xs) (inl e) t = let q : f y ≡ true = rw e t in rw q (inl e)
 keep_in f x (y ∷ xs) (inr i) t = by (f y) (keep_in f x xs i t)
   where
@@ -247,6 +260,7 @@ head_apart x xs n d = rw (has_not x xs n) d
 
 -- a list without one of its members
 shrink : (b : ℕ) (ys : List ℕ) → In b ys → (zs : List ℕ) × (length ys ≡ suc (length zs)) × ((x : ℕ) → In x ys → (b ≡ x) ⊎ In x zs)
+shrink b [] x' = elim x' [ ]
 shrink b (y ∷ ys) (inl e) = (ys, refl, λ x. ⊎_elim (λ f. inl (sym e ∙ f)) inr)
 shrink b (y ∷ ys) (inr i) =
     let r = shrink b ys i in
@@ -295,6 +309,7 @@ without x xs = keep (λ y. not (eqb y x)) xs
 
 pub one_less : (x : ℕ) (xs : List ℕ) → distinct xs ≡ true → In x xs → length xs ≡ suc (length (without x xs))
 unfolding keep
+one_less x [] d i = elim i [ ]
 one_less x (y ∷ xs) d i = let (n, d') = apart_head y xs d in by (eqb y x) refl n i (one_less x xs d')
   where
     by : (b : Bool) → eqb y x ≡ b → (In y xs → ⊥) → (y ≡ x) ⊎ In x xs → (In x xs → length xs ≡ suc (length (without x xs)))
@@ -315,6 +330,7 @@ length_count k (suc n) = ap suc (length_count (suc k) n)
 
 pub in_count : (k n x : ℕ) → In x (count_from k n) → (k ≤ x) × (x < k + n)
 unfolding count_from
+in_count k zero x x3 = elim x3 [ ]
 in_count k (suc n) x (inl e) = omega arith
 in_count k (suc n) x (inr i) = let r = in_count (suc k) n x i in omega arith
 

@@ -103,6 +103,7 @@ module _ (j : Job) where
   -- Each outcome of the walk over a task's replicas is one of the task, and where there is a replica there is one.
   walked_tasks : (choose : List Time → Time) (t : ℕ) (ps : List ℕ) (ds : List Outcome) (u : ℕ) → In u (outcome_tasks (walked choose t ps ds)) → t ≡ u
   unfolding walk
+  walked_tasks choose t [] ds u x' = elim x' [ ]
   walked_tasks choose t (p ∷ ps) ds u (inl e) = e
   walked_tasks choose t (p ∷ ps) ds u (inr i) = walked_tasks choose t ps _ u i
 

@@ -114,6 +114,7 @@ module _ {A : Type 0} (form : Reader A) (rule : List A → A → ℕ) where
   -- A line that was read has its form and passed its rule; line i had i lines before it.
   pub ruled_in : (seen xs : List A) → Ruled form rule seen xs → (a : A) → In a xs
       → (before : List A) × Formed form a × (rule before a ≡ 0)
+  ruled_in seen [] _ a x3 = elim x3 [ ]
   ruled_in seen (x ∷ xs) (f, z, w) a (inl e) = (seen, rw e at f, rw e at z)
   ruled_in seen (x ∷ xs) (f, z, w) a (inr i) = ruled_in (seen ++ x ∷ []) xs w a i
 

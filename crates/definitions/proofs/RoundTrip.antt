@@ -40,6 +40,7 @@ length_triples (r ∷ rs) = omega (arith, length_triples rs)
 
 in_triples : (most : ℕ) (rs : List Replica) → ((r : Replica) → In r rs → (r.processor < most) × (r.early < most) × (r.late < most)) → (v : ℕ) → In v (replica_numbers rs) → v < most
 unfolding replica_numbers
+in_triples most [] h v x'' = elim x'' [ ]
 in_triples most (r ∷ rs) h v (inl e) = rw e at (h r (inl refl)).0
 in_triples most (r ∷ rs) h v (inr (inl e)) = rw e at (h r (inl refl)).1
 in_triples most (r ∷ rs) h v (inr (inr (inl e))) = rw e at (h r (inl refl)).2
@@ -99,6 +100,7 @@ module _ (l : Limits) (roomy : Roomy l) (j : Job) (facts : JobFacts l j) where
   -- A plan ---------------------------------------------------------------------------------------------------
 
   head_numbers_lem : (p : Plan) → p.lower < 10 ^ l.powers → p.upper < 10 ^ l.powers → (v : ℕ) → In v (head_numbers j p) → v < 10 ^ l.powers
+  head_numbers_lem p lower upper v (inr (inr (inr (inr (inr x5))))) = elim x5 [ ]
   head_numbers_lem p lower upper v (inl e) = omega arith
   head_numbers_lem p lower upper v (inr (inl e)) = omega arith
   head_numbers_lem p lower upper v (inr (inr (inl e))) = omega arith

@@ -44,6 +44,7 @@ tasks_more ns ts n (to, back) =
 pub line_facts :
     (j : Job) (seen : List ℕ) (ns : List Line) → Ordered j seen ns → (n : Line) → In n ns
     → (before : List ℕ) × LineFacts j before n × ((t : ℕ) → In t seen → In t before)
+line_facts j seen [] _ n x3 = elim x3 [ ]
 line_facts j seen (m ∷ ns) (o, os) n (inl e) = (seen, rw (← e) o, λ t i. i)
 line_facts j seen (m ∷ ns) (o, os) n (inr i) =
     let (before, f, g) = line_facts j (m.task ∷ seen) ns os n i in
