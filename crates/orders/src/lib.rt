@@ -1,4 +1,6 @@
 // Edges, one in a cell, and their links: the runs of the edges that leave and enter each task, and an order of the tasks.
+#![tactic(auto)]
+
 ghost use Rattle.std.specs.Prelude.{◌≡◌, ◌+◌, ◌<◌};
 ghost use Rattle.orders.specs.Edges.{edge_in, pair_in};
 ghost use Rattle.orders.specs.Links.{out_start_at, in_start_at, order_at, link_in, LinkedFrom};
