@@ -1,4 +1,6 @@
 // Checks the plan in plan.txt against the job in job.txt: prints `OK`, or `N,` and the number, for 12 also the task.
+#![tactic(auto)]
+
 ghost use Rattle.std.specs.Prelude.{length, List, ◌≡◌, ℕ};
 ghost use Rattle.definitions.specs.Limits.{document01};
 ghost use Rattle.definitions.specs.Tools.{Says, check_printed, verdict};

@@ -1,4 +1,6 @@
 // E lines: each edge in one cell.
+#![tactic(auto)]
+
 ghost use Rattle.std.specs.Prelude.{◌≡◌, map, length, take, drop};
 ghost use Rattle.definitions.specs.Limits.{document01};
 ghost use Rattle.text.specs.Meaning.{step_reading};

@@ -1,4 +1,7 @@
 // The library for C and Rust: numbers and byte slices.
+#![tactic(auto)]
+
+ghost use Rattle.std.specs.Prelude.{length};
 ghost use Rattle.definitions.specs.Claims.{Bears, Breaks};
 ghost use Rattle.definitions.specs.Limits.{document01};
 ghost use Rattle.definitions.specs.Tools.{plan_answer, verdict, replay_answer};
@@ -10,7 +13,7 @@ use mirguneth::{Answer, Checked};
 // A job's text in cells: 0 with the number of cells written, or the number of the refusal.
 #[unsafe(no_mangle)]
 pub extern "C" fn mirguneth_read_job(text: &[u8], cells: &mut [u64], written: &mut u64) -> u64
-    ensures* { do ⌜ Exported (job_answer document01 text.now (← (⟦cells.len()⟧).entry)) cells.old cells.new written.old written.new result ⌝ }
+    ensures { Exported (job_answer document01 text.now (length cells.old)) cells.old cells.new written.old written.new result }
 {
     match mirguneth::read_job(text, cells) {
         Answer::Done(count) => {
@@ -24,7 +27,7 @@ pub extern "C" fn mirguneth_read_job(text: &[u8], cells: &mut [u64], written: &m
 // The plan for a job: 0 with the number of bytes written, or the number of the refusal.
 #[unsafe(no_mangle)]
 pub extern "C" fn mirguneth_plan(job: &[u8], out: &mut [u8], written: &mut u64) -> u64
-    ensures* { do ⌜ Exported (plan_answer document01 job.now (← (⟦out.len()⟧).entry)) out.old out.new written.old written.new result ⌝ }
+    ensures { Exported (plan_answer document01 job.now (length out.old)) out.old out.new written.old written.new result }
 {
     match mirguneth::plan(job, out) {
         Answer::Done(n) => {
@@ -60,9 +63,8 @@ pub extern "C" fn mirguneth_replay(
     out: &mut [u8],
     written: &mut u64,
 ) -> u64
-    ensures* fact { do
-      ⌜ Exported (replay_answer document01 job.now plan.now stops.now (← (⟦out.len()⟧).entry)) out.old
-          out.new written.old written.new result ⌝ }
+    ensures answered { Exported (replay_answer document01 job.now plan.now stops.now (length out.old)) out.old
+        out.new written.old written.new result }
     ensures bears { Bears job.now plan.now stops.now }
 {
     match mirguneth::replay(job, plan, stops, out) {

@@ -1,4 +1,6 @@
 // A job's text, read into a memory, and the links between its edges, into another.
+#![tactic(auto)]
+
 ghost use Rattle.std.specs.Prelude.{length, drop};
 ghost use Rattle.definitions.specs.Limits.{document01};
 ghost use Rattle.heads.specs.Heads.{head_of};
@@ -42,7 +44,7 @@ pub fn load_job(
 
 // Reads a job's text into the lent cells.
 pub fn read_job(text: &[u8], cells: &mut [u64]) -> Answer
-    ensures* { do ⌜ Answered (job_answer document01 text.now (← (⟦cells.len()⟧).entry)) cells.old cells.new result ⌝ }
+    ensures { Answered (job_answer document01 text.now (length cells.old)) cells.old cells.new result }
 {
     match heads::read_head(text) {
         Opening::Opened(head, at) => {

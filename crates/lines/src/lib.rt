@@ -1,4 +1,6 @@
 // Lines of numbers, read.
+#![tactic(auto)]
+
 ghost use Rattle.std.specs.Prelude.{◌≡◌, ◌<◌, length, take, drop};
 ghost use Rattle.definitions.specs.Limits.{document01};
 ghost use Rattle.text.specs.Meaning.{step_reading, line_into};

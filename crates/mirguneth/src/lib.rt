@@ -1,4 +1,7 @@
 // Plans for watering rounds: a reader of jobs, a planner, a checker of plans and a replay of stops.
+#![tactic(auto)]
+
+ghost use Rattle.std.specs.Prelude.{length};
 ghost use Rattle.definitions.specs.Claims.{Bears, Breaks};
 ghost use Rattle.definitions.specs.Limits.{document01};
 ghost use Rattle.definitions.specs.Tools.{plan_answer, verdict, replay_answer};
@@ -13,14 +16,14 @@ mod choice;
 
 // Reads a job's text into the lent cells.
 pub fn read_job(text: &[u8], cells: &mut [u64]) -> Answer
-    ensures* { do ⌜ Answered (job_answer document01 text.now (← (⟦cells.len()⟧).entry)) cells.old cells.new result ⌝ }
+    ensures { Answered (job_answer document01 text.now (length cells.old)) cells.old cells.new result }
 {
     jobs::read_job(text, cells)
 }
 
 // Draws up a plan for a job's text, and writes it into `out`.
 pub fn plan(job: &[u8], out: &mut [u8]) -> Answer
-    ensures* { do ⌜ Answered (plan_answer document01 job.now (← (⟦out.len()⟧).entry)) out.old out.new result ⌝ }
+    ensures { Answered (plan_answer document01 job.now (length out.old)) out.old out.new result }
 {
     let none = [0u8; 0];
     choice::answer_of(choice::answer(Tool::Plan, job, &none, &none, out))
@@ -40,7 +43,7 @@ pub fn check(job: &[u8], plan: &[u8]) -> Checked
 // Replays a plan for a job under a list of stops: writes the R lines and the L line into `out`. If the plan is accepted and
 // the stops are at most ε, every R line has a tick, and the L line has one between M* and M.
 pub fn replay(job: &[u8], plan: &[u8], stops: &[u8], out: &mut [u8]) -> Answer
-    ensures* fact { do ⌜ Answered (replay_answer document01 job.now plan.now stops.now (← (⟦out.len()⟧).entry)) out.old out.new result ⌝ }
+    ensures answered { Answered (replay_answer document01 job.now plan.now stops.now (length out.old)) out.old out.new result }
     ensures bears { Bears job.now plan.now stops.now }
 {
     choice::answer_of(choice::answer(Tool::Replay, job, plan, stops, out))

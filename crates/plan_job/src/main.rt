@@ -1,4 +1,6 @@
 // Prints the plan for the job in job.txt, or `N,` and the number.
+#![tactic(auto)]
+
 ghost use Rattle.std.specs.Prelude.{length, ◌≡◌};
 ghost use Rattle.definitions.specs.Tools.{plan_printed};
 ghost use Rattle.io.specs.Counts.{IsPrefixLen};

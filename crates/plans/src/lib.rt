@@ -1,4 +1,6 @@
 // The texts of a job and of a plan for it, read into a memory.
+#![tactic(auto)]
+
 ghost use Rattle.std.specs.Prelude.{length, drop};
 ghost use Rattle.definitions.specs.Limits.{document01};
 ghost use Rattle.heads.specs.Heads.{head_of};

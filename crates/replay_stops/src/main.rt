@@ -1,5 +1,7 @@
 // Replays the plan in plan.txt for the job in job.txt under the stops in stops.txt: prints the R and L lines, or `N,` and
 // the number.
+#![tactic(auto)]
+
 ghost use Rattle.std.specs.Prelude.{length, ◌≡◌};
 ghost use Rattle.definitions.specs.Tools.{replay_printed};
 ghost use Rattle.io.specs.Counts.{IsPrefixLen};

@@ -1,5 +1,7 @@
 // A plan's line in cells: its task, then three cells for each replica: processor, early time, late time. Lines with two replicas on one
 // processor, a line's first finish, and the lines of a replay's answer.
+#![tactic(auto)]
+
 ghost use Rattle.std.specs.Prelude.{◌≡◌, [], ◌≤◌, leb, length};
 ghost use Rattle.definitions.specs.Lists.{if◌then◌else◌};
 ghost use Rattle.definitions.specs.Limits.{document01};

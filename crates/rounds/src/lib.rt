@@ -1,4 +1,6 @@
 // The planner, the checker and the replay, from texts to text, each in a working memory that is lent.
+#![tactic(auto)]
+
 ghost use Rattle.std.specs.Prelude.{length, drop};
 ghost use Rattle.definitions.specs.Limits.{document01};
 ghost use Rattle.jobs.specs.Answers.{Answered};
@@ -47,9 +49,8 @@ pub fn plan_in(
     capacity: usize,
     out: &mut [u8],
 ) -> Answer
-    ensures* { do
-      ⌜ Answered (plan_of document01 (job_from document01 capacity (length mem.old) (length links.old) (head_of head) (drop at job.now)) (← (⟦out.len()⟧).entry))
-          out.old out.new result ⌝ }
+    ensures { Answered (plan_of document01 (job_from document01 capacity (length mem.old) (length links.old) (head_of head) (drop at job.now)) (length out.old))
+        out.old out.new result }
 {
     match jobs::load_job(job, at, head, mem, links, capacity) {
         Step::Next(_) => tools::put_plan(mem, &links[..], capacity, out),
@@ -88,9 +89,8 @@ pub fn replay_in(
     capacity: usize,
     out: &mut [u8],
 ) -> Answer
-    ensures* { do
-      ⌜ Answered (replay_both document01 (both_from document01 capacity (length mem.old) (length links.old) (head_of head) (drop at job.now) plan.now)
-          stops.now (← (⟦out.len()⟧).entry)) out.old out.new result ⌝ }
+    ensures { Answered (replay_both document01 (both_from document01 capacity (length mem.old) (length links.old) (head_of head) (drop at job.now) plan.now)
+        stops.now (length out.old)) out.old out.new result }
 {
     match plans::load_both(job, at, head, plan, mem, links, capacity) {
         Step::Next(_) => tools::put_replay(stops, mem, &links[..], capacity, out),

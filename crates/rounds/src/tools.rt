@@ -33,7 +33,7 @@ fn plan_fits(mem: &[u64], capacity: usize, room: usize) -> bool
 // Draws up the plan of the job in memory, and writes it into `out`, if it fits.
 pub fn put_plan(mem: &mut [u64], links: &[u64], capacity: usize, out: &mut [u8]) -> Answer
     requires { JobHeld document01 capacity mem.old × LinksHeld mem.old links.now }
-    ensures* { do ⌜ Answered (fitting (← (⟦out.len()⟧).entry) (planned document01 (job_in mem.old))) out.old out.new result ⌝ }
+    ensures { Answered (fitting (length out.old) (planned document01 (job_in mem.old))) out.old out.new result }
 {
     let lower_at = LOWER * capacity;
     let upper_at = UPPER * capacity;
@@ -69,9 +69,8 @@ pub fn put_replay(
     out: &mut [u8],
 ) -> Answer
     requires { PlanHeld document01 capacity mem.old × LinksHeld mem.old links.now }
-    ensures* { do
-      ⌜ Answered (replay_of document01 stops.now (← (⟦out.len()⟧).entry) (job_in mem.old, plan_in capacity mem.old))
-          out.old out.new result ⌝ }
+    ensures { Answered (replay_of document01 stops.now (length out.old) (job_in mem.old, plan_in capacity mem.old))
+        out.old out.new result }
 {
     let mut cells = [0u64; 16];
     let m = mem[1];

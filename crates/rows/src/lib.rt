@@ -1,4 +1,6 @@
 // C and D lines: rows of numbers, each with its own number in front.
+#![tactic(auto)]
+
 ghost use Rattle.std.specs.Prelude.{◌≡◌, length, drop};
 ghost use Rattle.definitions.specs.Limits.{document01};
 ghost use Rattle.text.specs.Meaning.{step_reading};
