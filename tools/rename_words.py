@@ -18,7 +18,7 @@ FALLING = {w: w + "_lem" for w in "after_last edge_order edges_fit free_in is_di
     for w in (
         "bottom-levels cell-time delay-at doubled-in edge-astray edge-cell field-length first-ready free-tasks from-delays from-edges from-head "
         "has-line head-numbers in-range job-from job-in lane-most level-most line-cell line-count line-in line-ticks link-in message-most "
-        "on-processor placed-after placed-in placements-in plan-head-rule plan-length plan-line-rule plan-lines plan-printed plan-text "
+        "to-signed to-unsigned on-processor placed-after placed-in placements-in plan-head-rule plan-length plan-line-rule plan-lines plan-printed plan-text "
         "processor-at replay-both replay-printed replay-text replica-on row-replicas run-time same-numbers same-times scaled-most stop-rule "
         "task-line tasks-in time-at time-of top-most verdict-both waiting-from waiting-tasks"
     ).split()

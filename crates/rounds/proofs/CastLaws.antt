@@ -13,7 +13,7 @@ use Rattle.definitions.proofs.Bounds.{least_within, largest_within}
 use Rattle.heads.specs.Layout.{time_at}
 use Rattle.ticks.specs.Cells.{never_cell, time_in, Small}
 use Rattle.ticks.specs.Floats.{whole, float_of, time_of, Held, lane}
-use Rattle.ticks.proofs.Wholes.{Fine, to_unsigned}
+use Rattle.ticks.proofs.Wholes.{Fine, to_unsigned_lem}
 use Rattle.ticks.proofs.HeldLaws.{held_more, add_holds, lt_no, signed_holds, never_no}
 use Rattle.plans.specs.Lines.{row_outcomes, RowHeld}
 use Rattle.rounds.specs.Schedule.{choice_of}
@@ -24,7 +24,7 @@ use Rattle.rounds.proofs.Placed.{in_row}
 -- The number in a float, through a cell of 32 bits.
 unsigned_times : (b : ℕ) (t : Time) → Fine b → Within b t → (n : ℕ) → t ≡ tick n → n < 2 ^ 32 → T (in_unsigned binary64 32 (float_of t)) × (to_unsigned 32 (float_of t) ≡ n)
 unsigned_times b never f w n e l = let z : ◌≡◌ {A = ℕ} 0 1 = cc in absurd (omega arith)
-unsigned_times b (tick m) f w n e l = let k : m ≡ n = cc in let q = to_unsigned m (omega arith) 32 (omega arith) in (q.0, q.1 ∙ k)
+unsigned_times b (tick m) f w n e l = let k : m ≡ n = cc in let q = to_unsigned_lem m (omega arith) 32 (omega arith) in (q.0, q.1 ∙ k)
 
 pub unsigned_holds : {b : ℕ} {x : Float} → Fine b → Held b x → (n : ℕ) → time_of x ≡ tick n → n < 2 ^ 32 → T (in_unsigned binary64 32 x) × (to_unsigned 32 x ≡ n)
 unsigned_holds {b} {x} f h n e l =

@@ -11,7 +11,7 @@ use Rattle.definitions.proofs.Bounds.{weaker}
 use Rattle.definitions.proofs.Later.{no_later_self, no_later_then}
 use Rattle.ticks.specs.Floats.{whole, float_of, time_of, Held, lane, lane_time}
 use Rattle.ticks.specs.Lanes.{lesser, greater, sent, least_lane}
-use Rattle.ticks.proofs.Wholes.{Fine, add_whole, mul_whole, lt_whole, never_add, never_lt, lt_never, never_lt_never, time_whole, time_never, to_signed, eq_never, never_eq_never}
+use Rattle.ticks.proofs.Wholes.{Fine, add_whole, mul_whole, lt_whole, never_add, never_lt, lt_never, never_lt_never, time_whole, time_never, to_signed_lem, eq_never, never_eq_never}
 
 -- A float that is held, with its time.
 abbrev pub Holds : ℕ → Float → Time → Type 0
@@ -153,7 +153,7 @@ is_never (tick n) = false
 
 signed_times : (b : ℕ) (t : Time) → Fine b → Within b t → (n : ℕ) → t ≡ tick n → T (in_signed binary64 63 (float_of t)) × (to_signed 63 (float_of t) ≡ pos n) × (n ≤ b)
 signed_times b never f w n e = let z : ◌≡◌ {A = ℕ} 0 1 = cc in absurd (omega arith)
-signed_times b (tick m) f w n e = let q = to_signed m (omega arith) 63 (omega arith) in let k : m ≡ n = cc in (q.0, q.1 ∙ ap pos k, omega arith)
+signed_times b (tick m) f w n e = let q = to_signed_lem m (omega arith) 63 (omega arith) in let k : m ≡ n = cc in (q.0, q.1 ∙ ap pos k, omega arith)
 
 pub signed_holds : {b : ℕ} {x : Float} → Fine b → Held b x → (n : ℕ) → time_of x ≡ tick n → T (in_signed binary64 63 x) × (to_signed 63 x ≡ pos n) × (n ≤ b)
 signed_holds {b} {x} f h n e =

@@ -152,8 +152,8 @@ module _ (n : ℕ) (h : Fine n) where
   unfolding in_float
   fine_cast = le→leb n (2 ^ 53) h
 
-  pub to_unsigned : (w : ℕ) → n < 2 ^ w → T (in_unsigned binary64 w (whole n)) × (to_unsigned w (whole n) ≡ n)
-  to_unsigned w l = unsigned_back binary64 w n fine_cast l
+  pub to_unsigned_lem : (w : ℕ) → n < 2 ^ w → T (in_unsigned binary64 w (whole n)) × (to_unsigned w (whole n) ≡ n)
+  to_unsigned_lem w l = unsigned_back binary64 w n fine_cast l
 
-  pub to_signed : (w : ℕ) → n < 2 ^ w → T (in_signed binary64 w (whole n)) × (to_signed w (whole n) ≡ pos n)
-  to_signed w l = positive_back binary64 w n fine_cast l
+  pub to_signed_lem : (w : ℕ) → n < 2 ^ w → T (in_signed binary64 w (whole n)) × (to_signed w (whole n) ≡ pos n)
+  to_signed_lem w l = positive_back binary64 w n fine_cast l
