@@ -16,6 +16,7 @@ listed_length order (suc n) = ap suc (listed_length order n)
 -- A task is listed exactly if it has a place.
 pub listed_place : (order : List ℕ) (n t : ℕ) → In t (listed order n) → (k : ℕ) × (k < n) × (nth order k ≡ t)
 unfolding listed
+listed_place order zero t x' = elim x' [ ]
 listed_place order (suc n) t (inl e) = (n, omega arith, e)
 listed_place order (suc n) t (inr i) = let (k, h, e) = listed_place order n t i in (k, omega arith, e)
 

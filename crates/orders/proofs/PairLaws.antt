@@ -36,6 +36,7 @@ pair_smaller c d = by (ltb (c % 256) (d % 256)) refl (eqb (c % 256) (d % 256)) r
 module _ (v : ℕ) where
   ascending_from : (least : ℕ) (cells : List ℕ) → ascending v least cells ≡ true → (c : ℕ) → In c cells → least ≤ pair_in c
   unfolding ascending
+  ascending_from least [] h c i = elim i [ ]
   ascending_from least (d ∷ cells) h c i =
       let (p, q) = both (inner v d) _ h in
       let (l, r) = both (leb least (pair_in d)) _ q in

@@ -45,6 +45,7 @@ module _ {A : Type 0} (f : A → Bool) where
   count_none xs z x i t = some (keep f xs) z (keep_in f x xs i t)
     where
       some : (ys : List A) → length ys ≡ 0 → In x ys → ⊥
+      some [] z j = elim j [ ]
       some (y ∷ ys) z j = omega (arith, z)
 
 -- What is counted is there.

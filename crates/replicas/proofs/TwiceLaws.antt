@@ -68,6 +68,7 @@ module _ (w : ℕ) (lines : List ℕ) where
   -- What the answer says of the lines.
   pub first_all : (n : ℕ) → first_twice w n lines ≡ [] → (k : ℕ) → k < n → twice (cells_of w k lines) ≡ false
   unfolding first_twice
+  first_all zero h k l = elim l [ ]
   first_all (suc n) h k l = by (first_all n) (first_twice w n lines) refl (twice (cells_of w n lines)) refl h
     where
       by : (first_twice w n lines ≡ [] → (k : ℕ) → k < n → twice (cells_of w k lines) ≡ false) → (a : List ℕ) → first_twice w n lines ≡ a → (b : Bool) → twice (cells_of w n lines) ≡ b

@@ -69,6 +69,7 @@ module _ {lim : Limits} {capacity : ℕ} {mem : List ℕ} (h : PlanHeld lim capa
 module _ {lim : Limits} {capacity : ℕ} {mem : List ℕ} (h : PlanHeld lim capacity mem) (k : ℕ) (l : k ≤ nth mem 0) (s : ShortTo lim capacity k mem) where
   placed_on : (late : Bool) (i : ℕ) → i ≤ nth mem 0 → (d : Outcome) → In d (placed_in capacity late (nth mem 3 + 1) i mem) → d.processor < nth mem 1
   unfolding placed_in
+  placed_on late zero g d m = elim m [ ]
   placed_on late (suc i) g d m =
       ⊎_elim
       (row_on late (row_at capacity i) (nth mem 3 + 1) (nth mem 1) mem (h.standing.row i (omega arith)).processor_of d)

@@ -1,5 +1,5 @@
 -- The first finish of a task, and the lowest processor that has it.
-use Rattle.lists.proofs.Prelude.{◌≡◌, if◌then◌else◌, never, refl, ap, ◌∙◌, sym, ◌⊎◌, inl, inr, ⊎_elim, List, [], ◌∷◌, map, Bool, true, false, false≢true, ℕ, zero, suc, ◌+◌, ◌-◌, ◌<◌, ◌≤◌, min, arith, add-one, eqb-true, ltb-true, ltb-false, eqb, ltb, nth, In, keep, Time, tick, sooner, same, least, Outcome, times, first_finish, lowest, first_processor, Limits}
+use Rattle.lists.proofs.Prelude.{◌≡◌, if◌then◌else◌, never, refl, subst, ap, ◌∙◌, sym, ◌⊎◌, inl, inr, ⊎_elim, List, [], ◌∷◌, map, Bool, true, false, false≢true, ℕ, zero, suc, ◌+◌, ◌-◌, ◌<◌, ◌≤◌, min, arith, add-one, eqb-true, ltb-true, ltb-false, eqb, ltb, nth, In, keep, Time, tick, sooner, same, least, Outcome, times, first_finish, lowest, first_processor, Limits}
 use Rattle.definitions.proofs.Lists.{in_map, map_in, in_keep, keep_in}
 use Rattle.definitions.proofs.Guarantee.{time_same}
 use Rattle.heads.specs.Layout.{line_at, processor_at, early_at}
@@ -34,6 +34,7 @@ sooner_one x never z e = inr e
 
 least_most : (x : ℕ) (ys : List Time) → NotBefore x (least ys) → (y : Time) → In y ys → NotBefore x y
 unfolding least
+least_most x [] h y x3 = elim x3 [ ]
 least_most x (z ∷ ys) h y (inl e) = rw e at (sooner_both x z (least ys) h).0
 least_most x (z ∷ ys) h y (inr i) = least_most x ys (sooner_both x z (least ys) h).1 y i
 
@@ -60,6 +61,8 @@ least_same xs ys f g = by (least xs) (least ys) refl refl
 
 lowest_most : (q : ℕ) (ps : List ℕ) → In q ps → lowest ps ≤ q
 unfolding lowest
+lowest_most q [] x' = elim x' [ ]
+lowest_most q (p ∷ []) (inr i) = elim i [ ]
 lowest_most q (p ∷ []) (inl e) = omega arith
 lowest_most q (p ∷ r ∷ ps) (inl e) = omega arith
 lowest_most q (p ∷ r ∷ ps) (inr i) = omega (arith, lowest_most q (r ∷ ps) i)
@@ -69,9 +72,10 @@ unfolding lowest
 lowest_in p [] = inl refl
 lowest_in p (r ∷ ps) =
     let l = lowest (r ∷ ps) in
-    ⊎_elim (λ e. inl (sym e)) (λ n. let e : min p l ≡ l = omega arith in rw e (inr (lowest_in r ps))) (equal_or_not (min p l) p)
+    ⊎_elim (λ e. inl (sym e)) (λ n. let e : min p l ≡ l = omega arith in subst (λ (z : ℕ). In z (p ∷ r ∷ ps)) (sym e) (inr (lowest_in r ps))) (equal_or_not (min p l) p)
 
 lowest_is : (p : ℕ) (ps : List ℕ) → In p ps → ((q : ℕ) → In q ps → p ≤ q) → p ≡ lowest ps
+lowest_is p [] i h = elim i [ ]
 lowest_is p (r ∷ ps) i h = omega (arith, lowest_most p (r ∷ ps) i, h (lowest (r ∷ ps)) (lowest_in r ps))
 
 pub lowest_same : (ps qs : List ℕ) → ((p : ℕ) → In p ps → In p qs) → ((p : ℕ) → In p qs → In p ps) → lowest ps ≡ lowest qs
@@ -140,6 +144,7 @@ module _ {lim : Limits} {capacity : ℕ} {mem : List ℕ} (s : LinesHeld lim cap
 
   -- A line's processors before a place are not higher than the one at it.
   rising_row : (c i : ℕ) → c < nth mem 3 + 1 → i < c → nth mem (processor_at own i) ≤ nth mem (processor_at own c)
+  rising_row zero i g l = elim l [ ]
   rising_row (suc c) i g l =
       let up : nth mem (processor_at own c) ≤ nth mem (processor_at own (suc c)) = rw (add-one c) at (r line c line_below (omega arith)) in
       ⊎_elim (λ (e : i ≡ c). rw e up) (λ b. omega (arith, rising_row c i (omega arith) b)) (last_or_before c i l)

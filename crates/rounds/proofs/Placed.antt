@@ -20,6 +20,7 @@ row_outcome late a i mem = record { task = nth mem a; processor = nth mem (proce
 module _ (late : Bool) (mem : List ℕ) where
   pub in_row : (a c : ℕ) (d : Outcome) → In d (row_outcomes late a c mem) → (i : ℕ) × (i < c) × (d ≡ row_outcome late a i mem)
   unfolding row_outcomes
+  in_row a zero d x' = elim x' [ ]
   in_row a (suc c) d (inl e) = (c, omega arith, sym e)
   in_row a (suc c) d (inr i) = let (k, l, e) = in_row a c d i in (k, omega arith, e)
 
@@ -30,6 +31,7 @@ module _ (late : Bool) (mem : List ℕ) where
 
   pub in_placed : (capacity w k : ℕ) (d : Outcome) → In d (placed_in capacity late w k mem) → (n : ℕ) × (n < k) × In d (row_outcomes late (row_at capacity n) w mem)
   unfolding placed_in
+  in_placed capacity w zero d i = elim i [ ]
   in_placed capacity w (suc k) d i =
       ⊎_elim (λ j. (k, omega arith, j)) (λ j. let (n, l, m) = in_placed capacity w k d j in (n, omega arith, m))
       (in_append d (row_outcomes late (row_at capacity k) w mem) (placed_in capacity late w k mem) i)
@@ -98,6 +100,7 @@ arrival_of capacity late p mem e = arrival_in late e.volume p (row_of capacity e
 
 greatest_least : {A : Type 0} (f : A → ℕ) (x : A) (xs : List A) → In x xs → f x ≤ greatest (map f xs)
 unfolding greatest
+greatest_least {A = A} f x [] x'' = elim x'' [ ]
 greatest_least f x (y ∷ xs) (inl e) = rw e (omega arith)
 greatest_least f x (y ∷ xs) (inr i) = omega (arith, greatest_least f x xs i)
 

@@ -373,7 +373,7 @@ module _ {lim : Limits} {capacity : ℕ} (k c : ℕ) {stops first cells d e : Li
   line_done q =
       let w = sizes s.job in
       let three : nth e 3 ≡ nth d 3 = cell_retimed l.retimed 3 (omega arith) in
-      let same : ran_in capacity k c e ≡ ran_in capacity (suc k) 0 e = rw (q, three) in
+      let same : ran_in capacity k c e ≡ ran_in capacity (suc k) 0 e = let full : c ≡ nth e 3 + 1 = omega arith in rw full in
       let most = mul-le-mul {n₁ = k * replicas_most + c} {m₁ = line_ticks lim} {n₂ = suc k * replicas_most + 0} {m₂ = line_ticks lim} (omega (arith, q, w.row_fits)) (omega arith) in (
         record {
           standing = ran.standing;
