@@ -15,7 +15,7 @@ pub mod layout;
 mod room;
 
 // The numbers of a job's head.
-#[derive(Drop)]
+#[derive(Clone, Copy)]
 pub struct Head {
     pub tasks: u64,
     pub processors: u64,
@@ -24,7 +24,7 @@ pub struct Head {
 }
 
 // A job's head and the place after it, or the number of the refusal.
-#[derive(Drop)]
+#[derive(Clone, Copy)]
 pub enum Opening {
     Opened(Head, usize),
     Refused(u64),

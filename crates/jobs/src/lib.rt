@@ -14,7 +14,7 @@ mod cells;
 mod job;
 
 // How many cells or bytes were written, or the number of the refusal.
-#[derive(Drop)]
+#[derive(Clone, Copy)]
 pub enum Answer {
     Done(usize),
     Refusal(u64),

@@ -8,7 +8,7 @@ use crate::lines;
 use text::Step;
 
 // A text and a place in it.
-#[derive(Drop)]
+#[derive(Clone, Copy)]
 pub struct Reader<'a> {
     pub text: &'a [u8],
     pub at: usize,

@@ -14,7 +14,7 @@ use jobs::Answer;
 use rounds::Checked;
 
 // The planner, the checker or the replay.
-#[derive(Drop)]
+#[derive(Clone, Copy)]
 pub enum Tool {
     Plan,
     Check,
@@ -23,7 +23,7 @@ pub enum Tool {
 
 // A tool's answer: so many bytes were written, by the checker none if it accepts the plan; or 12 with a task that has two replicas on
 // one processor; or another number.
-#[derive(Drop)]
+#[derive(Clone, Copy)]
 pub enum Said {
     Done(usize),
     Doubled(u8),

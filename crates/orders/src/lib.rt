@@ -10,7 +10,7 @@ mod sorting;
 mod tables;
 
 // The edges were linked; or they form a circle; or they do not ascend or are not between the tasks, or the links have no room.
-#[derive(Drop)]
+#[derive(Clone, Copy)]
 pub enum Linking {
     Joined,
     Circle,
@@ -69,7 +69,7 @@ pub fn edge_volume(cell: u64) -> u64
 }
 
 // The cells of a run: from `start` to below `end`.
-#[derive(Drop)]
+#[derive(Clone, Copy)]
 pub struct Span {
     pub start: usize,
     pub end: usize,

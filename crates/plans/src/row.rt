@@ -8,7 +8,7 @@ ghost use Rattle.plans.specs.Lines.{line_cells};
 use heads::layout::{LINE, ROW, ROWS};
 
 // A replica of a line.
-#[derive(Drop)]
+#[derive(Clone, Copy)]
 pub struct Replica {
     pub processor: u64,
     pub early: u64,

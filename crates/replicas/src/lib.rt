@@ -23,14 +23,14 @@ const REPLICA: usize = 3;
 const EARLY: usize = 1;
 
 // Whether some line has two replicas on one processor, and the task of the first that has.
-#[derive(Drop)]
+#[derive(Clone, Copy)]
 pub enum Doubling {
     Single,
     Twice(u64),
 }
 
 // A first finish and its processor.
-#[derive(Drop)]
+#[derive(Clone, Copy)]
 pub struct First {
     pub time: u64,
     pub processor: u64,

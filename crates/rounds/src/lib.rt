@@ -31,7 +31,7 @@ mod tools;
 mod walk;
 
 // The checker's answer: the plan is accepted; or 12 with a task that has two replicas on one processor; or another number.
-#[derive(Drop)]
+#[derive(Clone, Copy)]
 pub enum Checked {
     Accepted,
     Doubled(u8),

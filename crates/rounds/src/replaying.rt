@@ -27,7 +27,7 @@ fn unless_stopped(stop: u64, x: u64) -> u64
 }
 
 // For each processor the time at which its newest replica finishes.
-#[derive(Drop)]
+#[derive(Clone, Copy)]
 struct Ready {
     at: [u64; 16],
 }

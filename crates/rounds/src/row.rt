@@ -8,7 +8,7 @@ ghost use Rattle.rounds.specs.Planning.{Wrote};
 use heads::layout::{LINE, ROW, ROWS};
 
 // A replica of a line.
-#[derive(Drop)]
+#[derive(Clone, Copy)]
 pub struct Replica {
     pub processor: usize,
     pub early: u64,

@@ -310,7 +310,7 @@ pub fn first_starts(
 }
 
 // The first early and the last late time of a line.
-#[derive(Drop)]
+#[derive(Clone, Copy)]
 struct Ends {
     first: u64,
     last: u64,

@@ -17,7 +17,7 @@ pub fn edges_at(mem: &[u64]) -> usize
 }
 
 // What an edge needs that enters a task: the line of the task that it leaves, and its volume.
-#[derive(Drop)]
+#[derive(Clone, Copy)]
 pub struct Inward {
     pub row: usize,
     pub volume: u16,

@@ -11,7 +11,7 @@ use text::Step;
 mod row;
 
 // C lines, with run times, or D lines, with delays.
-#[derive(Drop)]
+#[derive(Clone, Copy)]
 pub enum Kind {
     Runs,
     Delays,

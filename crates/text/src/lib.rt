@@ -13,14 +13,14 @@ use crate::limits::{DIGITS, POWERS};
 pub mod limits;
 
 // A number and the place after it.
-#[derive(Drop)]
+#[derive(Clone, Copy)]
 pub enum Num {
     Value(u64, usize),
     Bad,
 }
 
 // The place after what was read, or the number of the refusal.
-#[derive(Drop)]
+#[derive(Clone, Copy)]
 pub enum Step {
     Next(usize),
     Refused(u64),

@@ -3,7 +3,7 @@ ghost use Rattle.std.specs.Prelude.{◌≡◌, ◌/◌, length, replicate};
 ghost use Rattle.ticks.specs.Lanes.{advanced};
 
 // For each processor the finish of its newest replica, early and late.
-#[derive(Drop)]
+#[derive(Clone, Copy)]
 pub struct Clocks {
     pub early: [u32; 16],
     pub late: [u32; 16],

@@ -12,7 +12,7 @@ ghost use Rattle.ticks.specs.Lanes.{lanes, sent, delay_at, lane_in, least_lane};
 pub const NEVER: u64 = 18446744073709551615;
 
 // For each processor of a half an early and a late time.
-#[derive(Drop)]
+#[derive(Clone, Copy)]
 pub struct Both {
     pub early: [f64; 8],
     pub late: [f64; 8],
