@@ -1,0 +1,10 @@
+-- The bytes left to compare give the whole answer.
+use Rattle.lists.proofs.Prelude.{◌≡◌, refl, ◌∙◌, ◌≤◌, ◌-◌, ◌+◌, arith, length, drop, exactly}
+use Rattle.text.proofs.Reading.{fixed_end, fixed_no, fixed_yes, fixed_done}
+use Rattle.text.proofs.read_fixed.Given as goal
+
+abbrev pub invariant-loop-i : goal.invariant-loop-i
+invariant-loop-i l = (l.i ≤ length l.opening) × (l.p ≡ l.at + l.i) × (exactly (drop l.i l.opening) (drop l.p l.s) ≡ exactly l.opening (drop l.at l.s))
+
+abbrev pub decreases-loop-i : goal.decreases-loop-i
+decreases-loop-i l = length l.opening - l.i
