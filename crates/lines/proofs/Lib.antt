@@ -1,3 +1,1 @@
 pub mod LineLaws
-pub mod ReaderLaws
-pub mod WalkLaws
