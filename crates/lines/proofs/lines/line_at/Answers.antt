@@ -6,9 +6,7 @@ use Rattle.lines.proofs.lines.line_at.Goals as goal
 pub returns-in-Next : goal.returns-in-Next
 returns-in-Next c =
     let args = c.args in
-    let read-fixed = c.read_fixed in
-    let p = c.p-1 in
-    (c.read_numbers.ensures.0 ∙ line_open _ _ _ _ _ (sym read-fixed.ensures.0 ∙ ap (step_reading args.s.now tt) p.given.1), c.read_numbers.ensures.1)
+    (c.read_numbers.ensures.0 ∙ line_open _ _ _ _ _ (sym c.read_fixed.ensures.result_value ∙ ap (step_reading args.s.now tt) c.in-Next.is), c.read_numbers.ensures.1)
 
 pub returns-in-Refused : goal.returns-in-Refused
 returns-in-Refused c =
