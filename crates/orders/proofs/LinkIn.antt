@@ -1,5 +1,5 @@
 -- What is read from the links.
-use Rattle.lists.proofs.Prelude.{◌≡◌, refl, List, ℕ, ◌/◌, ◌≤◌, ◌<◌, arith, length, lt-ltb, le-ltb, nth}
+use Rattle.lists.proofs.Prelude.{◌≡◌, List, ℕ, ◌/◌, ◌≤◌, ◌<◌, arith, length, lt-ltb, le-ltb, nth}
 use Rattle.orders.specs.Links.{link_in, links_size}
 
 module _ (v t i : ℕ) (links : List ℕ) where

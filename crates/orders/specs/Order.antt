@@ -1,6 +1,6 @@
 -- An order of the tasks in which each comes after those that precede it.
 use Rattle.std.specs.Prelude.{◌≡◌, ◌⊎◌, List, [], ◌∷◌, Bool, true, ◌&&◌, ℕ, zero, suc, ◌<◌, ltb}
-use Rattle.definitions.specs.Lists.{nth, In, has, all, distinct, below}
+use Rattle.definitions.specs.Lists.{nth, In, distinct}
 use Rattle.definitions.specs.Job.{Edge}
 use Rattle.orders.specs.Edges.{edge_in}
 

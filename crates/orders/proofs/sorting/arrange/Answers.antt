@@ -1,5 +1,4 @@
-use Rattle.lists.proofs.Prelude.{◌≡◌, refl, ◌∙◌, [], ◌-◌, arith, length}
-use Rattle.orders.specs.Sorting.{Sorting}
+use Rattle.lists.proofs.Prelude.{◌≡◌, refl, arith}
 use Rattle.orders.proofs.SortingLaws.{sorting_most, sorting_done}
 use Rattle.orders.proofs.sorting.arrange.Goals as goal
 
@@ -21,7 +20,7 @@ pub loop-i-smaller : goal.loop-i-smaller
 loop-i-smaller c = omega (arith, sorting_most c.loop-i.invariant.1, c.loop-i-test.true)
 
 pub loop-i-preserved : goal.loop-i-preserved
-loop-i-preserved c = (c.links-in-loop-i-1.given ∙ c.loop-i.invariant.0, c.unblock-n.ensures)
+loop-i-preserved c = (omega (arith, c.loop-i.invariant.0), c.unblock-n.ensures)
 
 pub returns : goal.returns
 returns c =

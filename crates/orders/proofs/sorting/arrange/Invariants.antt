@@ -1,6 +1,5 @@
-use Rattle.lists.proofs.Prelude.{◌≡◌, refl, ◌∙◌, [], ◌-◌, arith, length}
+use Rattle.lists.proofs.Prelude.{◌≡◌, [], ◌-◌, length}
 use Rattle.orders.specs.Sorting.{Sorting}
-use Rattle.orders.proofs.SortingLaws.{sorting_most, sorting_done}
 use Rattle.orders.proofs.sorting.arrange.Given as goal
 
 abbrev pub invariant-loop-i : goal.invariant-loop-i

@@ -1,6 +1,5 @@
-use Rattle.lists.proofs.Prelude.{◌≡◌, refl, ◌∙◌, ◌≤◌, ◌-◌, arith, length, []}
+use Rattle.lists.proofs.Prelude.{◌≡◌, refl, arith}
 use Rattle.orders.proofs.SortingLaws.{sorting_none, sorting_most, sorting_entry}
-use Rattle.orders.specs.Sorting.{Sorting}
 use Rattle.orders.proofs.sorting.list_entries.Goals as goal
 
 pub loop-t-init : goal.loop-t-init
@@ -16,7 +15,7 @@ pub loop-t-preserved : goal.loop-t-preserved
 loop-t-preserved c =
     let loop = c.loop-t in
     let h = c.loop-t-test.true in
-    (omega arith, c.links-1.given ∙ loop.invariant.1, rw (c.join-n.ensures.0, c.join-n.ensures.1) (sorting_entry loop.invariant.2 h))
+    (omega arith, omega (arith, loop.invariant.1), rw (c.join-n.ensures.0, c.join-n.ensures.1) (sorting_entry loop.invariant.2 h))
 
 pub returns : goal.returns
 returns c = let e : c.loop-t.t ≡ c.args.v = omega (arith, c.loop-t.invariant.0, c.loop-t-test.false) in rw e at c.loop-t.invariant.2

@@ -1,5 +1,4 @@
-use Rattle.lists.proofs.Prelude.{◌≡◌, refl, ◌∙◌, ◌≤◌, ◌-◌, arith, length, []}
-use Rattle.orders.proofs.SortingLaws.{sorting_none, sorting_most, sorting_entry}
+use Rattle.lists.proofs.Prelude.{◌≡◌, ◌≤◌, ◌-◌, length, []}
 use Rattle.orders.specs.Sorting.{Sorting}
 use Rattle.orders.proofs.sorting.list_entries.Given as goal
 

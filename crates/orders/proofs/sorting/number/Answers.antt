@@ -1,7 +1,7 @@
 use Rattle.std.proofs.Common.{rules}
-use Rattle.lists.proofs.Prelude.{ℕ, ◌≤◌, ◌<◌, ◌-◌, ◌+◌, ◌*◌, ◌≡◌, refl, arith, length, length-set, nth}
+use Rattle.lists.proofs.Prelude.{◌+◌, ◌*◌, refl, arith, length-set}
 use Rattle.lists.proofs.Upward.{table_more}
-use Rattle.orders.specs.Links.{order_at, Runs}
+use Rattle.orders.specs.Links.{order_at}
 use Rattle.orders.proofs.CircleLaws.{numbered}
 use Rattle.orders.proofs.SortingLaws.{runs_set}
 use Rattle.orders.proofs.sorting.number.Goals as goal

@@ -1,8 +1,5 @@
-use Rattle.lists.proofs.Prelude.{ℕ, ◌≤◌, ◌<◌, ◌-◌, ◌+◌, ◌*◌, ◌≡◌, refl, arith, length, length-set, nth}
-use Rattle.lists.proofs.Upward.{table_more}
+use Rattle.lists.proofs.Prelude.{ℕ, ◌≤◌, ◌<◌, ◌-◌, ◌≡◌, length, nth}
 use Rattle.orders.specs.Links.{order_at, Runs}
-use Rattle.orders.proofs.CircleLaws.{numbered}
-use Rattle.orders.proofs.SortingLaws.{runs_set}
 use Rattle.orders.proofs.sorting.number.Given as goal
 
 abbrev pub invariant-loop-t : goal.invariant-loop-t

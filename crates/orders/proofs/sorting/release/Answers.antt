@@ -1,4 +1,3 @@
-use Rattle.lists.proofs.Prelude.{◌∙◌, length-set}
 use Rattle.orders.proofs.sorting.release.Goals as goal
 
 pub overflow_sub-links : goal.overflow_sub-links

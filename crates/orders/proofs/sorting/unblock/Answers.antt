@@ -1,6 +1,4 @@
-use Rattle.lists.proofs.Prelude.{◌≡◌, refl, ◌∙◌, ◌≤◌, ◌-◌, ◌+◌, arith, length}
-use Rattle.orders.specs.Links.{run}
-use Rattle.orders.specs.Sorting.{Sorting}
+use Rattle.lists.proofs.Prelude.{refl, arith}
 use Rattle.orders.proofs.SortingLaws.{sorting_most, sorting_begin, sorting_last, sorting_end, sorting_least, sorting_next}
 use Rattle.orders.proofs.sorting.unblock.Goals as goal
 
@@ -28,7 +26,7 @@ loop-k-preserved c =
     let (below, s) = sorting_last start loop.k pre.0 taken loop.invariant.1 loop.invariant.3 in (
       omega (arith, taken),
       omega (arith, loop.invariant.1),
-      c.links-1.given ∙ loop.invariant.2,
+      omega (arith, loop.invariant.2),
       rw (c.release-count.ensures.0, c.release-count.ensures.1, c.edge_to.ensures.0) (sorting_next below s),
     )
 

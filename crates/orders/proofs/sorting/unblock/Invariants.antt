@@ -1,7 +1,6 @@
-use Rattle.lists.proofs.Prelude.{◌≡◌, refl, ◌∙◌, ◌≤◌, ◌-◌, ◌+◌, arith, length}
+use Rattle.lists.proofs.Prelude.{◌≡◌, ◌≤◌, ◌-◌, ◌+◌, length}
 use Rattle.orders.specs.Links.{run}
 use Rattle.orders.specs.Sorting.{Sorting}
-use Rattle.orders.proofs.SortingLaws.{sorting_most, sorting_begin, sorting_last, sorting_end, sorting_least, sorting_next}
 use Rattle.orders.proofs.sorting.unblock.Given as goal
 
 abbrev pub invariant-loop-k : goal.invariant-loop-k
