@@ -18,4 +18,4 @@ returns-then-line_fits c = let both = let a = c.args in
 
 pub returns : goal.returns
 returns c = let a = c.args in
-    let h = sym c.line_fits.ensures ∙ c.if-line_fits.false in record { value = rw (length_line document01 a.opening.now a.vals.now) (c.wrapping_add_usize.ensures ∙ rw c.numbers_length.ensures); holds = sym (written_unfit a.out.now 0 (line_text document01 a.opening.now a.vals.now) (omega (arith, leb-false, h))) }
+    let h = sym c.line_fits.ensures ∙ c.if-line_fits.false in record { value = rw (length_line document01 a.opening.now a.vals.now) (c.wrapping_add_usize.ensures.value ∙ rw c.numbers_length.ensures); holds = sym (written_unfit a.out.now 0 (line_text document01 a.opening.now a.vals.now) (omega (arith, leb-false, h))) }

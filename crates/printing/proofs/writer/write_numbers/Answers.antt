@@ -11,19 +11,20 @@ loop-i-init c = (search rules, refl, refl, refl, refl)
 pub bounds-out-p : goal.bounds-out-p
 bounds-out-p c =
     let l = c.loop-i in
-    let w = c.write_number-p in
     let s = c.args.vals.now in
-    omega (arith, turn document01 s l.i c.loop-i-test.true l.out l.p (omega arith) _ _ w.ensures.1 w.ensures.0)
+    omega (arith, turn document01 s l.i c.loop-i-test.true l.out l.p (omega arith) _ _ c.write_number-p.ensures.holds c.write_number-p.ensures.value)
 
 pub overflow_add-p : goal.overflow_add-p
-overflow_add-p c = omega (arith, slice-write-out c)
+overflow_add-p c =
+    let l = c.loop-i in
+    let s = c.args.vals.now in
+ omega (arith, turn document01 s l.i c.loop-i-test.true l.out l.p (omega arith) _ _ c.write_number-p.ensures.holds c.write_number-p.ensures.value)
 
 pub loop-i-preserved : goal.loop-i-preserved
 loop-i-preserved c =
     let l = c.loop-i in
-    let w = c.write_number-p in
     let s = c.args.vals.now in
-    let t = turn document01 s l.i c.loop-i-test.true l.out l.p (omega arith) _ _ w.ensures.1 w.ensures.0 in
+    let t = turn document01 s l.i c.loop-i-test.true l.out l.p (omega arith) _ _ c.write_number-p.ensures.holds c.write_number-p.ensures.value in
     (search rules, refl, simp length-set (t.1 ∙ l.invariant.2), t.0 ∙ l.invariant.3, t.2 c.mark_after.result c.mark_after.ensures ∙ l.invariant.4)
 
 pub returns : goal.returns
