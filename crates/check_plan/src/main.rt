@@ -7,8 +7,8 @@ ghost use Rattle.definitions.specs.Tools.{Says, check_printed, verdict};
 ghost use Rattle.io.specs.Counts.{IsPrefixLen};
 ghost use Rattle.lists.specs.Over.{over};
 
-use libc::STDOUT_FILENO;
 use mirguneth::Checked;
+use std::io::Write;
 
 // What is printed for the two texts, at the front of `out`, which has room for `N,` and two numbers. The answer is its length.
 fn answer(job: &[u8], plan: &[u8], out: &mut [u8]) -> usize
@@ -24,12 +24,12 @@ fn answer(job: &[u8], plan: &[u8], out: &mut [u8]) -> usize
     }
 }
 
-fn main() {
+fn main(rt: HostRuntime) -> std::io::Result<()> {
     let mut job = [0u8; 65537];
     let mut plan = [0u8; 65537];
     let mut out = [0u8; 24];
-    let n = console::load(b"job.txt", &mut job);
-    let k = console::load(b"plan.txt", &mut plan);
+    let n = console::load(&rt, b"job.txt", &mut job);
+    let k = console::load(&rt, b"plan.txt", &mut plan);
     let r = answer(&job[..n], &plan[..k], &mut out);
-    io::write_all(STDOUT_FILENO, &out[..r]);
+    rt.stdout().write_all(&out[..r])
 }

@@ -8,17 +8,28 @@ ghost use Rattle.definitions.specs.Text.{line_text};
 ghost use Rattle.io.specs.Counts.{IsPrefixLen};
 ghost use Rattle.text.specs.Meaning.{written};
 
-// What the file holds, from the start of buf on, and how many bytes; 0 if it cannot be opened.
-pub fn load(path: &[u8], buf: &mut [u8]) -> usize
+use std::fs::File;
+use std::io::Read;
+use std::rt::Files;
+
+// What the file holds, from the start of buf on, and how many bytes; 0 if it cannot be opened. Where a read fails, the text ends there.
+pub fn load(files: &impl Files, path: &[u8], buf: &mut [u8]) -> usize
     ensures { IsPrefixLen result buf.new }
 {
-    let fd = os::open_read(path);
-    if fd < 0 {
+    let Ok(name) = str::from_utf8(path) else {
         return 0;
+    };
+    let Ok(mut file) = File::open(files, name) else {
+        return 0;
+    };
+    let mut done = 0;
+    while done < buf.len() {
+        match file.read(&mut buf[done..]) {
+            Ok(n) if n > 0 => done += n,
+            _ => break,
+        }
     }
-    let n = io::read_full(fd, buf);
-    libc::close(fd);
-    n
+    done
 }
 
 // `N,` and the number of a refusal, a line at the front of `out`, if it fits. The answer is its length in either case.

@@ -6,8 +6,8 @@ ghost use Rattle.definitions.specs.Tools.{plan_printed};
 ghost use Rattle.io.specs.Counts.{IsPrefixLen};
 ghost use Rattle.lists.specs.Over.{over};
 
-use libc::STDOUT_FILENO;
 use mirguneth::Answer;
+use std::io::Write;
 
 // What is printed for the job's text, at the front of `out`, which has room for the longest plan. The answer is its length.
 fn answer(job: &[u8], out: &mut [u8]) -> usize
@@ -22,10 +22,10 @@ fn answer(job: &[u8], out: &mut [u8]) -> usize
     }
 }
 
-fn main() {
+fn main(rt: HostRuntime) -> std::io::Result<()> {
     let mut job = [0u8; 65537];
     let mut out = [0u8; 65536];
-    let n = console::load(b"job.txt", &mut job);
+    let n = console::load(&rt, b"job.txt", &mut job);
     let k = answer(&job[..n], &mut out);
-    io::write_all(STDOUT_FILENO, &out[..k]);
+    rt.stdout().write_all(&out[..k])
 }

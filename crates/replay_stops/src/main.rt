@@ -7,8 +7,8 @@ ghost use Rattle.definitions.specs.Tools.{replay_printed};
 ghost use Rattle.io.specs.Counts.{IsPrefixLen};
 ghost use Rattle.lists.specs.Over.{over};
 
-use libc::STDOUT_FILENO;
 use mirguneth::Answer;
+use std::io::Write;
 
 // What is printed for the three texts, at the front of `out`, which has room for it in any case: 255 R lines have at most 20
 // bytes each, the L line 13. The answer is its length.
@@ -24,14 +24,14 @@ fn answer(job: &[u8], plan: &[u8], stops: &[u8], out: &mut [u8]) -> usize
     }
 }
 
-fn main() {
+fn main(rt: HostRuntime) -> std::io::Result<()> {
     let mut job = [0u8; 65537];
     let mut plan = [0u8; 65537];
     let mut stops = [0u8; 65537];
     let mut out = [0u8; 5113];
-    let j = console::load(b"job.txt", &mut job);
-    let p = console::load(b"plan.txt", &mut plan);
-    let s = console::load(b"stops.txt", &mut stops);
+    let j = console::load(&rt, b"job.txt", &mut job);
+    let p = console::load(&rt, b"plan.txt", &mut plan);
+    let s = console::load(&rt, b"stops.txt", &mut stops);
     let n = answer(&job[..j], &plan[..p], &stops[..s], &mut out);
-    io::write_all(STDOUT_FILENO, &out[..n]);
+    rt.stdout().write_all(&out[..n])
 }
