@@ -1,12 +1,12 @@
 -- The floats of the whole numbers up to 2 ^ 53: sums, products, comparisons and casts are those of the numbers. The infinity is above them all.
-use Rattle.std.proofs.Common.{◌≡◌, ℕ, ◌+◌, ◌*◌, ◌/◌, ◌^◌, ◌<◌, ◌≤◌, Bool, true, false, T, ltb, ℤ, pos, sym, refl, ap, ◌∙◌, true≢false, mul_assoc, mul_comm, add-mul, lt_of_mul-lt-mul_right, mul-lt-mul_of_pos_right, mul-pos, mul-one, mul-div_cancel, arith, lit<, le→leb, ltb→lt, lt→ltb}
+use Rattle.std.proofs.Common.{◌≡◌, ℕ, ◌+◌, ◌*◌, ◌/◌, ◌^◌, ◌<◌, ◌≤◌, Bool, true, false, T, ltb, ℤ, pos, sym, refl, ap, ◌∙◌, true≢false, mul_assoc, mul_comm, add-mul, lt_of_mul-lt-mul_right, mul-lt-mul_of_pos_right, mul-pos, mul-one, mul-div_cancel, lit<, le→leb, ltb→lt, lt→ltb}
 use native.Mathlib.Nat.{mul-mul-mul_comm}
 use lib.Ieee.{Float, nan, inf, fin, binary64, up, down, round, sum, add, mul, lt, eq, of_int, to_unsigned, to_signed, in_unsigned, in_signed, in_float}
 use lib.Ieee.Fits.{down_pos}
 use lib.Ieee.Exact.{HasValue}
 use lib.Ieee.Scale.{round_same}
 use lib.Ieee.Back.{round_whole, unsigned_back, positive_back}
-use Rattle.definitions.specs.Times.{Time, tick, never}
+use Rattle.definitions.specs.Times.{tick, never}
 use Rattle.ticks.specs.Floats.{whole, time_of}
 
 abbrev pub Fine : ℕ → Type 0

@@ -1,7 +1,5 @@
-use Rattle.lists.proofs.Prelude.{◌≡◌, refl, ap, ◌∙◌, ℕ, ◌≤◌, ◌-◌, arith, nth, replicate}
+use Rattle.lists.proofs.Prelude.{refl, ap, ◌∙◌, arith, replicate}
 use lib.Ieee.{Float}
-use Rattle.ticks.specs.Floats.{whole}
-use Rattle.ticks.specs.Lanes.{lanes}
 use Rattle.ticks.proofs.HeldLaws.{zero_literal}
 use Rattle.ticks.proofs.LaneLaws.{lanes_none, lanes_next, lanes_all}
 use Rattle.ticks.proofs.lanes.floats.Goals as goal

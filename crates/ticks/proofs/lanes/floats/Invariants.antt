@@ -1,10 +1,7 @@
 -- The lanes before p are done.
-use Rattle.lists.proofs.Prelude.{◌≡◌, refl, ap, ◌∙◌, ℕ, ◌≤◌, ◌-◌, arith, nth, replicate}
-use lib.Ieee.{Float}
+use Rattle.lists.proofs.Prelude.{◌≡◌, ◌≤◌, ◌-◌, nth, replicate}
 use Rattle.ticks.specs.Floats.{whole}
 use Rattle.ticks.specs.Lanes.{lanes}
-use Rattle.ticks.proofs.HeldLaws.{zero_literal}
-use Rattle.ticks.proofs.LaneLaws.{lanes_none, lanes_next, lanes_all}
 use Rattle.ticks.proofs.lanes.floats.Given as goal
 
 abbrev pub invariant-loop-p : goal.invariant-loop-p

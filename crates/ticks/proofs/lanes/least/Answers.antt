@@ -1,10 +1,16 @@
-use Rattle.lists.proofs.Prelude.{◌≡◌, refl, sym, ap, ◌∙◌, ⊎_elim, ℕ, suc, ◌≤◌, ◌-◌, ◌+◌, min, arith, add-one}
+use Rattle.lists.proofs.Prelude.{◌≡◌, ◌∙◌, min, arith, add-one}
 use Rattle.ticks.specs.Lanes.{least_lane}
+use Rattle.ticks.proofs.lanes.least.Goals.{then-m-lt16, else-m-lt16}
 use Rattle.ticks.proofs.lanes.least.Goals as goal
 
 pub loop-p-init : goal.loop-p-init
 unfolding least_lane
-loop-p-init c = (omega arith, ⊎_elim (λ w. omega (arith, w.0.taken, w.1)) (λ w. omega (arith, w.0.left, w.1)) c.if-m-lt16.branch, c.no_time-x.ensures)
+loop-p-init c =
+    let e : c.if-m-lt16.n ≡ min c.args.m 16 = elim c.if-m-lt16.branch [
+      | then-m-lt16 w ↦ omega (arith, w.if-m-lt16.true, w.n-is)
+      | else-m-lt16 w ↦ omega (arith, w.if-m-lt16.false, w.n-is)
+    ] in
+    (omega arith, e, c.no_time-x.ensures)
 
 pub loop-p-preserved : goal.loop-p-preserved
 unfolding least_lane

@@ -1,5 +1,5 @@
 -- The least of the lanes passed.
-use Rattle.lists.proofs.Prelude.{◌≡◌, refl, sym, ap, ◌∙◌, ⊎_elim, ℕ, suc, ◌≤◌, ◌-◌, ◌+◌, min, arith, add-one}
+use Rattle.lists.proofs.Prelude.{◌≡◌, ◌≤◌, ◌-◌, min}
 use Rattle.ticks.specs.Lanes.{least_lane}
 use Rattle.ticks.proofs.lanes.least.Given as goal
 

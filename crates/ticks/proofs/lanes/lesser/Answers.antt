@@ -1,5 +1,4 @@
 -- By cases on the comparison.
-use Rattle.lists.proofs.Prelude.{◌≡◌, refl}
 use Rattle.ticks.proofs.lanes.lesser.Goals as goal
 
 pub returns-then-x-y : goal.returns-then-x-y

@@ -1,9 +1,8 @@
 -- The lanes before p are done.
-use Rattle.lists.proofs.Prelude.{◌≡◌, ◌≤◌, ◌-◌, arith}
+use Rattle.lists.proofs.Prelude.{◌≡◌, ◌≤◌, ◌-◌}
 use Rattle.ticks.specs.Floats.{lane}
 use Rattle.ticks.specs.Lanes as Lanes
 use Rattle.ticks.specs.Lanes.{lanes}
-use Rattle.ticks.proofs.LaneLaws.{lanes_none, lanes_next, lanes_all}
 use Rattle.ticks.proofs.lanes.lower.Given as goal
 
 abbrev pub invariant-loop-p : goal.invariant-loop-p

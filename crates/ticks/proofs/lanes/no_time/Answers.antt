@@ -1,5 +1,5 @@
 -- One divided by zero.
-use Rattle.lists.proofs.Prelude.{◌≡◌, refl}
+use Rattle.lists.proofs.Prelude.{refl}
 use lib.Ieee.{div, of_bits}
 use Rattle.ticks.proofs.lanes.no_time.Goals as goal
 

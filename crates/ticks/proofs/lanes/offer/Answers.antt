@@ -1,6 +1,4 @@
-use Rattle.lists.proofs.Prelude.{◌≡◌, ◌≤◌, ◌-◌, ◌+◌, arith, nth}
-use Rattle.ticks.specs.Lanes as Lanes
-use Rattle.ticks.specs.Lanes.{lanes, sent, delay_at}
+use Rattle.lists.proofs.Prelude.{arith}
 use Rattle.ticks.proofs.LaneLaws.{lanes_none, lanes_next, lanes_all}
 use Rattle.ticks.proofs.lanes.offer.Goals as goal
 

@@ -1,8 +1,7 @@
 -- The lanes before p are done, in both tables.
-use Rattle.lists.proofs.Prelude.{◌≡◌, ◌≤◌, ◌-◌, ◌+◌, arith, nth}
+use Rattle.lists.proofs.Prelude.{◌≡◌, ◌≤◌, ◌-◌, ◌+◌, nth}
 use Rattle.ticks.specs.Lanes as Lanes
 use Rattle.ticks.specs.Lanes.{lanes, sent, delay_at}
-use Rattle.ticks.proofs.LaneLaws.{lanes_none, lanes_next, lanes_all}
 use Rattle.ticks.proofs.lanes.offer.Given as goal
 
 abbrev pub invariant-loop-p : goal.invariant-loop-p

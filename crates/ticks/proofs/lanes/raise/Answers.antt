@@ -1,7 +1,4 @@
-use Rattle.lists.proofs.Prelude.{◌≡◌, ◌≤◌, ◌-◌, arith}
-use Rattle.ticks.specs.Floats.{lane}
-use Rattle.ticks.specs.Lanes as Lanes
-use Rattle.ticks.specs.Lanes.{lanes}
+use Rattle.lists.proofs.Prelude.{arith}
 use Rattle.ticks.proofs.LaneLaws.{lanes_none, lanes_next, lanes_all}
 use Rattle.ticks.proofs.lanes.raise.Goals as goal
 

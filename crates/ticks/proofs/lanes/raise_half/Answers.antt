@@ -1,14 +1,8 @@
-use Rattle.lists.proofs.Prelude.{◌≡◌, refl, sym, ◌∙◌, ℕ, List, ◌≤◌, ◌<◌, ◌-◌, ◌+◌, ◌*◌, ◌/◌, ◌%◌, arith, eqb, eq-eqb, ne_eqb, if◌then◌else◌}
+use Rattle.lists.proofs.Prelude.{◌≡◌, refl, sym, ◌∙◌, ℕ, List, ◌<◌, ◌-◌, ◌+◌, ◌*◌, ◌/◌, ◌%◌, arith, eq-eqb, ne_eqb}
 use lib.Ieee.{Float}
-use Rattle.ticks.specs.Floats.{lane}
-use Rattle.ticks.specs.Lanes as Lanes
-use Rattle.ticks.specs.Lanes.{lanes}
 use Rattle.ticks.proofs.LaneLaws.{lanes_none, lanes_next, lanes_idle}
+use Rattle.ticks.proofs.lanes.raise_half.Invariants.{done}
 use Rattle.ticks.proofs.lanes.raise_half.Goals as goal
-
--- What is done with lane p.
-abbrev done : List Float → ℕ → ℕ → Float → Float
-done low h p z = if eqb (p / 8) (h % 2) then Lanes.greater z (lane low (p % 8)) else z
 
 -- Lanes of the other half are kept.
 kept : (low : List Float) (h p : ℕ) → (p / 8 ≡ h % 2 → ⊥) → (z : Float) → done low h p z ≡ z

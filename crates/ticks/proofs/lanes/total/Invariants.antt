@@ -1,6 +1,5 @@
 -- The sum is that of the cells passed.
-use Rattle.lists.proofs.Prelude.{◌≡◌, refl, ap, ◌∙◌, List, ℕ, ◌≤◌, ◌-◌, ◌%◌, ◌^◌, arith, length, take, take_all, sum}
-use Rattle.ticks.proofs.LaneLaws.{total_more}
+use Rattle.lists.proofs.Prelude.{◌≡◌, ◌≤◌, ◌-◌, ◌%◌, ◌^◌, length, take, sum}
 use Rattle.ticks.proofs.lanes.total.Given as goal
 
 abbrev pub invariant-loop-q : goal.invariant-loop-q

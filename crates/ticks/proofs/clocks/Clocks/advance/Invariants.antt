@@ -1,7 +1,6 @@
 -- The clocks after the replicas passed.
-use Rattle.lists.proofs.Prelude.{◌≡◌, refl, ◌∙◌, ap, List, ℕ, ⊎_elim, ◌≤◌, ◌-◌, ◌+◌, ◌*◌, ◌/◌, ◌%◌, ◌^◌, arith, add-one, lt-ltb, le-ltb, length}
+use Rattle.lists.proofs.Prelude.{◌≡◌, ◌≤◌, ◌-◌, ◌/◌, length}
 use Rattle.ticks.specs.Lanes.{advanced}
-use Rattle.ticks.proofs.LaneLaws.{advanced_yes, advanced_no}
 use Rattle.ticks.proofs.clocks.Clocks.advance.Given as goal
 
 abbrev pub invariant-loop-c : goal.invariant-loop-c
