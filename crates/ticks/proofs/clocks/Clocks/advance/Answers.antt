@@ -27,5 +27,7 @@ loop-c-preserved c =
     ]
 
 pub returns : goal.returns
-returns c = let l = c.loop-c in
-    let e : l.c ≡ length c.args.cells.now / 3 = omega (arith, c.loop-c-test.false, l.invariant.1) in record { early = rw e at l.invariant.2; late = rw e at l.invariant.3 }
+returns c =
+    let l = c.loop-c in
+    let e : l.c ≡ length c.args.cells.now / 3 = omega (arith, c.loop-c-test.false, l.invariant.1) in
+    record { early = rw e at l.invariant.2; late = rw e at l.invariant.3 }
