@@ -1,0 +1,11 @@
+use Rattle.lists.proofs.Prelude.{◌≡◌, refl, sym, ◌∙◌, List, ℕ, ◌-◌, arith, length, length-set, take, drop, bytes, document01, found, line}
+use Rattle.text.specs.Suited.{suited}
+use Rattle.lines.proofs.LineLaws.{line_reading}
+use Rattle.stops.proofs.StopLaws.{StopsUpTo, stops_none, stops_end, stops_bad, stops_no, stops_shorter, stops_next}
+use Rattle.stops.proofs.stops.read_stop_lines.Given as goal
+
+abbrev pub invariant-loop-p : goal.invariant-loop-p
+invariant-loop-p l = (length l.line ≡ 2) × (length l.stops ≡ length l.initial.stops) × StopsUpTo document01 l.s l.m l.p l.least l.stops
+
+abbrev pub decreases-loop-p : goal.decreases-loop-p
+decreases-loop-p l = length l.s - l.p
