@@ -1,0 +1,11 @@
+-- The cells left to copy give the whole answer.
+use Rattle.lists.proofs.Prelude.{◌≡◌, refl, ◌≤◌, ◌-◌, arith, length, get_or, take, drop, length-set, get_or-take, length-take-le}
+use Rattle.lists.specs.Over.{over}
+use Rattle.text.proofs.Writing.{copy_next, copy_end}
+use Rattle.jobs.proofs.cells.copy_cells.Given as goal
+
+abbrev pub invariant-loop-i : goal.invariant-loop-i
+invariant-loop-i l = (l.i ≤ l.n) × (length l.cells ≡ length l.initial.cells) × (over l.cells l.i (drop l.i (take l.n l.from)) ≡ over l.initial.cells 0 (take l.n l.from))
+
+abbrev pub decreases-loop-i : goal.decreases-loop-i
+decreases-loop-i l = l.n - l.i

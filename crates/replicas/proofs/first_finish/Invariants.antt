@@ -1,0 +1,10 @@
+use Rattle.lists.proofs.Prelude.{◌≡◌, sym, ◌∙◌, ⊎_elim, ◌≤◌, ◌-◌, arith, length}
+use Rattle.replicas.specs.Cells.{replicas_of, least_early, least_on}
+use Rattle.replicas.proofs.TwiceLaws.{least_none, least_sooner, least_stays}
+use Rattle.replicas.proofs.first_finish.Given as goal
+
+abbrev pub invariant-loop-c : goal.invariant-loop-c
+invariant-loop-c l = (l.c ≤ l.n) × (l.time ≡ least_early l.c l.cells) × (l.processor ≡ least_on l.c l.cells)
+
+abbrev pub decreases-loop-c : goal.decreases-loop-c
+decreases-loop-c l = l.n - l.c

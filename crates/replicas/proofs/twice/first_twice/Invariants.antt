@@ -1,0 +1,10 @@
+use Rattle.lists.proofs.Prelude.{◌≡◌, sym, ◌∙◌, [], ◌≤◌, ◌-◌, arith, length}
+use Rattle.replicas.specs.Cells.{lines_of, first_twice}
+use Rattle.replicas.proofs.TwiceLaws.{part_cells, first_none, first_next, first_here}
+use Rattle.replicas.proofs.twice.first_twice.Given as goal
+
+abbrev pub invariant-loop-k : goal.invariant-loop-k
+invariant-loop-k l = (l.k ≤ l.n) × (first_twice l.w l.k l.lines ≡ [])
+
+abbrev pub decreases-loop-k : goal.decreases-loop-k
+decreases-loop-k l = l.n - l.k
