@@ -1,0 +1,14 @@
+-- The replicas from c on stand in order.
+use Rattle.lists.proofs.Prelude.{◌≡◌, ⊎_elim, ℕ, suc, ◌≤◌, ◌<◌, ◌-◌, arith, document01, nth}
+use Rattle.lists.proofs.Counting.{equal_or_not}
+use Rattle.heads.specs.Layout.{processor_at}
+use Rattle.jobs.proofs.Held.{sizes}
+use Rattle.plans.proofs.PlanLaws.{descends_here, descends_none}
+use Rattle.plans.proofs.plans.descends.Given as goal
+
+abbrev pub invariant-loop-c : goal.invariant-loop-c
+invariant-loop-c l =
+    (l.c ≤ nth l.mem 3) × (nth l.mem 3 ≤ document01.losses) × ((i : ℕ) → l.c ≤ i → i < nth l.mem 3 → nth l.mem (processor_at l.a i) ≤ nth l.mem (processor_at l.a (suc i)))
+
+abbrev pub decreases-loop-c : goal.decreases-loop-c
+decreases-loop-c l = l.c

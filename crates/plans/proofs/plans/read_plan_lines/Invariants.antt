@@ -1,0 +1,11 @@
+-- The lines from line k on, after the lines before it, are all the lines.
+use Rattle.lists.proofs.Prelude.{◌≡◌, ℕ, ◌≤◌, ◌-◌, arith, document01}
+use Rattle.jobs.proofs.Held.{links_kept}
+use Rattle.plans.proofs.PlanReading.{LinesUpTo, upto_none, tasks_kept, upto_end, upto_kept, upto_no, upto_next}
+use Rattle.plans.proofs.plans.read_plan_lines.Given as goal
+
+abbrev pub invariant-loop-k : goal.invariant-loop-k
+invariant-loop-k l = (l.k ≤ l.v) × LinesUpTo document01 l.capacity l.s l.at l.initial.mem l.k l.p l.mem
+
+abbrev pub decreases-loop-k : goal.decreases-loop-k
+decreases-loop-k l = l.v - l.k
