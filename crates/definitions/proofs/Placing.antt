@@ -13,7 +13,7 @@ use Rattle.definitions.specs.Limits.{Limits}
 use Rattle.definitions.specs.Text.{first_of}
 use Rattle.definitions.specs.Job.{Edge, Job, incoming}
 use Rattle.definitions.specs.Plan.{Replica, Line, Plan, processors_of, descends}
-use Rattle.definitions.specs.Times.{Time, tick, same, least, largest, Placement, Outcome, outcome, times, finish, walk, placements_of, placements, earlies, lates}
+use Rattle.definitions.specs.Times.{Time, tick, least, largest, Placement, Outcome, outcome, times, finish, walk, placements_of, placements, earlies, lates}
 use Rattle.definitions.specs.Refusals.{doubled_tasks, replicas_of, same_times, ticks_agree, bounds_agree, plan_refusal}
 use Rattle.definitions.specs.Planner.{tick_of, greatest_of, Waiting, waiting_from, bottom_levels, free_tasks, ranked, critical_task, trial, chosen, replicas, place, plan_for}
 use Rattle.definitions.proofs.Lists.{both_true, in_map, map_in, in_reverse, reverse_left, reverse_right, map_same, in_keep, keep_in, map_keep, all_in, in_all, has_in, in_has, without, one_less, distinct_keep, length_count, in_below, below_in, distinct_count}

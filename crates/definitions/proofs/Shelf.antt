@@ -9,7 +9,7 @@ use native.Mathlib.Omega.{arith}
 use native.Mathlib.Nat.{mul-zero}
 use lib.Dec.{eqb}
 use borrow.Author.Tests.{eqb-true, eq-eqb}
-use Rattle.definitions.specs.Lists.{if◌then◌else◌, In, any, keep, below}
+use Rattle.definitions.specs.Lists.{if◌then◌else◌, In, keep, below}
 use Rattle.definitions.specs.Limits.{Limits}
 use Rattle.definitions.specs.Job.{Edge, Job, incoming}
 use Rattle.definitions.specs.Plan.{Replica, Line}
@@ -22,12 +22,12 @@ use Rattle.definitions.specs.Shelf.{data_from_all, shelf_finish, shelf_walk, she
 use Rattle.definitions.proofs.Lists.{in_map, map_in, map_same, keep_in, in_below, in_reverse}
 use Rattle.definitions.proofs.Tasks.{in_task, line_facts}
 use Rattle.definitions.proofs.Ready.{first_ready_lem}
-use Rattle.definitions.proofs.Feeding.{feeding_none, feeding_own, feeding_cases, in_feeding}
+use Rattle.definitions.proofs.Feeding.{feeding_cases, in_feeding}
 use Rattle.definitions.proofs.Doubled.{placements_in_lem}
 use Rattle.definitions.proofs.Chosen.{chosen_below}
 use Rattle.definitions.proofs.Guarantee.{Come}
 use Rattle.definitions.proofs.Placing.{placed_ordered}
-use Rattle.definitions.proofs.Later.{later_comm, later_assoc, later_zero, after_zero, no_later_self, no_later_then, first_no_later, both_no_later, later_no_later, after_no_later, afters_no_later, stopped_no_later, least_no_later, no_later_largest, largest_no_later, largests_no_later}
+use Rattle.definitions.proofs.Later.{later_comm, later_assoc, after_zero, no_later_self, no_later_then, first_no_later, later_no_later, after_no_later, afters_no_later, stopped_no_later, least_no_later, no_later_largest, largest_no_later, largests_no_later}
 
 -- What is ready ---------------------------------------------------------------------------------------------------
 

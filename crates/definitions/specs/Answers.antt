@@ -2,7 +2,7 @@
 use Rattle.std.specs.Prelude.{ℕ, ◌≡◌, List, [], ◌∷◌, ltb, eqb, length}
 use Rattle.definitions.specs.Lists.{if◌then◌else◌, bytes, In}
 use Rattle.definitions.specs.Limits.{Limits}
-use Rattle.definitions.specs.Text.{line_text, lines, Result, good, bad, and_then}
+use Rattle.definitions.specs.Text.{line_text, Result, good, bad, and_then}
 use Rattle.definitions.specs.Job.{Job, read_job}
 use Rattle.definitions.specs.Plan.{Line, Plan, read_plan, plan_text}
 use Rattle.definitions.specs.Stops.{read_stops}

@@ -2,7 +2,7 @@
 -- order and their early ticks, and get new late ticks and M, never later than before. Nothing else speaks of the plans of that time.
 use Rattle.std.specs.Prelude.{◌≡◌, not, ℕ, zero, suc, ◌+◌, ◌≤◌, eqb}
 use mathlib.Core.List.{List, [], ◌∷◌, map, reverse_aux}
-use Rattle.definitions.specs.Lists.{if◌then◌else◌, below, keep, any, In}
+use Rattle.definitions.specs.Lists.{below, keep, In}
 use Rattle.definitions.specs.Limits.{Limits}
 use Rattle.definitions.specs.Text.{good}
 use Rattle.definitions.specs.Job.{Job, incoming, read_job}

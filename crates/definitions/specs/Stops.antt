@@ -4,7 +4,7 @@ use mathlib.Core.List.{List, [], ◌∷◌, ◌++◌, get_last?}
 use Rattle.std.proofs.Math.Option.{Option, none, some}
 use Rattle.definitions.specs.Lists.{bytes, nth}
 use Rattle.definitions.specs.Limits.{Limits}
-use Rattle.definitions.specs.Text.{Reader, ◌>>=◌, ◌>>◌, return, first_of, line, line_text, lines_to_end, Result, whole}
+use Rattle.definitions.specs.Text.{Reader, ◌>>=◌, return, first_of, line, line_text, lines_to_end, Result, whole}
 use Rattle.definitions.specs.Job.{Job, outside}
 
 -- A failure ("stop"): the processor and the tick at which it stops.

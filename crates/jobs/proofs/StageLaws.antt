@@ -1,5 +1,5 @@
 -- The stages of reading a job follow one another: the head in a memory, the C lines, the D lines, the E lines, the end.
-use Rattle.lists.proofs.Prelude.{◌≡◌, refl, ap, ◌∙◌, sym, subst, List, [], ◌∷◌, map, Bool, true, false, ℕ, ◌+◌, ◌<◌, ◌≤◌, arith, ltb-true, ltb-false, ltb, length, take, drop, set, drop_of_length-le, drop-cons, length-take-le, bytes, nth, Limits, found, refused, first_of, line, lines, Edge, JobHead, job_head_of, job_head_rule, run_rule, delay_rule, edge_line, edge_rule, circular, Ascends}
+use Rattle.lists.proofs.Prelude.{◌≡◌, refl, ap, ◌∙◌, sym, subst, List, [], ◌∷◌, map, Bool, true, false, ℕ, ◌+◌, ◌<◌, ◌≤◌, arith, ltb-true, ltb-false, ltb, length, take, drop, set, drop_of_length-le, drop-cons, length-take-le, bytes, Limits, found, refused, first_of, line, lines, Edge, JobHead, job_head_of, job_head_rule, run_rule, delay_rule, edge_line, edge_rule, circular, Ascends}
 use Rattle.definitions.proofs.Reading.{lines_found, ruled_in, edge_parts, edges_ascend, job_head_parts}
 use Rattle.text.specs.declared.Step.{Step}
 use Rattle.text.specs.declared.Step.TheVariants.{Next, Refused}

@@ -1,5 +1,5 @@
 -- A plan's text as a whole: the head, the lines, and what is left over.
-use Rattle.lists.proofs.Prelude.{◌≡◌, refl, ◌∙◌, List, ℕ, zero, suc, ◌+◌, ◌*◌, ◌<◌, ◌≤◌, arith, lt-ltb, le-ltb, length, set, take, drop, length-set, drop_of_length-le, drop-cons, get_or-take, get_or-set_same, get_or-set_other, bytes, nth, Limits, found, refused, next, return, line, lines, ended, Line, plan_head_of, plan_head_rule, read_plan}
+use Rattle.lists.proofs.Prelude.{◌≡◌, refl, ◌∙◌, List, ℕ, zero, suc, ◌+◌, ◌*◌, ◌<◌, ◌≤◌, arith, lt-ltb, le-ltb, length, set, take, drop, length-set, drop_of_length-le, drop-cons, get_or-take, get_or-set_same, get_or-set_other, bytes, nth, Limits, found, refused, next, return, line, ended, Line, plan_head_of, plan_head_rule, read_plan}
 use Rattle.definitions.specs.Plan.{plan_head, plan_lines}
 use Rattle.text.specs.declared.Step.{Step}
 use Rattle.text.specs.declared.Step.TheVariants.{Next, Refused}

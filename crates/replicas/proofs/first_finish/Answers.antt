@@ -1,5 +1,5 @@
-use Rattle.lists.proofs.Prelude.{◌≡◌, sym, ◌∙◌, ⊎_elim, ◌≤◌, ◌-◌, arith, length}
-use Rattle.replicas.specs.Cells.{replicas_of, least_early, least_on}
+use Rattle.lists.proofs.Prelude.{◌≡◌, sym, ◌∙◌, arith, length}
+use Rattle.replicas.specs.Cells.{replicas_of}
 use Rattle.replicas.proofs.TwiceLaws.{least_none, least_sooner, least_stays}
 use Rattle.replicas.proofs.first_finish.Goals as goal
 use Rattle.replicas.proofs.first_finish.Goals.{then-x-time, else-x-time}

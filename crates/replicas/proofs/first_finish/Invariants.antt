@@ -1,6 +1,5 @@
-use Rattle.lists.proofs.Prelude.{◌≡◌, sym, ◌∙◌, ⊎_elim, ◌≤◌, ◌-◌, arith, length}
-use Rattle.replicas.specs.Cells.{replicas_of, least_early, least_on}
-use Rattle.replicas.proofs.TwiceLaws.{least_none, least_sooner, least_stays}
+use Rattle.lists.proofs.Prelude.{◌≡◌, ◌≤◌, ◌-◌}
+use Rattle.replicas.specs.Cells.{least_early, least_on}
 use Rattle.replicas.proofs.first_finish.Given as goal
 
 abbrev pub invariant-loop-c : goal.invariant-loop-c

@@ -1,6 +1,5 @@
 use Rattle.std.proofs.Common.{rules}
-use Rattle.lists.proofs.Prelude.{◌≡◌, refl, ◌≤◌, ◌-◌, ◌+◌, arith, length, drop, length-set, add-zero}
-use Rattle.lists.specs.Over.{over}
+use Rattle.lists.proofs.Prelude.{refl, ◌+◌, arith, length-set, add-zero}
 use Rattle.text.proofs.Writing.{copy_next, copy_end}
 use Rattle.text.proofs.copy_in.Goals as goal
 

@@ -1,7 +1,6 @@
 -- The bytes left to write give the whole answer.
-use Rattle.lists.proofs.Prelude.{◌≡◌, refl, ◌≤◌, ◌-◌, ◌+◌, arith, length, drop, length-set, add-zero}
+use Rattle.lists.proofs.Prelude.{◌≡◌, ◌≤◌, ◌-◌, ◌+◌, length, drop}
 use Rattle.lists.specs.Over.{over}
-use Rattle.text.proofs.Writing.{copy_next, copy_end}
 use Rattle.text.proofs.copy_in.Given as goal
 
 abbrev pub invariant-loop-i : goal.invariant-loop-i

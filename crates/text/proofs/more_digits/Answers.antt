@@ -1,5 +1,5 @@
 use Rattle.std.proofs.Common.{rules}
-use Rattle.lists.proofs.Prelude.{◌≡◌, refl, ◌∙◌, ◌≤◌, ◌<◌, ◌-◌, ◌^◌, arith, length, drop, document01, digits}
+use Rattle.lists.proofs.Prelude.{refl, ◌∙◌, arith}
 use Rattle.text.proofs.Reading.{digit_yes, digit_low, digit_high, digits_end, digits_stop, digits_full, digits_next, value_more, value_fits}
 use Rattle.text.specs.Suited.{suited}
 use Rattle.text.proofs.more_digits.Goals as goal

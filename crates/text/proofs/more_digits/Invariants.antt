@@ -1,7 +1,5 @@
 -- The digits left to read, after those that were read, give the whole answer.
-use Rattle.lists.proofs.Prelude.{◌≡◌, refl, ◌∙◌, ◌≤◌, ◌<◌, ◌-◌, ◌^◌, arith, length, drop, document01, digits}
-use Rattle.text.proofs.Reading.{digit_yes, digit_low, digit_high, digits_end, digits_stop, digits_full, digits_next, value_more, value_fits}
-use Rattle.text.specs.Suited.{suited}
+use Rattle.lists.proofs.Prelude.{◌≡◌, ◌≤◌, ◌<◌, ◌-◌, ◌^◌, length, drop, document01, digits}
 use Rattle.text.proofs.more_digits.Given as goal
 
 abbrev pub invariant-loop-i : goal.invariant-loop-i

@@ -1,5 +1,5 @@
 use Rattle.std.proofs.Common.{rules}
-use Rattle.lists.proofs.Prelude.{◌≡◌, refl, ◌∙◌, ◌≤◌, ◌-◌, ◌+◌, arith, length, drop, exactly}
+use Rattle.lists.proofs.Prelude.{refl, ◌∙◌, arith}
 use Rattle.text.proofs.Reading.{fixed_end, fixed_no, fixed_yes, fixed_done}
 use Rattle.text.proofs.read_fixed.Goals as goal
 

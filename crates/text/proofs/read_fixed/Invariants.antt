@@ -1,6 +1,5 @@
 -- The bytes left to compare give the whole answer.
-use Rattle.lists.proofs.Prelude.{◌≡◌, refl, ◌∙◌, ◌≤◌, ◌-◌, ◌+◌, arith, length, drop, exactly}
-use Rattle.text.proofs.Reading.{fixed_end, fixed_no, fixed_yes, fixed_done}
+use Rattle.lists.proofs.Prelude.{◌≡◌, ◌≤◌, ◌-◌, ◌+◌, length, drop, exactly}
 use Rattle.text.proofs.read_fixed.Given as goal
 
 abbrev pub invariant-loop-i : goal.invariant-loop-i

@@ -18,5 +18,8 @@ returns-then-b-eq48 c = let if1 = c.if-s-at in
 
 pub returns : goal.returns
 returns c = let if1 = c.if-s-at in
-    let if3 = c.if-b-gt57 in record { result_value = c.more_digits-2.ensures.result_value
-          ∙ rw c.wide.ensures (number_more _ _ _ if1.false (digit_yes _ c.if-b-lt48.false if3.false) c.if-b-eq48.false); placed = c.more_digits-2.ensures.placed }
+    let if3 = c.if-b-gt57 in record {
+      result_value = c.more_digits-2.ensures.result_value
+          ∙ rw c.wide.ensures (number_more _ _ _ if1.false (digit_yes _ c.if-b-lt48.false if3.false) c.if-b-eq48.false);
+      placed = c.more_digits-2.ensures.placed;
+    }

@@ -1,5 +1,5 @@
 use Rattle.std.proofs.Common.{rules}
-use Rattle.lists.proofs.Prelude.{◌≡◌, refl, sym, ◌∙◌, ◌≤◌, ◌-◌, arith, document01, width_from, width}
+use Rattle.lists.proofs.Prelude.{refl, sym, ◌∙◌, arith, document01, width}
 use Rattle.text.proofs.Powers.{width_stop, width_next, width_end}
 use Rattle.text.proofs.width_of.Goals as goal
 

@@ -1,6 +1,5 @@
 -- The search from d on gives the width.
-use Rattle.lists.proofs.Prelude.{◌≡◌, refl, sym, ◌∙◌, ◌≤◌, ◌-◌, arith, document01, width_from, width}
-use Rattle.text.proofs.Powers.{width_stop, width_next, width_end}
+use Rattle.lists.proofs.Prelude.{◌≡◌, ◌≤◌, ◌-◌, document01, width_from, width}
 use Rattle.text.proofs.width_of.Given as goal
 
 abbrev pub invariant-loop-d : goal.invariant-loop-d

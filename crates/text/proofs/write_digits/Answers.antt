@@ -1,6 +1,6 @@
 use Rattle.std.proofs.Common.{rules}
-use Rattle.lists.proofs.Prelude.{◌≡◌, refl, sym, ◌∙◌, ◌≤◌, length, length-set}
-use Rattle.text.proofs.Writing.{stored, stored_end, stored_next, stored_all}
+use Rattle.lists.proofs.Prelude.{refl, sym, ◌∙◌, length-set}
+use Rattle.text.proofs.Writing.{stored_end, stored_next, stored_all}
 use Rattle.text.proofs.write_digits.Goals as goal
 
 pub loop-k-init : goal.loop-k-init

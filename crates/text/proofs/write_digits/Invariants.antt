@@ -1,6 +1,6 @@
 -- The digits left to store give the whole answer.
-use Rattle.lists.proofs.Prelude.{◌≡◌, refl, sym, ◌∙◌, ◌≤◌, length, length-set}
-use Rattle.text.proofs.Writing.{stored, stored_end, stored_next, stored_all}
+use Rattle.lists.proofs.Prelude.{◌≡◌, ◌≤◌, length}
+use Rattle.text.proofs.Writing.{stored}
 use Rattle.text.proofs.write_digits.Given as goal
 
 abbrev pub invariant-loop-k : goal.invariant-loop-k

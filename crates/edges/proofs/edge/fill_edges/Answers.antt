@@ -1,6 +1,6 @@
-use Rattle.lists.proofs.Prelude.{◌≡◌, refl, sym, ap, ◌∙◌, map, ◌-◌, arith, length, take, nth, document01, edge_line, edge_rule, Ascends}
+use Rattle.lists.proofs.Prelude.{◌≡◌, refl, sym, ap, ◌∙◌, arith, nth}
 use Rattle.text.specs.Meaning.{step_reading}
-use Rattle.lines.proofs.LineLaws.{LinesUpTo, lines_none, lines_refused, lines_more, lines_read}
+use Rattle.lines.proofs.LineLaws.{lines_none, lines_refused, lines_more, lines_read}
 use Rattle.orders.specs.Edges.{edge_in}
 use Rattle.edges.proofs.EdgeLaws.{edges_more, edge_passed}
 use Rattle.edges.proofs.edge.fill_edges.Goals as goal

@@ -1,9 +1,7 @@
 -- The edges that were read, before edge i, are the front of the lines, and ascend.
-use Rattle.lists.proofs.Prelude.{◌≡◌, refl, sym, ap, ◌∙◌, map, ◌-◌, arith, length, take, nth, document01, edge_line, edge_rule, Ascends}
-use Rattle.text.specs.Meaning.{step_reading}
-use Rattle.lines.proofs.LineLaws.{LinesUpTo, lines_none, lines_refused, lines_more, lines_read}
+use Rattle.lists.proofs.Prelude.{◌≡◌, map, ◌-◌, length, take, document01, edge_line, edge_rule, Ascends}
+use Rattle.lines.proofs.LineLaws.{LinesUpTo}
 use Rattle.orders.specs.Edges.{edge_in}
-use Rattle.edges.proofs.EdgeLaws.{edges_more, edge_passed}
 use Rattle.edges.proofs.edge.fill_edges.Given as goal
 
 abbrev pub invariant-loop-i : goal.invariant-loop-i

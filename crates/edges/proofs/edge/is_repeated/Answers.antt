@@ -1,4 +1,4 @@
-use Rattle.lists.proofs.Prelude.{◌≡◌, sym, ◌∙◌, Bool, ℕ, ◌≤◌, ◌-◌, arith, eq-eqb, ne_eqb, length, drop, map, nth, any, same_pair}
+use Rattle.lists.proofs.Prelude.{sym, ◌∙◌, arith, eq-eqb, ne_eqb, nth}
 use Rattle.lists.proofs.ListLaws.{any_map, any_here, any_next, any_end}
 use Rattle.orders.specs.Edges.{edge_in}
 use Rattle.orders.proofs.PairLaws.{pair_same}

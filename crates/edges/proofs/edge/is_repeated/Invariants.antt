@@ -1,8 +1,6 @@
 -- Whether an edge from the i-th on has the pair is whether any has it.
-use Rattle.lists.proofs.Prelude.{◌≡◌, sym, ◌∙◌, Bool, ℕ, ◌≤◌, ◌-◌, arith, eq-eqb, ne_eqb, length, drop, map, nth, any, same_pair}
-use Rattle.lists.proofs.ListLaws.{any_map, any_here, any_next, any_end}
+use Rattle.lists.proofs.Prelude.{◌≡◌, Bool, ℕ, ◌≤◌, ◌-◌, length, drop, map, any, same_pair}
 use Rattle.orders.specs.Edges.{edge_in}
-use Rattle.orders.proofs.PairLaws.{pair_same}
 use Rattle.edges.proofs.edge.is_repeated.Given as goal
 
 -- The edge in a cell has the pair of that in another.

@@ -1,6 +1,5 @@
 use Rattle.std.proofs.Common.{rules}
-use Rattle.lists.proofs.Prelude.{◌≡◌, refl, ◌≤◌, ◌-◌, arith, length, get_or, take, drop, length-set, get_or-take, length-take-le}
-use Rattle.lists.specs.Over.{over}
+use Rattle.lists.proofs.Prelude.{◌≡◌, refl, arith, length, get_or, take, length-set, get_or-take, length-take-le}
 use Rattle.text.proofs.Writing.{copy_next, copy_end}
 use Rattle.jobs.proofs.cells.copy_cells.Goals as goal
 

@@ -1,7 +1,6 @@
 -- The cells left to copy give the whole answer.
-use Rattle.lists.proofs.Prelude.{◌≡◌, refl, ◌≤◌, ◌-◌, arith, length, get_or, take, drop, length-set, get_or-take, length-take-le}
+use Rattle.lists.proofs.Prelude.{◌≡◌, ◌≤◌, ◌-◌, length, take, drop}
 use Rattle.lists.specs.Over.{over}
-use Rattle.text.proofs.Writing.{copy_next, copy_end}
 use Rattle.jobs.proofs.cells.copy_cells.Given as goal
 
 abbrev pub invariant-loop-i : goal.invariant-loop-i

@@ -1,5 +1,5 @@
 use Rattle.std.proofs.Common.{rules}
-use Rattle.lists.proofs.Prelude.{◌≡◌, refl, ◌∙◌, ◌≤◌, ◌<◌, ◌-◌, ◌+◌, ◌^◌, arith, drop, document01, digits}
+use Rattle.lists.proofs.Prelude.{refl, ◌∙◌, arith}
 use Rattle.text.specs.Suited.{suited}
 use Rattle.text.proofs.Reading.{inner_stop, inner_next, inner_full, inner_end, value_ten, value_fits}
 use Rattle.lines.proofs.inner.more_digits.Goals as goal

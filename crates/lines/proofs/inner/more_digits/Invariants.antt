@@ -1,6 +1,4 @@
-use Rattle.lists.proofs.Prelude.{◌≡◌, refl, ◌∙◌, ◌≤◌, ◌<◌, ◌-◌, ◌+◌, ◌^◌, arith, drop, document01, digits}
-use Rattle.text.specs.Suited.{suited}
-use Rattle.text.proofs.Reading.{inner_stop, inner_next, inner_full, inner_end, value_ten, value_fits}
+use Rattle.lists.proofs.Prelude.{◌≡◌, ◌≤◌, ◌<◌, ◌-◌, ◌+◌, ◌^◌, drop, document01, digits}
 use Rattle.lines.proofs.inner.more_digits.Given as goal
 
 abbrev pub invariant-loop-i : goal.invariant-loop-i

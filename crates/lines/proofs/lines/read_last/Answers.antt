@@ -1,7 +1,7 @@
 use Rattle.std.proofs.Common.{rules}
-use Rattle.lists.proofs.Prelude.{refl, sym, ap, ◌∙◌, ◌-◌, take, drop, document01, numbers}
-use Rattle.text.specs.Meaning.{number_reading, step_reading, after}
-use Rattle.lines.proofs.LineLaws.{NumbersUpTo, numbers_bad, numbers_no, numbers_next, numbers_end}
+use Rattle.lists.proofs.Prelude.{refl, sym, ap, ◌∙◌}
+use Rattle.text.specs.Meaning.{number_reading, step_reading}
+use Rattle.lines.proofs.LineLaws.{numbers_bad, numbers_no, numbers_next, numbers_end}
 use Rattle.lines.proofs.lines.read_last.Goals as goal
 
 pub loop-i-init : goal.loop-i-init

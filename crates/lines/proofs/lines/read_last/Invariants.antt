@@ -1,6 +1,6 @@
-use Rattle.lists.proofs.Prelude.{refl, sym, ap, ◌∙◌, ◌-◌, take, drop, document01, numbers}
-use Rattle.text.specs.Meaning.{number_reading, step_reading, after}
-use Rattle.lines.proofs.LineLaws.{NumbersUpTo, numbers_bad, numbers_no, numbers_next, numbers_end}
+use Rattle.lists.proofs.Prelude.{◌-◌, take, drop, document01, numbers}
+use Rattle.text.specs.Meaning.{after}
+use Rattle.lines.proofs.LineLaws.{NumbersUpTo}
 use Rattle.lines.proofs.lines.read_last.Given as goal
 
 abbrev pub invariant-loop-i : goal.invariant-loop-i

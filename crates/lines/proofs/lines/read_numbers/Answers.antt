@@ -1,7 +1,7 @@
 use Rattle.std.proofs.Common.{rules}
-use Rattle.lists.proofs.Prelude.{◌≡◌, refl, sym, ap, ◌∙◌, List, ℕ, ◌<◌, ◌-◌, arith, length, drop, sub-zero, document01, found, number, numbers}
+use Rattle.lists.proofs.Prelude.{◌≡◌, refl, sym, ap, ◌∙◌, List, ℕ, ◌<◌, arith, length, drop, sub-zero, document01, found, number}
 use Rattle.text.specs.Meaning.{number_reading}
-use Rattle.lines.proofs.LineLaws.{after_none, byte_no, byte_yes, inner_place, NumbersUpTo, numbers_bad, numbers_no, numbers_next, numbers_end}
+use Rattle.lines.proofs.LineLaws.{after_none, byte_no, byte_yes, inner_place, numbers_bad, numbers_no, numbers_next, numbers_end}
 use Rattle.lines.proofs.lines.read_numbers.Goals as goal
 
 pub loop-i-init : goal.loop-i-init

@@ -1,6 +1,5 @@
-use Rattle.lists.proofs.Prelude.{◌≡◌, refl, sym, ap, ◌∙◌, List, ℕ, ◌<◌, ◌-◌, arith, length, drop, sub-zero, document01, found, number, numbers}
-use Rattle.text.specs.Meaning.{number_reading}
-use Rattle.lines.proofs.LineLaws.{after_none, byte_no, byte_yes, inner_place, NumbersUpTo, numbers_bad, numbers_no, numbers_next, numbers_end}
+use Rattle.lists.proofs.Prelude.{◌-◌, drop, document01, numbers}
+use Rattle.lines.proofs.LineLaws.{NumbersUpTo}
 use Rattle.lines.proofs.lines.read_numbers.Given as goal
 
 abbrev pub invariant-loop-i : goal.invariant-loop-i

@@ -1,5 +1,5 @@
 -- The tests are the rule's, in its order.
-use Rattle.lists.proofs.Prelude.{refl, sym, ◌∙◌, arith, first_of, eq-eqb, ne_eqb}
+use Rattle.lists.proofs.Prelude.{sym, ◌∙◌, arith, first_of, eq-eqb, ne_eqb}
 use Rattle.jobs.proofs.Held.{sizes}
 use Rattle.plans.proofs.PlanLaws.{strays_not, line_strays, line_rule}
 use Rattle.plans.proofs.plans.check_line.Goals as goal

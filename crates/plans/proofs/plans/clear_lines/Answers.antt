@@ -1,7 +1,6 @@
 use Rattle.std.proofs.Common.{rules}
-use Rattle.lists.proofs.Prelude.{◌≡◌, refl, ℕ, ◌≤◌, ◌<◌, ◌-◌, ◌+◌, ◌*◌, arith, length, nth}
-use Rattle.heads.specs.Layout.{line_at, blocked_at}
-use Rattle.lists.specs.Kept.{KeptOutside}
+use Rattle.lists.proofs.Prelude.{refl, ◌+◌, arith}
+use Rattle.heads.specs.Layout.{line_at}
 use Rattle.lists.proofs.Kept.{kept_all, kept_set}
 use Rattle.lists.proofs.Upward.{table_more}
 use Rattle.plans.proofs.plans.clear_lines.Goals as goal

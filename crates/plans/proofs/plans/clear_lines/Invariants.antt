@@ -1,8 +1,6 @@
-use Rattle.lists.proofs.Prelude.{◌≡◌, refl, ℕ, ◌≤◌, ◌<◌, ◌-◌, ◌+◌, ◌*◌, arith, length, nth}
+use Rattle.lists.proofs.Prelude.{◌≡◌, ℕ, ◌≤◌, ◌<◌, ◌-◌, ◌+◌, ◌*◌, length, nth}
 use Rattle.heads.specs.Layout.{line_at, blocked_at}
 use Rattle.lists.specs.Kept.{KeptOutside}
-use Rattle.lists.proofs.Kept.{kept_all, kept_set}
-use Rattle.lists.proofs.Upward.{table_more}
 use Rattle.plans.proofs.plans.clear_lines.Given as goal
 
 abbrev pub invariant-loop-t : goal.invariant-loop-t

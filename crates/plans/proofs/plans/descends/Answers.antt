@@ -1,6 +1,5 @@
-use Rattle.lists.proofs.Prelude.{◌≡◌, ⊎_elim, ℕ, suc, ◌≤◌, ◌<◌, ◌-◌, arith, document01, nth}
+use Rattle.lists.proofs.Prelude.{◌≡◌, ⊎_elim, suc, ◌-◌, arith}
 use Rattle.lists.proofs.Counting.{equal_or_not}
-use Rattle.heads.specs.Layout.{processor_at}
 use Rattle.jobs.proofs.Held.{sizes}
 use Rattle.plans.proofs.PlanLaws.{descends_here, descends_none}
 use Rattle.plans.proofs.plans.descends.Goals as goal

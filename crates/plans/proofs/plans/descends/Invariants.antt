@@ -1,9 +1,6 @@
 -- The replicas from c on stand in order.
-use Rattle.lists.proofs.Prelude.{◌≡◌, ⊎_elim, ℕ, suc, ◌≤◌, ◌<◌, ◌-◌, arith, document01, nth}
-use Rattle.lists.proofs.Counting.{equal_or_not}
+use Rattle.lists.proofs.Prelude.{ℕ, suc, ◌≤◌, ◌<◌, document01, nth}
 use Rattle.heads.specs.Layout.{processor_at}
-use Rattle.jobs.proofs.Held.{sizes}
-use Rattle.plans.proofs.PlanLaws.{descends_here, descends_none}
 use Rattle.plans.proofs.plans.descends.Given as goal
 
 abbrev pub invariant-loop-c : goal.invariant-loop-c

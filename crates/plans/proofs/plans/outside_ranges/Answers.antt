@@ -1,7 +1,6 @@
-use Rattle.lists.proofs.Prelude.{◌≡◌, refl, sym, ◌∙◌, ⊎_elim, false, ℕ, ◌≤◌, ◌<◌, ◌-◌, ◌+◌, arith, document01, nth}
+use Rattle.lists.proofs.Prelude.{◌≡◌, sym, ◌∙◌, ⊎_elim, ◌-◌, arith}
 use Rattle.lists.proofs.Counting.{equal_or_not}
 use Rattle.jobs.proofs.Held.{sizes}
-use Rattle.plans.specs.Lines.{replica_strays}
 use Rattle.plans.proofs.PlanLaws.{strays_task, strays_here, strays_none}
 use Rattle.plans.proofs.plans.outside_ranges.Goals as goal
 

@@ -1,9 +1,6 @@
 -- The replicas from c on are in range.
-use Rattle.lists.proofs.Prelude.{◌≡◌, refl, sym, ◌∙◌, ⊎_elim, false, ℕ, ◌≤◌, ◌<◌, ◌-◌, ◌+◌, arith, document01, nth}
-use Rattle.lists.proofs.Counting.{equal_or_not}
-use Rattle.jobs.proofs.Held.{sizes}
+use Rattle.lists.proofs.Prelude.{◌≡◌, false, ℕ, ◌≤◌, ◌<◌, ◌+◌, document01, nth}
 use Rattle.plans.specs.Lines.{replica_strays}
-use Rattle.plans.proofs.PlanLaws.{strays_task, strays_here, strays_none}
 use Rattle.plans.proofs.plans.outside_ranges.Given as goal
 
 abbrev pub invariant-loop-c : goal.invariant-loop-c

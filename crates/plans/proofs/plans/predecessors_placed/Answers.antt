@@ -1,6 +1,6 @@
-use Rattle.lists.proofs.Prelude.{sym, ◌∙◌, ◌-◌, arith, document01}
+use Rattle.lists.proofs.Prelude.{sym, ◌∙◌, arith}
 use Rattle.jobs.proofs.Held.{sizes, enters_run}
-use Rattle.plans.proofs.PlanLaws.{Lined, lined_first, lined_done, sender_below, lined_no, lined_next}
+use Rattle.plans.proofs.PlanLaws.{lined_first, lined_done, sender_below, lined_no, lined_next}
 use Rattle.plans.proofs.plans.predecessors_placed.Goals as goal
 
 pub bounds-mem-0 : goal.bounds-mem-0

@@ -1,7 +1,6 @@
 -- All tasks that the edges passed leave have lines.
-use Rattle.lists.proofs.Prelude.{sym, ◌∙◌, ◌-◌, arith, document01}
-use Rattle.jobs.proofs.Held.{sizes, enters_run}
-use Rattle.plans.proofs.PlanLaws.{Lined, lined_first, lined_done, sender_below, lined_no, lined_next}
+use Rattle.lists.proofs.Prelude.{◌-◌, document01}
+use Rattle.plans.proofs.PlanLaws.{Lined}
 use Rattle.plans.proofs.plans.predecessors_placed.Given as goal
 
 abbrev pub invariant-loop-k : goal.invariant-loop-k

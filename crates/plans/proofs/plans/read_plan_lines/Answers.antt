@@ -1,6 +1,6 @@
-use Rattle.lists.proofs.Prelude.{◌≡◌, ℕ, ◌≤◌, ◌-◌, arith, document01}
+use Rattle.lists.proofs.Prelude.{◌≡◌, ℕ, arith}
 use Rattle.jobs.proofs.Held.{links_kept}
-use Rattle.plans.proofs.PlanReading.{LinesUpTo, upto_none, tasks_kept, upto_end, upto_kept, upto_no, upto_next}
+use Rattle.plans.proofs.PlanReading.{upto_none, tasks_kept, upto_end, upto_kept, upto_no, upto_next}
 use Rattle.plans.proofs.plans.read_plan_lines.Goals as goal
 
 pub loop-k-init : goal.loop-k-init

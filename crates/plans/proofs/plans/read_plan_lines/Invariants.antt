@@ -1,7 +1,6 @@
 -- The lines from line k on, after the lines before it, are all the lines.
-use Rattle.lists.proofs.Prelude.{◌≡◌, ℕ, ◌≤◌, ◌-◌, arith, document01}
-use Rattle.jobs.proofs.Held.{links_kept}
-use Rattle.plans.proofs.PlanReading.{LinesUpTo, upto_none, tasks_kept, upto_end, upto_kept, upto_no, upto_next}
+use Rattle.lists.proofs.Prelude.{◌≤◌, ◌-◌, document01}
+use Rattle.plans.proofs.PlanReading.{LinesUpTo}
 use Rattle.plans.proofs.plans.read_plan_lines.Given as goal
 
 abbrev pub invariant-loop-k : goal.invariant-loop-k

@@ -1,5 +1,5 @@
 use Rattle.std.proofs.Common.{rules}
-use Rattle.lists.proofs.Prelude.{◌≡◌, ap, ◌≤◌, ◌-◌, ◌+◌, List, ℕ, arith, length, get_or, drop, document01, numbers_text}
+use Rattle.lists.proofs.Prelude.{ap, List, ℕ, arith, length, get_or, document01}
 use Rattle.definitions.proofs.Decimal.{width_powers}
 use Rattle.printing.proofs.WriteLaws.{numbers_most, length_next, text_end}
 use Rattle.printing.proofs.writer.numbers_length.Goals as goal

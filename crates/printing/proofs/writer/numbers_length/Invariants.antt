@@ -1,7 +1,5 @@
 -- What is counted and what is left make the whole.
-use Rattle.lists.proofs.Prelude.{◌≡◌, ap, ◌≤◌, ◌-◌, ◌+◌, List, ℕ, arith, length, get_or, drop, document01, numbers_text}
-use Rattle.definitions.proofs.Decimal.{width_powers}
-use Rattle.printing.proofs.WriteLaws.{numbers_most, length_next, text_end}
+use Rattle.lists.proofs.Prelude.{◌≡◌, ◌≤◌, ◌-◌, ◌+◌, length, drop, document01, numbers_text}
 use Rattle.printing.proofs.writer.numbers_length.Given as goal
 
 abbrev pub invariant-loop-i : goal.invariant-loop-i

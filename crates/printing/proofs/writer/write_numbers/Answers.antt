@@ -1,5 +1,5 @@
 use Rattle.std.proofs.Common.{rules}
-use Rattle.lists.proofs.Prelude.{◌≡◌, refl, sym, ap, ◌∙◌, ◌≤◌, ◌-◌, ◌+◌, arith, length, drop, length-set, document01, numbers_text}
+use Rattle.lists.proofs.Prelude.{refl, sym, ap, ◌∙◌, arith, length, length-set, document01}
 use Rattle.lists.specs.Over.{over}
 use Rattle.lists.proofs.Over.{over_nil}
 use Rattle.printing.proofs.WriteLaws.{text_end, turn}
@@ -18,7 +18,7 @@ pub overflow_add-p : goal.overflow_add-p
 overflow_add-p c =
     let l = c.loop-i in
     let s = c.args.vals.now in
- omega (arith, turn document01 s l.i c.loop-i-test.true l.out l.p (omega arith) _ _ c.write_number-p.ensures.holds c.write_number-p.ensures.value)
+    omega (arith, turn document01 s l.i c.loop-i-test.true l.out l.p (omega arith) _ _ c.write_number-p.ensures.holds c.write_number-p.ensures.value)
 
 pub loop-i-preserved : goal.loop-i-preserved
 loop-i-preserved c =

@@ -1,8 +1,6 @@
 -- What is yet to be written over the output gives the whole.
-use Rattle.lists.proofs.Prelude.{◌≡◌, refl, sym, ap, ◌∙◌, ◌≤◌, ◌-◌, ◌+◌, arith, length, drop, length-set, document01, numbers_text}
+use Rattle.lists.proofs.Prelude.{◌≡◌, ◌≤◌, ◌-◌, ◌+◌, length, drop, document01, numbers_text}
 use Rattle.lists.specs.Over.{over}
-use Rattle.lists.proofs.Over.{over_nil}
-use Rattle.printing.proofs.WriteLaws.{text_end, turn}
 use Rattle.printing.proofs.writer.write_numbers.Given as goal
 
 abbrev pub invariant-loop-i : goal.invariant-loop-i

@@ -1,5 +1,5 @@
-use Rattle.lists.proofs.Prelude.{◌≡◌, sym, ◌∙◌, [], ◌≤◌, ◌-◌, arith, length}
-use Rattle.replicas.specs.Cells.{lines_of, first_twice}
+use Rattle.lists.proofs.Prelude.{◌≡◌, sym, ◌∙◌, arith, length}
+use Rattle.replicas.specs.Cells.{lines_of}
 use Rattle.replicas.proofs.TwiceLaws.{part_cells, first_none, first_next, first_here}
 use Rattle.replicas.proofs.twice.first_twice.Goals as goal
 

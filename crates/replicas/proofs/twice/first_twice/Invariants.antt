@@ -1,6 +1,5 @@
-use Rattle.lists.proofs.Prelude.{◌≡◌, sym, ◌∙◌, [], ◌≤◌, ◌-◌, arith, length}
-use Rattle.replicas.specs.Cells.{lines_of, first_twice}
-use Rattle.replicas.proofs.TwiceLaws.{part_cells, first_none, first_next, first_here}
+use Rattle.lists.proofs.Prelude.{◌≡◌, [], ◌≤◌, ◌-◌}
+use Rattle.replicas.specs.Cells.{first_twice}
 use Rattle.replicas.proofs.twice.first_twice.Given as goal
 
 abbrev pub invariant-loop-k : goal.invariant-loop-k

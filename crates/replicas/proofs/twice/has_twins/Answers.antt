@@ -1,5 +1,5 @@
-use Rattle.lists.proofs.Prelude.{◌≡◌, sym, false, ◌≤◌, ◌-◌, arith, length}
-use Rattle.replicas.specs.Cells.{replicas_of, twins}
+use Rattle.lists.proofs.Prelude.{◌≡◌, sym, ◌-◌, arith, length}
+use Rattle.replicas.specs.Cells.{replicas_of}
 use Rattle.replicas.proofs.TwiceLaws.{twins_none, twins_next, twins_here}
 use Rattle.replicas.proofs.twice.has_twins.Goals as goal
 

@@ -1,6 +1,5 @@
-use Rattle.lists.proofs.Prelude.{◌≡◌, sym, false, ◌≤◌, ◌-◌, arith, length}
-use Rattle.replicas.specs.Cells.{replicas_of, twins}
-use Rattle.replicas.proofs.TwiceLaws.{twins_none, twins_next, twins_here}
+use Rattle.lists.proofs.Prelude.{◌≡◌, false, ◌≤◌, ◌-◌}
+use Rattle.replicas.specs.Cells.{twins}
 use Rattle.replicas.proofs.twice.has_twins.Given as goal
 
 abbrev pub invariant-loop-c : goal.invariant-loop-c

@@ -1,4 +1,4 @@
-use Rattle.lists.proofs.Prelude.{◌≡◌, refl, sym, ◌∙◌, ◌-◌, length, drop, any, outside}
+use Rattle.lists.proofs.Prelude.{refl, sym, ◌∙◌, outside}
 use Rattle.lists.proofs.ListLaws.{any_here, any_next, any_end}
 use Rattle.rows.proofs.row.any_outside.Goals as goal
 

@@ -1,5 +1,4 @@
-use Rattle.lists.proofs.Prelude.{◌≡◌, refl, sym, ◌∙◌, ◌-◌, length, drop, any, outside}
-use Rattle.lists.proofs.ListLaws.{any_here, any_next, any_end}
+use Rattle.lists.proofs.Prelude.{◌≡◌, ◌-◌, length, drop, any, outside}
 use Rattle.rows.proofs.row.any_outside.Given as goal
 
 abbrev pub invariant-loop-i : goal.invariant-loop-i

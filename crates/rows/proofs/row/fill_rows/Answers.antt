@@ -1,7 +1,7 @@
-use Rattle.lists.proofs.Prelude.{◌≡◌, refl, ◌∙◌, ◌≤◌, ◌-◌, ◌+◌, ◌*◌, arith, length, length-take, length-drop, document01, line}
+use Rattle.lists.proofs.Prelude.{◌≡◌, refl, ◌∙◌, ◌≤◌, ◌-◌, ◌+◌, ◌*◌, arith, length, length-take, length-drop}
 use borrow.Rule.Slice.PartMut.{same_len_mid}
-use Rattle.lines.proofs.LineLaws.{LinesUpTo, lines_none, lines_refused, lines_more, lines_read}
-use Rattle.rows.specs.Rows.{rows, rule_of}
+use Rattle.lines.proofs.LineLaws.{lines_none, lines_refused, lines_more, lines_read}
+use Rattle.rows.specs.Rows.{rows}
 use Rattle.rows.proofs.RowLaws.{length_rows, row_ends, lent_more}
 use Rattle.rows.proofs.row.fill_rows.Goals as goal
 

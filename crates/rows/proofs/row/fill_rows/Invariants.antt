@@ -1,9 +1,7 @@
 -- The rows that were read, before row i, are the front of the lines.
-use Rattle.lists.proofs.Prelude.{◌≡◌, refl, ◌∙◌, ◌≤◌, ◌-◌, ◌+◌, ◌*◌, arith, length, length-take, length-drop, document01, line}
-use borrow.Rule.Slice.PartMut.{same_len_mid}
-use Rattle.lines.proofs.LineLaws.{LinesUpTo, lines_none, lines_refused, lines_more, lines_read}
+use Rattle.lists.proofs.Prelude.{◌≡◌, ◌-◌, length, document01, line}
+use Rattle.lines.proofs.LineLaws.{LinesUpTo}
 use Rattle.rows.specs.Rows.{rows, rule_of}
-use Rattle.rows.proofs.RowLaws.{length_rows, row_ends, lent_more}
 use Rattle.rows.proofs.row.fill_rows.Given as goal
 
 abbrev pub invariant-loop-i : goal.invariant-loop-i

@@ -1,4 +1,4 @@
-use Rattle.lists.proofs.Prelude.{◌≡◌, refl, ℕ, ◌≤◌, ◌<◌, ◌-◌, arith, length, length-set, nth}
+use Rattle.lists.proofs.Prelude.{◌≡◌, refl, arith, length-set}
 use Rattle.ticks.specs.Cells.{never_cell}
 use Rattle.lists.proofs.ListLaws.{each_more}
 use Rattle.stops.proofs.stops.clear.Goals as goal

@@ -1,7 +1,6 @@
 -- After i turns the first i cells are never.
-use Rattle.lists.proofs.Prelude.{◌≡◌, refl, ℕ, ◌≤◌, ◌<◌, ◌-◌, arith, length, length-set, nth}
+use Rattle.lists.proofs.Prelude.{◌≡◌, ℕ, ◌≤◌, ◌<◌, ◌-◌, length, nth}
 use Rattle.ticks.specs.Cells.{never_cell}
-use Rattle.lists.proofs.ListLaws.{each_more}
 use Rattle.stops.proofs.stops.clear.Given as goal
 
 abbrev pub invariant-loop-i : goal.invariant-loop-i

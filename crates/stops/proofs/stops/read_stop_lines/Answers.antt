@@ -1,8 +1,8 @@
 use Rattle.std.proofs.Common.{rules}
-use Rattle.lists.proofs.Prelude.{◌≡◌, refl, sym, ◌∙◌, List, ℕ, ◌-◌, arith, length, length-set, take, drop, bytes, document01, found, line}
+use Rattle.lists.proofs.Prelude.{◌≡◌, refl, sym, ◌∙◌, List, ℕ, arith, length, length-set, take, drop, bytes, document01, found, line}
 use Rattle.text.specs.Suited.{suited}
 use Rattle.lines.proofs.LineLaws.{line_reading}
-use Rattle.stops.proofs.StopLaws.{StopsUpTo, stops_none, stops_end, stops_bad, stops_no, stops_shorter, stops_next}
+use Rattle.stops.proofs.StopLaws.{stops_none, stops_end, stops_bad, stops_no, stops_shorter, stops_next}
 use Rattle.stops.proofs.stops.read_stop_lines.Goals as goal
 
 pub loop-p-init : goal.loop-p-init

@@ -1,7 +1,5 @@
-use Rattle.lists.proofs.Prelude.{◌≡◌, refl, sym, ◌∙◌, List, ℕ, ◌-◌, arith, length, length-set, take, drop, bytes, document01, found, line}
-use Rattle.text.specs.Suited.{suited}
-use Rattle.lines.proofs.LineLaws.{line_reading}
-use Rattle.stops.proofs.StopLaws.{StopsUpTo, stops_none, stops_end, stops_bad, stops_no, stops_shorter, stops_next}
+use Rattle.lists.proofs.Prelude.{◌≡◌, ◌-◌, length, document01}
+use Rattle.stops.proofs.StopLaws.{StopsUpTo}
 use Rattle.stops.proofs.stops.read_stop_lines.Given as goal
 
 abbrev pub invariant-loop-p : goal.invariant-loop-p
