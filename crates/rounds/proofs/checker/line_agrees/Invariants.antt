@@ -1,0 +1,11 @@
+-- The ticks of the replicas passed are the equations'.
+use Rattle.lists.proofs.Prelude.{refl, ◌≤◌, ◌<◌, ◌-◌, arith, true, false, false≢true, document01}
+use Rattle.jobs.proofs.Held.{sizes}
+use Rattle.rounds.proofs.AgreeLaws.{finishes_asked, short_next, Compared, compared_none, cells_within, processor_most, compared_not, compared_next, compared_all}
+use Rattle.rounds.proofs.checker.line_agrees.Given as goal
+
+abbrev pub invariant-loop-c : goal.invariant-loop-c
+invariant-loop-c l = (l.c ≤ l.w) × Compared document01 l.capacity l.k l.a l.mem l.early l.late l.c
+
+abbrev pub decreases-loop-c : goal.decreases-loop-c
+decreases-loop-c l = l.w - l.c

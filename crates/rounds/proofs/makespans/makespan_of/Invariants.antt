@@ -1,0 +1,11 @@
+-- acc is the largest end of the tasks passed.
+use Rattle.lists.proofs.Prelude.{◌≤◌, ◌-◌, arith}
+use Rattle.jobs.proofs.Held.{sizes}
+use Rattle.rounds.proofs.MakespanLaws.{Ending, ending_first, ending_next, ending_done}
+use Rattle.rounds.proofs.makespans.makespan_of.Given as goal
+
+abbrev pub invariant-loop-t : goal.invariant-loop-t
+invariant-loop-t l = (l.t ≤ l.v) × Ending l.capacity l.late l.mem l.acc l.t
+
+abbrev pub decreases-loop-t : goal.decreases-loop-t
+decreases-loop-t l = l.v - l.t

@@ -1,0 +1,14 @@
+-- Line by line the outcomes are those of the replay.
+use Rattle.lists.proofs.Prelude.{◌≡◌, refl, ◌≤◌, ◌-◌, arith, add-one, length, document01}
+use Rattle.jobs.proofs.Held.{sizes, links_kept}
+use Rattle.rounds.specs.Arrivals.{Ended}
+use Rattle.rounds.proofs.EndLaws.{ended_none}
+use Rattle.rounds.proofs.RoundLaws.{RoundRuns, round_first, round_asks, round_next, round_done}
+use Rattle.rounds.proofs.replaying.run_lines.Given as goal
+
+abbrev pub invariant-loop-k : goal.invariant-loop-k
+invariant-loop-k l =
+    (l.k ≤ l.v) × RoundRuns document01 l.capacity l.k l.stops l.ready.at l.initial.mem l.mem × Ended document01 l.capacity l.k l.mem l.ends × (length l.ends ≡ length l.initial.ends)
+
+abbrev pub decreases-loop-k : goal.decreases-loop-k
+decreases-loop-k l = l.v - l.k

@@ -1,0 +1,13 @@
+-- The R lines of the tasks passed were rendered.
+use Rattle.lists.proofs.Prelude.{◌≡◌, ◌≤◌, ◌-◌, ◌*◌, arith, document01, nth}
+use Rattle.jobs.proofs.Held.{sizes}
+use Rattle.printing.specs.Rendered.{Rendered}
+use Rattle.printing.proofs.Rendering.{rendered_none, rendered_more}
+use Rattle.rounds.proofs.ResultLaws.{task_lines, tasks_none, tasks_next, replay_rendered}
+use Rattle.rounds.proofs.results.render.Given as goal
+
+abbrev pub invariant-loop-t : goal.invariant-loop-t
+invariant-loop-t l = (l.t ≤ l.v) × (l.at ≤ 35 * l.t) × Rendered (task_lines document01 l.capacity l.t l.mem) l.initial.out l.out l.at
+
+abbrev pub decreases-loop-t : goal.decreases-loop-t
+decreases-loop-t l = l.v - l.t

@@ -1,0 +1,13 @@
+-- After c turns the two ends are the choices among the first c replicas of the line.
+use Rattle.lists.proofs.Prelude.{◌≡◌, ◌≤◌, ◌-◌, ◌+◌, arith, true, false, document01, nth}
+use Rattle.ticks.specs.Cells.{time_in, never_cell}
+use Rattle.jobs.proofs.Held.{sizes}
+use Rattle.rounds.proofs.TimeLaws.{none_late, none_early}
+use Rattle.rounds.proofs.MakespanLaws.{chosen_in, chosen_first, chosen_next}
+use Rattle.rounds.proofs.times.ends_in.Given as goal
+
+abbrev pub invariant-loop-c : goal.invariant-loop-c
+invariant-loop-c l = (l.c ≤ l.w) × (nth l.mem 3 ≤ document01.losses) × (time_in l.first ≡ chosen_in false l.a l.c l.mem) × (time_in l.last ≡ chosen_in true l.a l.c l.mem)
+
+abbrev pub decreases-loop-c : goal.decreases-loop-c
+decreases-loop-c l = l.w - l.c

@@ -1,0 +1,76 @@
+use Rattle.lists.proofs.Prelude.{◌≡◌, refl, ap, ◌∙◌, sym, ⊎_elim, ℕ, ◌≤◌, ◌<◌, ◌-◌, ◌+◌, ◌*◌, min, arith, nth, Bool, true, false, incoming, after, document01}
+use Rattle.orders.specs.Edges.{edge_in}
+use Rattle.orders.proofs.Walk.{Passed, pass_first, pass_at, pass_on}
+use Rattle.jobs.specs.Held.{job_in}
+use Rattle.jobs.proofs.Held.{sizes, enters_run}
+use Rattle.definitions.specs.Shelf.{NoLater}
+use Rattle.ticks.specs.Floats.{Held, lane_time, time_of}
+use Rattle.ticks.proofs.HeldLaws.{least_holds}
+use Rattle.rounds.specs.Arrivals.{lane_most}
+use Rattle.rounds.proofs.TimeLaws.{feeds}
+use Rattle.rounds.proofs.TimeTables.{table_held, Gathered, gathered_none, gathered_next, gathered_same, gathered_done, ready_least, waits_not, edge_ends}
+use Rattle.rounds.proofs.times.raise_data.Goals as goal
+
+pub bounds-mem-0 : goal.bounds-mem-0
+bounds-mem-0 c = let s = sizes c.requires.0.1.job in omega arith
+
+pub bounds-mem-1 : goal.bounds-mem-1
+bounds-mem-1 c = let s = sizes c.requires.0.1.job in omega arith
+
+pub loop-k-init : goal.loop-k-init
+loop-k-init c =
+    let p = c.requires in
+    (pass_first (enters_run p.1 p.5 c.entering-span.ensures), gathered_none _ false _ p.7 _ _, gathered_none _ true _ p.8 _ _)
+
+pub may_wait-requires : goal.may_wait-requires
+may_wait-requires c =
+    let p = c.requires in (
+      edge_ends p.0.1 c.args.t p.6 (pass_at c.loop-k.invariant.0 c.loop-k-test.true),
+      (ready_least p.0.1.job p.7 c.least-x.ensures).0,
+      (ready_least p.0.1.job p.8 c.least-y.ensures).0,
+      p.4,
+    )
+
+pub raise_edge-requires : goal.raise_edge-requires
+raise_edge-requires c =
+    let p = c.requires in
+    let l = c.loop-k in
+    let i = pass_at l.invariant.0 c.loop-k-test.true in
+    (p.0.1.job, p.2, feeds c.args.t p.0.1 p.6.placed i, table_held l.invariant.1, table_held l.invariant.2)
+
+pub loop-k-preserved : goal.loop-k-preserved
+loop-k-preserved c =
+    let here = (goal.at.loop-k-preserved c).After-shared_slice_known-5-1 in
+    let p = c.requires in
+    let a = c.args in
+    let l = c.loop-k in
+    let (w, e, f) = l.invariant in
+    let taken = c.loop-k-test.true in
+    let i = pass_at w taken in
+    let on = pass_on w taken _ refl in
+    ⊎_elim
+    (λ b. (
+      on,
+      rw b.4 (gathered_next a.capacity false (lane_time a.early.now) a.t w e b.3.ensures.0),
+      rw b.5 (gathered_next a.capacity true (lane_time a.late.now) a.t w f b.3.ensures.1),
+    ))
+    (λ b.
+    let (x, y) = c.may_wait.ensures b.0.left in (
+      on,
+      rw b.1 (gathered_same a.capacity false (lane_time a.early.now) a.t w e (λ q o.
+          waits_not p.0.1 a.t p.6 p.3 (edge_in (nth a.links.now l.k)) i q o false (time_of here.least.result) x
+          ((ready_least p.0.1.job p.7 here.least.ensures).1 q o))),
+      rw b.2 (gathered_same a.capacity true (lane_time a.late.now) a.t w f (λ q o.
+          waits_not p.0.1 a.t p.6 p.3 (edge_in (nth a.links.now l.k)) i q o true (time_of c.least-y.result) y
+          ((ready_least p.0.1.job p.8 c.least-y.ensures).1 q o))),
+    ))
+    c.if-may_wait.branch
+
+pub returns : goal.returns
+returns c =
+    let p = c.requires in
+    let a = c.args in
+    let (w, e, f) = c.loop-k.invariant in (
+      gathered_done a.capacity false (lane_time a.early.now) a.t w e p.0.1 p.6.placed c.loop-k-test.false,
+      gathered_done a.capacity true (lane_time a.late.now) a.t w f p.0.1 p.6.placed c.loop-k-test.false,
+    )

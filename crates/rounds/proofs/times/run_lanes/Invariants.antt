@@ -1,0 +1,13 @@
+-- The lanes before p hold the finishes.
+use Rattle.lists.proofs.Prelude.{◌≡◌, ℕ, ◌≤◌, ◌<◌, ◌-◌, arith, length, length-set, nth, tick, after, run_time}
+use Rattle.lists.proofs.ListLaws.{each_more}
+use Rattle.ticks.specs.Floats.{lane_time}
+use Rattle.jobs.specs.Held.{job_in}
+use Rattle.jobs.proofs.Held.{sizes}
+use Rattle.rounds.proofs.times.run_lanes.Given as goal
+
+abbrev pub invariant-loop-p : goal.invariant-loop-p
+invariant-loop-p l = (l.p ≤ l.m) × (length l.finishes ≡ 16) × (l.m ≤ 16) × ((q : ℕ) → q < l.p → tick (nth l.finishes q) ≡ after (run_time (job_in l.mem) l.t q) (lane_time l.starts q))
+
+abbrev pub decreases-loop-p : goal.decreases-loop-p
+decreases-loop-p l = l.m - l.p
