@@ -61,7 +61,7 @@ returns-else-line_agrees c =
     ticks_no pre.0 pre.1 _ c.loop-k-test.true (λ a. false≢true (sym c.if-line_agrees.false ∙ c.line_agrees.ensures.1 a))
 
 pub overflow_add-k : goal.overflow_add-k
-overflow_add-k c = let s = sizes c.before.before.before.before.before.before.before.before.before.before.before.before.before.before.before.before.before.before.before.before.pre.0.standing.job in omega arith
+overflow_add-k c = let s = sizes c.requires.0.standing.job in omega arith
 
 pub loop-k-preserved : goal.loop-k-preserved
 loop-k-preserved c =

@@ -11,6 +11,9 @@ overflow_add-mem c = let s = sizes c.requires.job.1 in omega arith
 pub place-end-requires : goal.place-end-requires
 place-end-requires c = let s = sizes c.requires.job.1 in omega (arith, c.requires.within)
 
+pub slice_bounds-advance-end : goal.slice_bounds-advance-end
+slice_bounds-advance-end c = let s = sizes c.requires.job.1 in omega (arith, c.requires.within, c.place-end.ensures)
+
 pub returns : goal.returns
 returns c =
     let mem = c.args.mem.now in

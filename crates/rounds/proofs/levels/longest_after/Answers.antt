@@ -9,6 +9,7 @@ use Rattle.rounds.proofs.Walks.{leaves_run}
 use Rattle.rounds.proofs.TimeLaws.{largest_ticks, gathered, gather_none, gather_next, gather_done}
 use Rattle.rounds.proofs.LevelLaws.{Message, message}
 use Rattle.rounds.proofs.levels.longest_after.Goals as goal
+use Rattle.rounds.proofs.levels.longest_after.Goals.{then-y-x, else-y-x}
 
 pub edges_at-g-requires : goal.edges_at-g-requires
 edges_at-g-requires c = (_, c.requires.0)
@@ -61,7 +62,10 @@ loop-k-preserved c =
     let l = c.loop-k in
     let z = sent a.capacity mem (edge_in (nth mem (c.edges_at-g.result + l.k))) in
     let y : c.edge_volume.result * a.total + nth mem (level_at a.capacity + c.edge_to-to.result) ≡ z = rw (c.edge_volume.ensures, c.edge_to-to.ensures.0) h.sent_same in
-    let x : c.if-y-x.x ≡ max l.x z = ⊎_elim (λ w. omega (arith, w, y)) (λ w. omega (arith, w, y)) c.if-y-x.branch in (
+    let x : c.if-y-x.x ≡ max l.x z = elim c.if-y-x.branch [
+      | then-y-x w ↦ omega (arith, w.x-is, w.if-y-x.true, y)
+      | else-y-x w ↦ omega (arith, w.x-is, w.if-y-x.false, y)
+    ] in (
       pass_on l.invariant.0 (omega (arith, c.loop-k-test.true)) _ (omega arith),
       omega (arith, x, h.little, h.level, h.sent_same, l.invariant.1),
       ap tick x ∙ ap (λ (u : Time). later u (tick z)) l.invariant.2 ∙ gather_next (λ e. tick (sent a.capacity mem e)) l.invariant.0 _ (omega arith),

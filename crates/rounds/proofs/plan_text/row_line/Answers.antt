@@ -11,6 +11,11 @@ overflow_add-mem c = omega (arith, (sizes c.requires.0).row_fits)
 pub place-b-requires : goal.place-b-requires
 place-b-requires c = let pre = c.requires in omega (arith, sizes pre.0, pre.1, c.row_at-a.ensures)
 
+pub slice_bounds-line-end-3 : goal.slice_bounds-line-end-3
+slice_bounds-line-end-3 c =
+    let pre = c.requires in
+    omega (arith, row_within (sizes pre.0) pre.1 c.row_at-a.ensures c.place-b.ensures)
+
 pub overflow_add-result : goal.overflow_add-result
 overflow_add-result c =
     let pre = c.requires in

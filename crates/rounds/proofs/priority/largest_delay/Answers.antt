@@ -4,6 +4,7 @@ use Rattle.jobs.specs.Held.{job_in}
 use Rattle.jobs.proofs.Held.{sizes, processors_in}
 use Rattle.lists.proofs.Upward.{greatest_more}
 use Rattle.rounds.proofs.priority.largest_delay.Goals as goal
+use Rattle.rounds.proofs.priority.largest_delay.Goals.{then-y-x, else-y-x}
 
 pub bounds-mem-1 : goal.bounds-mem-1
 bounds-mem-1 c = let s = sizes c.requires.0.1 in omega arith
@@ -27,7 +28,10 @@ loop-q-preserved c =
     let loop = c.loop-q in
     let g = greatest_more (delay (job_in args.mem.now) args.p) loop.q in
     let e = c.delay-y.ensures.0 in
-    (search rules, loop.invariant.1, ⊎_elim (λ w. omega (arith, w.1, w.0.taken, e, g)) (λ w. omega (arith, w.1, w.0.left, e, g)) c.if-y-x.branch)
+    (search rules, loop.invariant.1, elim c.if-y-x.branch [
+      | then-y-x w ↦ omega (arith, w.x-is, w.if-y-x.true, e, g)
+      | else-y-x w ↦ omega (arith, w.x-is, w.if-y-x.false, e, g)
+    ])
 
 pub returns : goal.returns
 unfolding largest_delay

@@ -6,6 +6,7 @@ use Rattle.rounds.specs.Planning.{spread_in, spread_most}
 use Rattle.rounds.proofs.TimeLaws.{time_tick}
 use Rattle.rounds.proofs.TopLaws.{spread_none, sent_on, sent_little, spread_more}
 use Rattle.rounds.proofs.priority.spread.Goals as goal
+use Rattle.rounds.proofs.priority.spread.Goals.{then-y-x, else-y-x}
 
 pub loop-c-init : goal.loop-c-init
 loop-c-init c =
@@ -49,7 +50,10 @@ loop-c-preserved c =
     let (on, early, _) = c.replica_at-r.ensures in
     let y = nth mem (early_at a l.c) + c.args.volume * nth mem (largest_delay_at c.args.capacity + nth mem (processor_at a l.c)) in
     let e : c.if-y-x.x ≡ min y l.x =
-    rw (← on, ← early) (⊎_elim (λ w. omega (arith, w.0.taken, w.1)) (λ w. omega (arith, w.0.left, w.1)) c.if-y-x.branch) in
+    rw (← on, ← early) (elim c.if-y-x.branch [
+      | then-y-x w ↦ omega (arith, w.if-y-x.true, w.x-is)
+      | else-y-x w ↦ omega (arith, w.if-y-x.false, w.x-is)
+    ]) in
     let (f, m) = spread_more c.requires.0 c.requires.1 c.loop-c-test.true refl l.invariant.1 l.invariant.3 e in
     (search rules, omega (arith, m), λ h. m, f)
 

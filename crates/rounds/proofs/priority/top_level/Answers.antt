@@ -6,6 +6,7 @@ use Rattle.jobs.proofs.Held.{sizes, enters_run}
 use Rattle.rounds.proofs.TimeLaws.{feeds, gathered, gather_none, gather_next}
 use Rattle.rounds.proofs.TopLaws.{spreads, feeds_sends, scale_most, top_most_lem, top_one, top_scaled}
 use Rattle.rounds.proofs.priority.top_level.Goals as goal
+use Rattle.rounds.proofs.priority.top_level.Goals.{then-y-x, else-y-x}
 
 pub bounds-mem-0 : goal.bounds-mem-0
 bounds-mem-0 c = let s = sizes c.requires.0.1.job in omega arith
@@ -33,7 +34,10 @@ loop-k-preserved c =
     let (w, m, g) = loop.invariant in
     let e = c.entering-e.ensures in
     let (y, n) = c.spread-y.ensures in
-    let z : c.if-y-x.x ≡ max loop.x c.spread-y.result = ⊎_elim (λ w. omega (arith, w)) (λ w. omega (arith, w)) c.if-y-x.branch in (
+    let z : c.if-y-x.x ≡ max loop.x c.spread-y.result = elim c.if-y-x.branch [
+      | then-y-x w ↦ omega (arith, w.if-y-x.true, w.x-is)
+      | else-y-x w ↦ omega (arith, w.if-y-x.false, w.x-is)
+    ] in (
       pass_on w c.loop-k-test.true _ refl,
       omega (arith, z),
       ap tick z ∙ ap₂ later g (rw (e.row_of, e.volume_of) at y) ∙ gather_next (spreads args.capacity args.mem.now) w _ refl,

@@ -10,6 +10,7 @@ use Rattle.rounds.specs.Arrivals.{lane_most}
 use Rattle.rounds.proofs.TimeLaws.{feeds}
 use Rattle.rounds.proofs.TimeTables.{table_held, Gathered, gathered_none, gathered_next, gathered_same, gathered_done, ready_least, waits_not, edge_ends}
 use Rattle.rounds.proofs.times.raise_data.Goals as goal
+use Rattle.rounds.proofs.times.raise_data.Goals.{then-may_wait, else-may_wait}
 
 pub bounds-mem-0 : goal.bounds-mem-0
 bounds-mem-0 c = let s = sizes c.requires.0.1.job in omega arith
@@ -40,7 +41,6 @@ raise_edge-requires c =
 
 pub loop-k-preserved : goal.loop-k-preserved
 loop-k-preserved c =
-    let here = (goal.at.loop-k-preserved c).After-shared_slice_known-5-1 in
     let p = c.requires in
     let a = c.args in
     let l = c.loop-k in
@@ -48,23 +48,23 @@ loop-k-preserved c =
     let taken = c.loop-k-test.true in
     let i = pass_at w taken in
     let on = pass_on w taken _ refl in
-    ⊎_elim
-    (λ b. (
-      on,
-      rw b.4 (gathered_next a.capacity false (lane_time a.early.now) a.t w e b.3.ensures.0),
-      rw b.5 (gathered_next a.capacity true (lane_time a.late.now) a.t w f b.3.ensures.1),
-    ))
-    (λ b.
-    let (x, y) = c.may_wait.ensures b.0.left in (
-      on,
-      rw b.1 (gathered_same a.capacity false (lane_time a.early.now) a.t w e (λ q o.
-          waits_not p.0.1 a.t p.6 p.3 (edge_in (nth a.links.now l.k)) i q o false (time_of here.least.result) x
-          ((ready_least p.0.1.job p.7 here.least.ensures).1 q o))),
-      rw b.2 (gathered_same a.capacity true (lane_time a.late.now) a.t w f (λ q o.
-          waits_not p.0.1 a.t p.6 p.3 (edge_in (nth a.links.now l.k)) i q o true (time_of c.least-y.result) y
-          ((ready_least p.0.1.job p.8 c.least-y.ensures).1 q o))),
-    ))
-    c.if-may_wait.branch
+    elim c.if-may_wait.branch [
+      | then-may_wait b ↦ (
+          on,
+          rw b.early-is (gathered_next a.capacity false (lane_time a.early.now) a.t w e b.raise_edge.ensures.0),
+          rw b.late-is (gathered_next a.capacity true (lane_time a.late.now) a.t w f b.raise_edge.ensures.1),
+        )
+      | else-may_wait b ↦
+          let (x, y) = c.may_wait.ensures b.if-may_wait.false in (
+            on,
+            rw b.early-is (gathered_same a.capacity false (lane_time a.early.now) a.t w e (λ q o.
+                waits_not p.0.1 a.t p.6 p.3 (edge_in (nth a.links.now l.k)) i q o false (time_of c.least-x.result) x
+                ((ready_least p.0.1.job p.7 c.least-x.ensures).1 q o))),
+            rw b.late-is (gathered_same a.capacity true (lane_time a.late.now) a.t w f (λ q o.
+                waits_not p.0.1 a.t p.6 p.3 (edge_in (nth a.links.now l.k)) i q o true (time_of c.least-y.result) y
+                ((ready_least p.0.1.job p.8 c.least-y.ensures).1 q o))),
+          )
+    ]
 
 pub returns : goal.returns
 returns c =

@@ -19,20 +19,18 @@ render-requires c = let (h, l) = c.requires in
 
 pub returns-then-replay_fits : goal.returns-then-replay_fits
 returns-then-replay_fits c =
-    let step_reading = (goal.at.returns-then-replay_fits c).After-cells-2-1 in
     let d = c.args.mem.now in
     let h = leb-true _ _ (sym c.replay_fits.ensures ∙ c.if-replay_fits.true) in
     let r = c.render.ensures in
     let ran = c.run_round.ensures in
     run_done c.requires.0 ran c.args.stops.now c.args.out.now _ _ c.load_stops.auto.stops
-    (rw step_reading.enum_told.given.1 at (c.load_stops.ensures (job_in d) (processors_in d))) refl h _ _ r.size (r.holds h)
+    (rw c.in-Next.is at (c.load_stops.ensures (job_in d) (processors_in d))) refl h _ _ r.size (r.holds h)
 
 pub returns-else-replay_fits : goal.returns-else-replay_fits
 returns-else-replay_fits c =
-    let step_reading = (goal.at.returns-else-replay_fits c).In-Next-1 in
     let d = c.args.mem.now in
     run_short c.requires.0 c.run_round.ensures c.args.stops.now c.args.out.now _ _ c.load_stops.auto.stops
-    (rw step_reading.enum_told.given.1 at (c.load_stops.ensures (job_in d) (processors_in d))) refl (leb-false _ _ (sym c.replay_fits.ensures ∙ c.if-replay_fits.false))
+    (rw c.in-Next.is at (c.load_stops.ensures (job_in d) (processors_in d))) refl (leb-false _ _ (sym c.replay_fits.ensures ∙ c.if-replay_fits.false))
 
 pub returns-in-Refused : goal.returns-in-Refused
 returns-in-Refused c =

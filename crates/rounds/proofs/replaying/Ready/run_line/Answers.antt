@@ -189,7 +189,7 @@ bounds-self-p-in-loop-c c =
     below
 
 pub overflow_add-c : goal.overflow_add-c
-overflow_add-c c = let turn = (goal.at.overflow_add-c c).After-first_starts-starts in omega (arith, turn.loop-test.true, turn.before.loop.invariant.1)
+overflow_add-c c = omega (arith, c.loop-c-test.true, c.loop-c.invariant.1)
 
 pub loop-c-preserved : goal.loop-c-preserved
 loop-c-preserved c =
