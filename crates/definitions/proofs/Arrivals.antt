@@ -1,4 +1,5 @@
 -- The pass over a predecessor's replicas: least and largest arrival, own replicas apart.
+use Rattle.std.specs.Prelude.{if◌then◌else◌}
 use mathlib.Core.Path.{◌≡◌, refl, ap, ◌∙◌, sym}
 use mathlib.Core.Logic.{◌⊎◌, inl, inr, ⊎_elim}
 use mathlib.Core.List.{List, [], ◌∷◌, ◌++◌, map}
@@ -6,7 +7,7 @@ use mathlib.Core.Bool.{Bool, true, false}
 use Prim.Native.Nat.{ℕ, ◌≤◌}
 use native.Mathlib.Nat.{mul-zero}
 use lib.Dec.{eqb}
-use Rattle.definitions.specs.Lists.{if◌then◌else◌, In, some_or, last_of, keep}
+use Rattle.definitions.specs.Lists.{In, some_or, last_of, keep}
 use Rattle.definitions.specs.Job.{Edge, Job, delay}
 use Rattle.definitions.specs.Times.{Time, tick, never, later, sooner, after, least, largest, Outcome, of_task, on_processor, times, message, feeding, arrival}
 use Rattle.definitions.specs.Shelf.{NoLater}

@@ -1,4 +1,5 @@
 -- The bottom levels of a job without a circle are as the document says, each from those of its successors.
+use Rattle.std.specs.Prelude.{if◌then◌else◌}
 use mathlib.Core.Path.{◌≡◌, refl, ap, ◌∙◌, sym}
 use mathlib.Core.Logic.{◌⊎◌, inl, inr, ⊎_elim}
 use mathlib.Core.List.{List, [], map}
@@ -6,7 +7,7 @@ use mathlib.Core.Bool.{Bool, true, false, true≢false}
 use Prim.Native.Nat.{ℕ, zero, suc, ◌+◌, ◌<◌, ◌≤◌}
 use native.Mathlib.Omega.{arith}
 use lib.ListN.{length, length-map}
-use Rattle.definitions.specs.Lists.{if◌then◌else◌, In, nth, below, same_numbers, greatest}
+use Rattle.definitions.specs.Lists.{In, nth, below, same_numbers, greatest}
 use Rattle.definitions.specs.Limits.{Limits}
 use Rattle.definitions.specs.Job.{Edge, Job, outgoing, Circle}
 use Rattle.definitions.specs.Planner.{scaled_run, scaled_message, raised, settled, bottom_levels}

@@ -1,4 +1,5 @@
 -- No tick passes its bound: of the equations, of the replay, and of the planner's levels.
+use Rattle.std.specs.Prelude.{if◌then◌else◌}
 use mathlib.Core.Path.{◌≡◌, refl, ap, sym}
 use mathlib.Core.Logic.{inl, inr, ⊎_elim}
 use mathlib.Core.List.{List, [], ◌∷◌, ◌++◌, map}
@@ -9,7 +10,7 @@ use native.Mathlib.Nat.{suc-mul, one-mul, zero-mul, mul-le-mul, mul-le-mul_left,
 use lib.Dec.{eqb}
 use lib.ListN.{length, length-map}
 use borrow.Author.Tests.{eqb-true, eq-eqb}
-use Rattle.definitions.specs.Lists.{if◌then◌else◌, nth, below, In, keep, distinct, same_numbers, sum, greatest}
+use Rattle.definitions.specs.Lists.{nth, below, In, keep, distinct, same_numbers, sum, greatest}
 use Rattle.definitions.specs.Limits.{Limits}
 use Rattle.definitions.specs.Job.{Edge, Job, run_time, delay, incoming, outgoing}
 use Rattle.definitions.specs.Plan.{Replica, Line, Plan, processors_of}

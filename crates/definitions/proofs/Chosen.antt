@@ -1,4 +1,5 @@
 -- The processors that the planner chooses for a task: as many as are asked for, ascending, each once.
+use Rattle.std.specs.Prelude.{if◌then◌else◌}
 use mathlib.Core.Path.{◌≡◌, refl, ◌∙◌}
 use mathlib.Core.Logic.{◌⊎◌, inl, ⊎_elim}
 use mathlib.Core.List.{List, [], ◌∷◌, map}
@@ -8,7 +9,7 @@ use native.Mathlib.Omega.{arith}
 use lib.Dec.{eqb, ltb}
 use lib.ListN.{length, length-map}
 use borrow.Author.Tests.{eqb-true, eqb-false, ltb-true, lt-ltb, le-ltb}
-use Rattle.definitions.specs.Lists.{if◌then◌else◌, In, nth, keep, distinct, count_from, below}
+use Rattle.definitions.specs.Lists.{In, nth, keep, distinct, count_from, below}
 use Rattle.definitions.specs.Job.{Job}
 use Rattle.definitions.specs.Plan.{descends}
 use Rattle.definitions.specs.Planner.{goes_before, chosen}

@@ -1,4 +1,5 @@
 -- The claims of specs/Claims.antt are true.
+use Rattle.std.specs.Prelude.{if◌then◌else◌}
 use mathlib.Core.Path.{◌≡◌, refl, ap, ◌∙◌, sym}
 use mathlib.Core.Logic.{⊎_elim}
 use mathlib.Core.List.{List, [], ◌∷◌}
@@ -9,7 +10,7 @@ use native.Mathlib.Nat.{suc-mul}
 use lib.Dec.{eqb}
 use lib.ListN.{length, take, length-take}
 use borrow.Author.Tests.{eqb-true}
-use Rattle.definitions.specs.Lists.{if◌then◌else◌, In}
+use Rattle.definitions.specs.Lists.{In}
 use Rattle.definitions.specs.Limits.{Limits, document01}
 use Rattle.definitions.specs.Text.{width_from, width, Result, good, bad}
 use Rattle.definitions.specs.Job.{Job, read_job}

@@ -1,4 +1,5 @@
 -- What is printed as a number or a line is read back, and how long it is.
+use Rattle.std.specs.Prelude.{if◌then◌else◌}
 use mathlib.Core.Path.{◌≡◌, refl, ap, ◌∙◌, sym}
 use mathlib.Core.Logic.{◌⊎◌, inl, inr, ⊎_elim}
 use mathlib.Core.List.{List, [], ◌∷◌, ◌++◌, append_assoc}
@@ -10,7 +11,7 @@ use lib.Arith.{mod-mul}
 use lib.Dec.{ltb, eqb}
 use lib.ListN.{length, length-append}
 use borrow.Author.Tests.{le-leb, ne_eqb, eq-eqb, ltb-true, ltb-false, eqb-true}
-use Rattle.definitions.specs.Lists.{if◌then◌else◌, In}
+use Rattle.definitions.specs.Lists.{In}
 use Rattle.definitions.specs.Limits.{Limits}
 use Rattle.definitions.specs.Text.{found, next, return, Reader, is_digit, digits, exactly, mark, number, numbers, line, width_from, width, low_digits, decimal, numbers_text, line_text}
 use Rattle.definitions.proofs.Reading.{refused≢found, next_found}

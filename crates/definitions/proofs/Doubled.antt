@@ -1,4 +1,5 @@
 -- A task with two replicas on one processor: stopping its processors at tick 0 leaves it undone.
+use Rattle.std.specs.Prelude.{if◌then◌else◌}
 use mathlib.Core.Path.{◌≡◌, refl, ap, ◌∙◌, sym}
 use mathlib.Core.Logic.{◌⊎◌, inl, inr, ⊎_elim}
 use mathlib.Core.List.{List, [], ◌∷◌, map}
@@ -8,7 +9,7 @@ use native.Mathlib.Omega.{arith}
 use lib.Dec.{ltb, eqb}
 use lib.ListN.{length, length-map}
 use borrow.Author.Tests.{lt-leb, eqb-false, eq-eqb, ne_eqb, ltb-false, not-true}
-use Rattle.definitions.specs.Lists.{if◌then◌else◌, In, keep, has, distinct}
+use Rattle.definitions.specs.Lists.{In, keep, has, distinct}
 use Rattle.definitions.specs.Limits.{Limits}
 use Rattle.definitions.specs.Job.{Job, run_time}
 use Rattle.definitions.specs.Plan.{Line, Plan, processors_of, descends}

@@ -1,4 +1,5 @@
 -- An accepted plan keeps its promise under every stop list of at most ε lines.
+use Rattle.std.specs.Prelude.{if◌then◌else◌}
 use mathlib.Core.Path.{◌≡◌, refl, ap, ap₂, sym, ◌∙◌}
 use mathlib.Core.Logic.{◌⊎◌, inl, inr, ⊎_elim}
 use mathlib.Core.List.{List, [], ◌∷◌, ◌++◌, map}
@@ -8,7 +9,7 @@ use native.Mathlib.Omega.{arith}
 use lib.Dec.{eqb}
 use lib.ListN.{length, length-map}
 use borrow.Author.Tests.{eqb-true, eq-eqb, not-false}
-use Rattle.definitions.specs.Lists.{if◌then◌else◌, In, keep, any, has, distinct, below, empty, some_or, last_of}
+use Rattle.definitions.specs.Lists.{In, keep, any, has, distinct, below, empty, some_or, last_of}
 use Rattle.definitions.specs.Limits.{Limits}
 use Rattle.definitions.specs.Text.{first_of}
 use Rattle.definitions.specs.Job.{Edge, Job, incoming, outgoing}

@@ -1,4 +1,5 @@
 -- Laws of the words about lists, of tests, and of the first number whose cause is true.
+use Rattle.std.specs.Prelude.{if◌then◌else◌}
 use mathlib.Core.Path.{◌≡◌, refl, ap, ap₂, ◌∙◌, sym}
 use mathlib.Core.Logic.{◌⊎◌, inl, inr, ⊎_elim}
 use mathlib.Core.List.{List, [], ◌∷◌, ◌++◌, map, reverse_aux, get_last?}
@@ -10,7 +11,7 @@ use native.Mathlib.Nat.{suc-mul}
 use lib.Dec.{eqb, ltb}
 use lib.ListN.{length, take}
 use borrow.Author.Tests.{eqb-true, eqb-false, eq-eqb, ne_eqb, not-true, ltb-true, ltb-false, lt-ltb, le-ltb}
-use Rattle.definitions.specs.Lists.{if◌then◌else◌, nth, In, keep, any, all, has, empty, same_numbers, distinct, count_from, below, sum, greatest}
+use Rattle.definitions.specs.Lists.{nth, In, keep, any, all, has, empty, same_numbers, distinct, count_from, below, sum, greatest}
 use Rattle.definitions.specs.Text.{first_of}
 use Rattle.definitions.specs.Job.{outside}
 

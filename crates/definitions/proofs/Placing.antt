@@ -1,4 +1,5 @@
 -- The planner's plan has every task once, after its predecessors, on ε + 1 different processors, with the equations' ticks.
+use Rattle.std.specs.Prelude.{if◌then◌else◌}
 use mathlib.Core.Path.{◌≡◌, refl, ap, ap₂, ◌∙◌, sym}
 use mathlib.Core.Logic.{◌⊎◌, inl, inr, ⊎_elim}
 use mathlib.Core.List.{List, [], ◌∷◌, ◌++◌, map, map-append, map-map, reverse_aux}
@@ -8,7 +9,7 @@ use native.Mathlib.Omega.{arith}
 use lib.Dec.{eqb, ltb}
 use lib.ListN.{length, length-map}
 use borrow.Author.Tests.{eqb-true, eqb-false, not-true}
-use Rattle.definitions.specs.Lists.{if◌then◌else◌, In, keep, all, has, distinct, count_from, below}
+use Rattle.definitions.specs.Lists.{In, keep, all, has, distinct, count_from, below}
 use Rattle.definitions.specs.Limits.{Limits}
 use Rattle.definitions.specs.Text.{first_of}
 use Rattle.definitions.specs.Job.{Edge, Job, incoming}

@@ -1,4 +1,5 @@
 -- What is known of a plan, a job and a stop list that were read.
+use Rattle.std.specs.Prelude.{if◌then◌else◌}
 use mathlib.Core.Path.{◌≡◌, refl, ap, ◌∙◌}
 use mathlib.Core.Logic.{inl, inr}
 use mathlib.Core.List.{List, [], ◌∷◌, ◌++◌, map, append_assoc, append-nil, get_last?}
@@ -10,7 +11,7 @@ use lib.Dec.{ltb}
 use lib.ListN.{length, get_or, drop, length-append, length-drop, get_or-map}
 use lib.Seq.{get_or-drop}
 use borrow.Author.Tests.{eqb-true, ltb-true, ltb-false, leb-false, not-false}
-use Rattle.definitions.specs.Lists.{if◌then◌else◌, bytes, nth, In, any, all, has}
+use Rattle.definitions.specs.Lists.{bytes, nth, In, any, all, has}
 use Rattle.definitions.specs.Limits.{Limits}
 use Rattle.definitions.specs.Text.{Reading, found, refused, Reader, next, return, due, first_of, exactly, number, numbers, line, mark, lines, lines_to_end, Result, good, bad, and_then, unless, ended, whole}
 use Rattle.definitions.specs.Job.{Edge, Job, run_time, delay, incoming, circular, outside, JobHead, job_head, job_head_rule, run_rule, delay_rule, edge_line, edge_rule, Ascends, job_lines, read_job}

@@ -1,4 +1,5 @@
 -- What a stop leaves of a finish; stops that come when all is done on their processors change nothing.
+use Rattle.std.specs.Prelude.{if◌then◌else◌}
 use mathlib.Core.Path.{◌≡◌, refl, ap}
 use mathlib.Core.Logic.{◌⊎◌, inl, inr}
 use mathlib.Core.List.{List, [], ◌∷◌}
@@ -6,7 +7,7 @@ use mathlib.Core.Bool.{Bool, true, false}
 use Prim.Native.Nat.{ℕ}
 use lib.Dec.{leb, eqb}
 use borrow.Author.Tests.{eqb-true, le-leb}
-use Rattle.definitions.specs.Lists.{if◌then◌else◌, In}
+use Rattle.definitions.specs.Lists.{In}
 use Rattle.definitions.specs.Job.{Job}
 use Rattle.definitions.specs.Plan.{Line}
 use Rattle.definitions.specs.Stops.{Stop}

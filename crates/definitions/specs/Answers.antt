@@ -1,6 +1,6 @@
 -- What the three tools answer to given bytes, and what the three programs print.
-use Rattle.std.specs.Prelude.{ℕ, ◌≡◌, List, [], ◌∷◌, ltb, eqb, length}
-use Rattle.definitions.specs.Lists.{if◌then◌else◌, bytes, In}
+use Rattle.std.specs.Prelude.{ℕ, ◌≡◌, List, [], ◌∷◌, ltb, eqb, length, if◌then◌else◌}
+use Rattle.definitions.specs.Lists.{bytes, In}
 use Rattle.definitions.specs.Limits.{Limits}
 use Rattle.definitions.specs.Text.{line_text, Result, good, bad, and_then}
 use Rattle.definitions.specs.Job.{Job, read_job}

@@ -1,6 +1,6 @@
 -- "The words of demand 3", and what is claimed of the definitions. proofs/ proves each claim.
-use Rattle.std.specs.Prelude.{◌≡◌, List, [], ◌∷◌, ◌++◌, map, reverse, ℕ, ◌+◌, ◌*◌, ◌^◌, ◌≤◌, ◌<◌, eqb, length, take}
-use Rattle.definitions.specs.Lists.{if◌then◌else◌, bytes, below, In, has}
+use Rattle.std.specs.Prelude.{◌≡◌, List, [], ◌∷◌, ◌++◌, map, reverse, ℕ, ◌+◌, ◌*◌, ◌^◌, ◌≤◌, ◌<◌, eqb, length, take, if◌then◌else◌}
+use Rattle.definitions.specs.Lists.{bytes, below, In, has}
 use Rattle.definitions.specs.Limits.{Limits, document01}
 use Rattle.definitions.specs.Text.{width, decimal, line_text, good}
 use Rattle.definitions.specs.Job.{Edge, Job, Ascends, read_job}

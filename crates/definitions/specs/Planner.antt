@@ -1,7 +1,7 @@
 -- "The planner", the report's algorithm 4.1: scaled levels, the choice of the task and of its boxes.
-use Rattle.std.specs.Prelude.{ℕ, zero, suc, ◌+◌, ◌*◌, ◌-◌, Bool, not, ◌&&◌, ◌||◌, ltb, eqb, length}
+use Rattle.std.specs.Prelude.{ℕ, zero, suc, ◌+◌, ◌*◌, ◌-◌, Bool, not, ◌&&◌, ◌||◌, ltb, eqb, length, if◌then◌else◌}
 use mathlib.Core.List.{List, [], ◌∷◌, map, reverse_aux}
-use Rattle.definitions.specs.Lists.{if◌then◌else◌, nth, below, keep, all, has, same_numbers, sum, greatest}
+use Rattle.definitions.specs.Lists.{nth, below, keep, all, has, same_numbers, sum, greatest}
 use Rattle.definitions.specs.Job.{Edge, Job, run_time, delay, incoming, outgoing}
 use Rattle.definitions.specs.Plan.{Replica, Line, Plan}
 use Rattle.definitions.specs.Times.{Time, tick, never, after, least, largest, Outcome, of_task, finish, walk, placements_of, lower_bound, upper_bound}

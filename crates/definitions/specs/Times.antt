@@ -1,6 +1,6 @@
 -- "Times": the report's equations (1) to (4) with request L2, M* and M. The replay is the same walk, with stops.
-use Rattle.std.specs.Prelude.{ℕ, ◌+◌, ◌*◌, max, min, List, [], ◌∷◌, ◌++◌, map, Bool, true, false, leb, eqb}
-use Rattle.definitions.specs.Lists.{if◌then◌else◌, keep, below, empty, some_or, last_of}
+use Rattle.std.specs.Prelude.{ℕ, ◌+◌, ◌*◌, max, min, List, [], ◌∷◌, ◌++◌, map, Bool, true, false, leb, eqb, if◌then◌else◌}
+use Rattle.definitions.specs.Lists.{keep, below, empty, some_or, last_of}
 use Rattle.definitions.specs.Job.{Edge, Job, run_time, delay, incoming, outgoing}
 use Rattle.definitions.specs.Plan.{Line, processors_of}
 use Rattle.definitions.specs.Stops.{Stop}

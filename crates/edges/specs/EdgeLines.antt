@@ -1,6 +1,5 @@
 -- E lines into a memory.
-use Rattle.std.specs.Prelude.{ℕ, List, [], Bool, ◌&&◌, leb}
-use Rattle.definitions.specs.Lists.{if◌then◌else◌}
+use Rattle.std.specs.Prelude.{ℕ, List, [], Bool, ◌&&◌, leb, if◌then◌else◌}
 use Rattle.definitions.specs.Limits.{Limits}
 use Rattle.definitions.specs.Text.{Reader, refused, lines}
 use Rattle.definitions.specs.Job.{Edge, edge_line, edge_rule}

@@ -1,5 +1,6 @@
 -- The capacity that a job needs.
-use Rattle.lists.proofs.Prelude.{◌≡◌, refl, Bool, true, false, ◌&&◌, ℕ, ◌+◌, ◌*◌, ◌<◌, ◌≤◌, arith, mul-le-mul, leb-true, le-leb, lt-leb, eqb-true, eq-eqb, leb, eqb, if◌then◌else◌, Limits, document01, JobHead, job_head_rule}
+use Rattle.std.specs.Prelude.{if◌then◌else◌}
+use Rattle.lists.proofs.Prelude.{◌≡◌, refl, Bool, true, false, ◌&&◌, ℕ, ◌+◌, ◌*◌, ◌<◌, ◌≤◌, arith, mul-le-mul, leb-true, le-leb, lt-leb, eqb-true, eq-eqb, leb, eqb, Limits, document01, JobHead, job_head_rule}
 use Rattle.definitions.proofs.Lists.{both, both_true}
 use Rattle.definitions.proofs.Reading.{job_head_parts}
 use Rattle.heads.specs.Layout.{memory_size, links_room, job_size, cells_for, FitsIn, has_room, capacity_for, largest}

@@ -1,7 +1,6 @@
 -- Where things stand in a working memory, in cells. Capacity 1 is for 8 tasks, 32 edges and 177 of the job's cells: a table begins at a
 -- constant times the capacity, and is as many times as long as in a memory of capacity 1. The job is at the front.
-use Rattle.std.specs.Prelude.{ℕ, ◌+◌, ◌*◌, ◌≤◌, Bool, ◌&&◌, leb}
-use Rattle.definitions.specs.Lists.{if◌then◌else◌}
+use Rattle.std.specs.Prelude.{ℕ, ◌+◌, ◌*◌, ◌≤◌, Bool, ◌&&◌, leb, if◌then◌else◌}
 use Rattle.definitions.specs.Limits.{Limits}
 use Rattle.definitions.specs.Job.{JobHead}
 

@@ -1,6 +1,5 @@
 -- What a memory holds after the rest of a job was read into it, after its head.
-use Rattle.std.specs.Prelude.{ℕ, ◌≡◌, List, not, ◌&&◌, eqb}
-use Rattle.definitions.specs.Lists.{if◌then◌else◌}
+use Rattle.std.specs.Prelude.{ℕ, ◌≡◌, List, not, ◌&&◌, eqb, if◌then◌else◌}
 use Rattle.definitions.specs.Limits.{Limits}
 use Rattle.definitions.specs.Text.{Result, good, bad}
 use Rattle.definitions.specs.Job.{Job, JobHead, job_head_rule}

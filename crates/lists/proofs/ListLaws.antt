@@ -1,5 +1,6 @@
 -- More laws of lists: some member, every member, what is kept, a part.
-use Rattle.lists.proofs.Prelude.{◌≡◌, refl, sym, ◌∙◌, inl, inr, ⊎_elim, List, [], ◌∷◌, ◌++◌, Bool, true, false, ◌&&◌, ◌||◌, or-false, ℕ, ◌+◌, ◌<◌, ◌≤◌, length, take, drop, set, length-take, length-drop, get_or-set_same, get_or-set_other, get_or-take, get_or-drop, if◌then◌else◌, nth, In, keep, any, all, arith, map, drop-cons, drop_of_length-le, add-one, append-nil, append_assoc}
+use Rattle.std.specs.Prelude.{if◌then◌else◌}
+use Rattle.lists.proofs.Prelude.{◌≡◌, refl, sym, ◌∙◌, inl, inr, ⊎_elim, List, [], ◌∷◌, ◌++◌, Bool, true, false, ◌&&◌, ◌||◌, or-false, ℕ, ◌+◌, ◌<◌, ◌≤◌, length, take, drop, set, length-take, length-drop, get_or-set_same, get_or-set_other, get_or-take, get_or-drop, nth, In, keep, any, all, arith, map, drop-cons, drop_of_length-le, add-one, append-nil, append_assoc}
 use mathlib.Core.Bool.{or_assoc}
 use Rattle.lists.proofs.Counting.{last_or_before}
 

@@ -1,4 +1,5 @@
 -- The names that proofs bring in by one line: of the kit's libraries, and of what document 01 says.
+pub use Rattle.std.specs.Prelude.{if◌then◌else◌}
 pub use mathlib.Core.Path.{◌∙◌, ◌≡◌, ap, ap₂, refl, subst, sym}
 pub use mathlib.Core.Logic.{◌⊎◌, inl, inr, ⊎_elim}
 pub use mathlib.Core.Bool.{Bool, ◌&&◌, ◌||◌, and-false, and-true, false, false≢true, not, or-false, true, true≢false}
@@ -18,7 +19,7 @@ pub use Rattle.definitions.specs.Facts.{JobFacts, LineFacts, Ordered}
 pub use Rattle.definitions.specs.Job.{Ascends, Edge, Job, JobHead, edge_of, job_head_of, outside, same_pair, smaller}
 unfoldable pub use Rattle.definitions.specs.Job.{circular, delay, delay_rule, edge_line, edge_rule, incoming, job_head_rule, outgoing, read_job, run_rule, run_time}
 pub use Rattle.definitions.specs.Limits.{Limits, document01}
-pub use Rattle.definitions.specs.Lists.{In, below, bytes, empty, has, if◌then◌else◌, nth}
+pub use Rattle.definitions.specs.Lists.{In, below, bytes, empty, has, nth}
 unfoldable pub use Rattle.definitions.specs.Lists.{all, any, count_from, distinct, greatest, keep, sum}
 pub use Rattle.definitions.specs.Plan.{Line, Plan, Replica, plan_head_of, processors_of}
 unfoldable pub use Rattle.definitions.specs.Plan.{descends, plan_head_rule, plan_line_rule, plan_text, read_plan}

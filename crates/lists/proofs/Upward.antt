@@ -1,5 +1,6 @@
 -- Lists over the numbers below n, with one number more: what a loop that goes upwards has passed.
-use Rattle.lists.proofs.Prelude.{◌≡◌, refl, ap, ◌∙◌, ◌⊎◌, ⊎_elim, List, [], ◌∷◌, ◌++◌, map, map-append, append-nil, Bool, true, false, ℕ, zero, suc, ◌+◌, ◌<◌, ◌≤◌, max, arith, add-one, length, set, length-append, get_or-set_same, get_or-set_other, if◌then◌else◌, nth, count_from, below, keep, sum, greatest}
+use Rattle.std.specs.Prelude.{if◌then◌else◌}
+use Rattle.lists.proofs.Prelude.{◌≡◌, refl, ap, ◌∙◌, ◌⊎◌, ⊎_elim, List, [], ◌∷◌, ◌++◌, map, map-append, append-nil, Bool, true, false, ℕ, zero, suc, ◌+◌, ◌<◌, ◌≤◌, max, arith, add-one, length, set, length-append, get_or-set_same, get_or-set_other, nth, count_from, below, keep, sum, greatest}
 use Rattle.lists.proofs.Counting.{last_or_before}
 
 pub count_last : (k n : ℕ) → count_from k (suc n) ≡ count_from k n ++ (k + n) ∷ []

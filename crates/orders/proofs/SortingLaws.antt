@@ -1,5 +1,6 @@
 -- How the order of the tasks is made among the links: counts of the edges that block a task, the tasks listed.
-use Rattle.lists.proofs.Prelude.{◌≡◌, refl, ap, ◌∙◌, sym, ◌⊎◌, inl, inr, ⊎_elim, List, [], ◌∷◌, map, reverse_aux, Bool, true, false, not, ◌&&◌, ℕ, zero, suc, ◌+◌, ◌-◌, ◌<◌, ◌≤◌, arith, add-one, eqb, length, drop, set, length-set, length-drop, get_or-set_same, get_or-set_other, get_or-drop, eqb-true, eqb-false, eq-eqb, ne_eqb, not-true, if◌then◌else◌, nth, In, any, has, keep, distinct, below, Edge}
+use Rattle.std.specs.Prelude.{if◌then◌else◌}
+use Rattle.lists.proofs.Prelude.{◌≡◌, refl, ap, ◌∙◌, sym, ◌⊎◌, inl, inr, ⊎_elim, List, [], ◌∷◌, map, reverse_aux, Bool, true, false, not, ◌&&◌, ℕ, zero, suc, ◌+◌, ◌-◌, ◌<◌, ◌≤◌, arith, add-one, eqb, length, drop, set, length-set, length-drop, get_or-set_same, get_or-set_other, get_or-drop, eqb-true, eqb-false, eq-eqb, ne_eqb, not-true, nth, In, any, has, keep, distinct, below, Edge}
 use lib.Seq.{drop-set-add}
 use Rattle.definitions.proofs.Lists.{in_keep, keep_in, keep_every, has_in, has_not, not_has, head_apart, fits, below_in, length_count, map_in, nth_in}
 use Rattle.lists.proofs.Counting.{last_or_before, equal_or_not}

@@ -1,6 +1,6 @@
 -- The order of the tasks among the links, while it is made.
-use Rattle.std.specs.Prelude.{◌≡◌, List, [], ◌∷◌, map, true, not, ℕ, ◌+◌, ◌-◌, ◌<◌, ◌≤◌, eqb, length, drop, set}
-use Rattle.definitions.specs.Lists.{if◌then◌else◌, nth, keep, In, has, distinct}
+use Rattle.std.specs.Prelude.{◌≡◌, List, [], ◌∷◌, map, true, not, ℕ, ◌+◌, ◌-◌, ◌<◌, ◌≤◌, eqb, length, drop, set, if◌then◌else◌}
+use Rattle.definitions.specs.Lists.{nth, keep, In, has, distinct}
 use Rattle.definitions.specs.Job.{Edge}
 use Rattle.orders.specs.Edges.{edge_in}
 use Rattle.orders.specs.Order.{listed}

@@ -1,5 +1,6 @@
 -- Lines with two replicas on one processor, and first finishes, replica by replica.
-use Rattle.lists.proofs.Prelude.{◌≡◌, refl, ap, ◌∙◌, sym, ⊎_elim, List, [], ◌∷◌, Bool, true, false, ◌&&◌, true≢false, ℕ, zero, suc, ◌+◌, ◌-◌, ◌<◌, ◌≤◌, arith, add-one, eqb-true, eq-eqb, ne_eqb, lt-ltb, le-ltb, length, take, drop, if◌then◌else◌, nth, empty}
+use Rattle.std.specs.Prelude.{if◌then◌else◌}
+use Rattle.lists.proofs.Prelude.{◌≡◌, refl, ap, ◌∙◌, sym, ⊎_elim, List, [], ◌∷◌, Bool, true, false, ◌&&◌, true≢false, ℕ, zero, suc, ◌+◌, ◌-◌, ◌<◌, ◌≤◌, arith, add-one, eqb-true, eq-eqb, ne_eqb, lt-ltb, le-ltb, length, take, drop, nth, empty}
 use Rattle.definitions.proofs.Lists.{either, either_right, refuted}
 use Rattle.lists.proofs.Counting.{last_or_before, goes_on}
 use Rattle.lists.proofs.ListLaws.{part_length, part_nth}

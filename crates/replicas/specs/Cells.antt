@@ -1,6 +1,6 @@
 -- What is asked of the replicas of a line, three cells each: processor, early time, late time.
-use Rattle.std.specs.Prelude.{ℕ, zero, suc, ◌+◌, ◌*◌, ◌-◌, ◌/◌, List, [], ◌∷◌, Bool, false, ◌&&◌, ◌||◌, eqb, ltb, length, take, drop}
-use Rattle.definitions.specs.Lists.{if◌then◌else◌, nth, empty}
+use Rattle.std.specs.Prelude.{ℕ, zero, suc, ◌+◌, ◌*◌, ◌-◌, ◌/◌, List, [], ◌∷◌, Bool, false, ◌&&◌, ◌||◌, eqb, ltb, length, take, drop, if◌then◌else◌}
+use Rattle.definitions.specs.Lists.{nth, empty}
 use Rattle.ticks.specs.Cells.{never_cell}
 use Rattle.replicas.specs.declared.Doubling.{Doubling}
 use Rattle.replicas.specs.declared.Doubling.TheVariants.{Single, Twice}

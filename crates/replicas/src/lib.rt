@@ -2,8 +2,7 @@
 // processor, a line's first finish, and the lines of a replay's answer.
 #![tactic(auto)]
 
-ghost use Rattle.std.specs.Prelude.{◌≡◌, [], ◌≤◌, leb, length};
-ghost use Rattle.definitions.specs.Lists.{if◌then◌else◌};
+ghost use Rattle.std.specs.Prelude.{◌≡◌, [], ◌≤◌, leb, length, if◌then◌else◌};
 ghost use Rattle.definitions.specs.Limits.{document01};
 ghost use Rattle.definitions.specs.Replay.{result_line, end_line};
 ghost use Rattle.text.specs.Meaning.{written};

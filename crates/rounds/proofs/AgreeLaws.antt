@@ -1,5 +1,6 @@
 -- Ticks that are the equations', line by line; the clocks; and the walk over lines whose ticks are.
-use Rattle.lists.proofs.Prelude.{◌≡◌, refl, ap, ◌∙◌, sym, ⊎_elim, List, [], map, reverse, Bool, true, false, ℕ, zero, suc, ◌+◌, ◌*◌, ◌<◌, ◌≤◌, arith, add-one, replicate, length, if◌then◌else◌, nth, below, count_from, In, Limits, Replica, Line, tick, least, largest, times, Outcome, outcome, start, stop_time, finish, walk, placements, earlies, lates, placement_of, tick_of, doubled_tasks, ticks_agree, PlacedWithin, Ordered}
+use Rattle.std.specs.Prelude.{if◌then◌else◌}
+use Rattle.lists.proofs.Prelude.{◌≡◌, refl, ap, ◌∙◌, sym, ⊎_elim, List, [], map, reverse, Bool, true, false, ℕ, zero, suc, ◌+◌, ◌*◌, ◌<◌, ◌≤◌, arith, add-one, replicate, length, nth, below, count_from, In, Limits, Replica, Line, tick, least, largest, times, Outcome, outcome, start, stop_time, finish, walk, placements, earlies, lates, placement_of, tick_of, doubled_tasks, ticks_agree, PlacedWithin, Ordered}
 use mathlib.Core.List.{reverse_aux-eq}
 use lib.Ieee.{Float}
 use Rattle.definitions.specs.Facts.{Apart}

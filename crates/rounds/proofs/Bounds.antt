@@ -1,5 +1,6 @@
 -- M* and M of a plan in memory whose ticks are the equations': what planner and checker know of them.
-use Rattle.lists.proofs.Prelude.{◌≡◌, refl, ap, ◌∙◌, sym, List, [], ◌∷◌, reverse, reverse_aux, Bool, true, false, ℕ, ◌+◌, ◌<◌, ◌≤◌, arith, eqb-true, eq-eqb, ne_eqb, eqb, if◌then◌else◌, nth, keep, Limits, Job, tick, walk, placements, never, same, largest, Outcome, of_task, times, earlies, lates, exits, makespan, doubled_tasks, ticks_agree, bounds_agree}
+use Rattle.std.specs.Prelude.{if◌then◌else◌}
+use Rattle.lists.proofs.Prelude.{◌≡◌, refl, ap, ◌∙◌, sym, List, [], ◌∷◌, reverse, reverse_aux, Bool, true, false, ℕ, ◌+◌, ◌<◌, ◌≤◌, arith, eqb-true, eq-eqb, ne_eqb, eqb, nth, keep, Limits, Job, tick, walk, placements, never, same, largest, Outcome, of_task, times, earlies, lates, exits, makespan, doubled_tasks, ticks_agree, bounds_agree}
 use Rattle.definitions.specs.Times.{lower_bound, upper_bound}
 use Rattle.definitions.proofs.Lists.{map_same}
 use Rattle.heads.specs.Layout.{lower_at, upper_at}

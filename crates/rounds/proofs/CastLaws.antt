@@ -1,5 +1,6 @@
 -- Times in lanes and in cells: the casts between them, and when no processor waits.
-use Rattle.lists.proofs.Prelude.{◌≡◌, refl, sym, subst, ◌∙◌, inl, inr, List, Bool, true, false, ℕ, zero, suc, ◌+◌, ◌*◌, ◌^◌, ◌<◌, ◌≤◌, arith, eq-eqb, eqb-true, eqb, if◌then◌else◌, nth, Edge, Limits, document01, In, Time, tick, never, after, times}
+use Rattle.std.specs.Prelude.{if◌then◌else◌}
+use Rattle.lists.proofs.Prelude.{◌≡◌, refl, sym, subst, ◌∙◌, inl, inr, List, Bool, true, false, ℕ, zero, suc, ◌+◌, ◌*◌, ◌^◌, ◌<◌, ◌≤◌, arith, eq-eqb, eqb-true, eqb, nth, Edge, Limits, document01, In, Time, tick, never, after, times}
 use mir.Syntax.{w64}
 use mir.Val.{to_z, of_z}
 use mir.Facts.{to_z-of_z}

@@ -1,5 +1,6 @@
 -- The test for two replicas on one processor, on a plan that was read.
-use Rattle.lists.proofs.Prelude.{◌≡◌, refl, ap, ◌∙◌, sym, List, [], map, Bool, true, false, not, ℕ, suc, ◌+◌, ◌-◌, ◌<◌, arith, add-zero, le-leb, not-false, leb, length, take, drop, if◌then◌else◌, nth, below, In, keep, distinct, Limits, Line, processors_of, descends, doubled_tasks}
+use Rattle.std.specs.Prelude.{if◌then◌else◌}
+use Rattle.lists.proofs.Prelude.{◌≡◌, refl, ap, ◌∙◌, sym, List, [], map, Bool, true, false, not, ℕ, suc, ◌+◌, ◌-◌, ◌<◌, arith, add-zero, le-leb, not-false, leb, length, take, drop, nth, below, In, keep, distinct, Limits, Line, processors_of, descends, doubled_tasks}
 use Rattle.definitions.specs.Facts.{Apart}
 use Rattle.definitions.proofs.Lists.{refuted, in_map, in_below, map_in, keep_in, keep_none}
 use Rattle.definitions.proofs.Guarantee.{none_kept}

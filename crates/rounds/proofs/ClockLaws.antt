@@ -1,5 +1,6 @@
 -- The clocks, replica by replica and line by line.
-use Rattle.lists.proofs.Prelude.{◌≡◌, refl, ap, ◌∙◌, sym, List, ◌∷◌, ◌++◌, [], Bool, true, false, ℕ, zero, suc, ◌+◌, ◌*◌, ◌^◌, ◌%◌, ◌<◌, ◌≤◌, arith, add-one, eqb-true, eqb-false, lt-ltb, eqb, ltb, length, set, length-set, replicate, length-replicate, get_or-replicate, get_or-set_same, get_or-set_other, if◌then◌else◌, nth, Job, Limits, tick, Outcome, ready}
+use Rattle.std.specs.Prelude.{if◌then◌else◌}
+use Rattle.lists.proofs.Prelude.{◌≡◌, refl, ap, ◌∙◌, sym, List, ◌∷◌, ◌++◌, [], Bool, true, false, ℕ, zero, suc, ◌+◌, ◌*◌, ◌^◌, ◌%◌, ◌<◌, ◌≤◌, arith, add-one, eqb-true, eqb-false, lt-ltb, eqb, ltb, length, set, length-set, replicate, length-replicate, get_or-replicate, get_or-set_same, get_or-set_other, nth, Job, Limits, tick, Outcome, ready}
 use Rattle.definitions.proofs.Ready.{first_ready_lem}
 use Rattle.heads.specs.Layout.{row_at, processor_at, early_at, late_at, time_at, lanes_most}
 use Rattle.jobs.specs.Held.{job_in}

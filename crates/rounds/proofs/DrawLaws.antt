@@ -1,5 +1,6 @@
 -- One turn of the planner: the free tasks, the critical one, its line, and what waits after it.
-use Rattle.lists.proofs.Prelude.{◌≡◌, refl, ap, ap₂, ◌∙◌, sym, inl, inr, List, [], ◌∷◌, ◌++◌, map, map-map, reverse_aux, Bool, true, false, not, ◌&&◌, ℕ, zero, suc, ◌+◌, ◌-◌, ◌<◌, arith, ne_eqb, eqb, ltb, length, if◌then◌else◌, In, nth, keep, all, count_from, below, Job, least, largest, Placement, Outcome, finish, walk, placements_of, placement_of, tick_of, Waiting, waiting_from, free_tasks, ranked, trial, goes_before, replicas, place}
+use Rattle.std.specs.Prelude.{if◌then◌else◌}
+use Rattle.lists.proofs.Prelude.{◌≡◌, refl, ap, ap₂, ◌∙◌, sym, inl, inr, List, [], ◌∷◌, ◌++◌, map, map-map, reverse_aux, Bool, true, false, not, ◌&&◌, ℕ, zero, suc, ◌+◌, ◌-◌, ◌<◌, arith, ne_eqb, eqb, ltb, length, In, nth, keep, all, count_from, below, Job, least, largest, Placement, Outcome, finish, walk, placements_of, placement_of, tick_of, Waiting, waiting_from, free_tasks, ranked, trial, goes_before, replicas, place}
 use mathlib.Core.Bool.{and_comm}
 use Rattle.definitions.specs.Planner.{critical_task, chosen}
 use Rattle.definitions.proofs.Lists.{in_keep, in_below, nth_in, nth_below}

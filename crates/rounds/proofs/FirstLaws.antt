@@ -1,5 +1,6 @@
 -- The first finish of a task, and the lowest processor that has it.
-use Rattle.lists.proofs.Prelude.{◌≡◌, if◌then◌else◌, never, refl, subst, ap, ◌∙◌, sym, ◌⊎◌, inl, inr, ⊎_elim, List, [], ◌∷◌, map, Bool, true, false, false≢true, ℕ, zero, suc, ◌+◌, ◌-◌, ◌<◌, ◌≤◌, min, arith, add-one, eqb-true, ltb-true, ltb-false, eqb, ltb, nth, In, keep, Time, tick, sooner, same, least, Outcome, times, first_finish, lowest, first_processor, Limits}
+use Rattle.std.specs.Prelude.{if◌then◌else◌}
+use Rattle.lists.proofs.Prelude.{◌≡◌, never, refl, subst, ap, ◌∙◌, sym, ◌⊎◌, inl, inr, ⊎_elim, List, [], ◌∷◌, map, Bool, true, false, false≢true, ℕ, zero, suc, ◌+◌, ◌-◌, ◌<◌, ◌≤◌, min, arith, add-one, eqb-true, ltb-true, ltb-false, eqb, ltb, nth, In, keep, Time, tick, sooner, same, least, Outcome, times, first_finish, lowest, first_processor, Limits}
 use Rattle.definitions.proofs.Lists.{in_map, map_in, in_keep, keep_in}
 use Rattle.definitions.proofs.Guarantee.{time_same}
 use Rattle.heads.specs.Layout.{line_at, processor_at, early_at}

@@ -1,5 +1,6 @@
 -- The end of a plan, from the lines in memory.
-use Rattle.lists.proofs.Prelude.{◌≡◌, refl, ap, ◌∙◌, sym, List, [], ◌∷◌, map, Bool, true, false, ℕ, suc, ◌+◌, ◌-◌, ◌<◌, ◌≤◌, arith, sub-zero, add-one, length, length-map, if◌then◌else◌, nth, count_from, below, keep, empty, In, Edge, outgoing, Limits, Time, tick, later, sooner, least, largest, of_task, times, exits, makespan}
+use Rattle.std.specs.Prelude.{if◌then◌else◌}
+use Rattle.lists.proofs.Prelude.{◌≡◌, refl, ap, ◌∙◌, sym, List, [], ◌∷◌, map, Bool, true, false, ℕ, suc, ◌+◌, ◌-◌, ◌<◌, ◌≤◌, arith, sub-zero, add-one, length, length-map, nth, count_from, below, keep, empty, In, Edge, outgoing, Limits, Time, tick, later, sooner, least, largest, of_task, times, exits, makespan}
 use Rattle.orders.specs.Links.{Run}
 use Rattle.orders.proofs.Walk.{pass_length}
 use Rattle.definitions.proofs.Lists.{distinct_map, full, in_map, in_below, distinct_count, length_count}

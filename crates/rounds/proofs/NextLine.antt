@@ -230,7 +230,7 @@ module _ {lim : Limits} {capacity k t : ℕ} {d : List ℕ} (g : Critical lim ca
         let turn : place (job_in d) (nth d 3) (suc n) (waiting_in capacity d) (placed false) (placed true) ≡ next ∷ others =
         rw (free_ranked s g.ranked, ← g.lower) at (place_turn (job_in d) (nth d 3) n (waiting_in capacity d) (placed false) (placed true) (lines_left s g.more) (nth d 0)) in
         let kept : lines_in capacity (nth e 3 + 1) k e ≡ lines =
-            ap (λ (n : ℕ). lines_in capacity (n + 1) k e) losses_same ∙ lines_same d e capacity (nth d 3 + 1) k (omega (arith, w.row_fits)) old_rows in
+        ap (λ (n : ℕ). lines_in capacity (n + 1) k e) losses_same ∙ lines_same d e capacity (nth d 3 + 1) k (omega (arith, w.row_fits)) old_rows in
         rw (placed_next false, placed_next true, job_laid, losses_same, tasks_same, m, ← waiting_next, kept, x.task, new_line)
         (append_snoc lines next others ∙ rw (← turn) (rest_here s g.more))
 

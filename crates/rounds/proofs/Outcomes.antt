@@ -1,5 +1,6 @@
 -- The replicas of a line in memory: their outcomes, the ticks by which they come, and the finishes after them.
-use Rattle.lists.proofs.Prelude.{◌≡◌, refl, ap, ◌∙◌, inl, inr, List, [], ◌∷◌, ◌++◌, map, map-append, reverse, Bool, true, false, ℕ, zero, suc, ◌+◌, ◌*◌, ◌-◌, ◌<◌, ◌≤◌, max, min, arith, mul-le-mul, ne_eqb, eqb, length, if◌then◌else◌, In, nth, keep, distinct, Edge, Job, delay, run_time, incoming, Replica, Line, processors_of, tick, later, after, Outcome, ready, arrival, data_ready, start, stop_time, finish, Time, sooner, least, largest, outcome, of_task, walk, placements_of, placements, placement_of, tick_of, Limits}
+use Rattle.std.specs.Prelude.{if◌then◌else◌}
+use Rattle.lists.proofs.Prelude.{◌≡◌, refl, ap, ◌∙◌, inl, inr, List, [], ◌∷◌, ◌++◌, map, map-append, reverse, Bool, true, false, ℕ, zero, suc, ◌+◌, ◌*◌, ◌-◌, ◌<◌, ◌≤◌, max, min, arith, mul-le-mul, ne_eqb, eqb, length, In, nth, keep, distinct, Edge, Job, delay, run_time, incoming, Replica, Line, processors_of, tick, later, after, Outcome, ready, arrival, data_ready, start, stop_time, finish, Time, sooner, least, largest, outcome, of_task, walk, placements_of, placements, placement_of, tick_of, Limits}
 use mathlib.Core.List.{reverse_aux-append}
 use Rattle.definitions.specs.Times.{feeding}
 use Rattle.definitions.proofs.Ready.{first_ready_lem}

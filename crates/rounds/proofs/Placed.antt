@@ -1,5 +1,6 @@
 -- What the lines in memory are to the definitions: the placed replicas, the data they send and the levels they give.
-use Rattle.lists.proofs.Prelude.{◌≡◌, refl, ap, ◌∙◌, sym, inl, inr, ⊎_elim, List, [], ◌∷◌, ◌++◌, map, append-nil, Bool, true, false, ℕ, zero, suc, ◌+◌, ◌*◌, ◌-◌, ◌<◌, ◌≤◌, arith, eq-eqb, ne_eqb, lt-ltb, le-ltb, eqb, ltb, if◌then◌else◌, nth, keep, has, In, below, greatest, Edge, incoming, Time, later, after, least, largest, Outcome, of_task, ready, start, tick_of, largest_delay, scale, top_level, Limits}
+use Rattle.std.specs.Prelude.{if◌then◌else◌}
+use Rattle.lists.proofs.Prelude.{◌≡◌, refl, ap, ◌∙◌, sym, inl, inr, ⊎_elim, List, [], ◌∷◌, ◌++◌, map, append-nil, Bool, true, false, ℕ, zero, suc, ◌+◌, ◌*◌, ◌-◌, ◌<◌, ◌≤◌, arith, eq-eqb, ne_eqb, lt-ltb, le-ltb, eqb, ltb, nth, keep, has, In, below, greatest, Edge, incoming, Time, later, after, least, largest, Outcome, of_task, ready, start, tick_of, largest_delay, scale, top_level, Limits}
 use Rattle.definitions.specs.Times.{feeding, arrival, data_ready}
 use Rattle.definitions.proofs.Lists.{map_same, map_in, in_map, in_append, append_left, append_right, in_has, has_not, keep_every, keep_none, in_below, below_in, greatest_most}
 use Rattle.definitions.proofs.Tasks.{in_incoming}

@@ -1,5 +1,6 @@
 -- Run times and delays in their rows, and their sums.
-use Rattle.lists.proofs.Prelude.{◌≡◌, refl, ap, ◌∙◌, sym, ⊎_elim, List, [], ◌∷◌, map, Bool, true, false, not, ℕ, ◌+◌, ◌*◌, ◌-◌, ◌%◌, ◌^◌, ◌<◌, ◌≤◌, arith, mul-le-mul, eqb-true, ne_eqb, ltb-true, ltb-false, eqb, ltb, length, take, drop, length-map, ext_get_or, if◌then◌else◌, nth, count_from, below, keep, sum, run_time, delay, scaled_run, total_delay, Limits}
+use Rattle.std.specs.Prelude.{if◌then◌else◌}
+use Rattle.lists.proofs.Prelude.{◌≡◌, refl, ap, ◌∙◌, sym, ⊎_elim, List, [], ◌∷◌, map, Bool, true, false, not, ℕ, ◌+◌, ◌*◌, ◌-◌, ◌%◌, ◌^◌, ◌<◌, ◌≤◌, arith, mul-le-mul, eqb-true, ne_eqb, ltb-true, ltb-false, eqb, ltb, length, take, drop, length-map, ext_get_or, nth, count_from, below, keep, sum, run_time, delay, scaled_run, total_delay, Limits}
 use borrow.Rule.Slice.PartMut.{mid_of}
 use Rattle.lists.proofs.ListLaws.{part_length, part_nth}
 use Rattle.definitions.proofs.Lists.{length_count, in_below, sum_most}

@@ -1,5 +1,6 @@
 -- Times in cells: the later and the sooner, what comes after, and when data arrives.
-use Rattle.lists.proofs.Prelude.{◌≡◌, refl, ap, ◌∙◌, sym, ◌⊎◌, inl, inr, ⊎_elim, List, [], ◌∷◌, map, reverse_aux, Bool, true, false, ℕ, ◌+◌, ◌*◌, ◌-◌, ◌<◌, ◌≤◌, max, min, arith, mul-le-mul, eq-eqb, ne_eqb, eqb-true, eqb, if◌then◌else◌, nth, In, greatest, Edge, delay, incoming, Time, tick, never, later, sooner, after, least, largest, any, Limits}
+use Rattle.std.specs.Prelude.{if◌then◌else◌}
+use Rattle.lists.proofs.Prelude.{◌≡◌, refl, ap, ◌∙◌, sym, ◌⊎◌, inl, inr, ⊎_elim, List, [], ◌∷◌, map, reverse_aux, Bool, true, false, ℕ, ◌+◌, ◌*◌, ◌-◌, ◌<◌, ◌≤◌, max, min, arith, mul-le-mul, eq-eqb, ne_eqb, eqb-true, eqb, nth, In, greatest, Edge, delay, incoming, Time, tick, never, later, sooner, after, least, largest, any, Limits}
 use Rattle.definitions.specs.Claims.{Within}
 use Rattle.definitions.proofs.Tasks.{in_incoming}
 use Rattle.definitions.proofs.Later.{later_comm, later_assoc, later_zero}

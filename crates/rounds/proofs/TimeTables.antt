@@ -1,5 +1,6 @@
 -- Tables with a lane for each processor: the delays, and when data is there.
-use Rattle.lists.proofs.Prelude.{◌≡◌, refl, ap, ◌∙◌, sym, ⊎_elim, List, [], ◌∷◌, ◌++◌, map, append-nil, append_assoc, Bool, true, false, ℕ, zero, suc, ◌+◌, ◌-◌, ◌*◌, ◌/◌, ◌%◌, ◌^◌, ◌<◌, ◌≤◌, max, min, arith, mul-le-mul, add-one, add-zero, sub-zero, eqb-true, eqb-false, eq-eqb, ltb-true, ltb-false, lt-ltb, le-ltb, ltb, eqb, length, set, length-set, replicate, length-replicate, get_or-replicate, get_or-set_same, get_or-set_other, if◌then◌else◌, nth, In, incoming, delay, Edge, Time, tick, never, later, sooner, after, least, largest, Outcome, Limits}
+use Rattle.std.specs.Prelude.{if◌then◌else◌}
+use Rattle.lists.proofs.Prelude.{◌≡◌, refl, ap, ◌∙◌, sym, ⊎_elim, List, [], ◌∷◌, ◌++◌, map, append-nil, append_assoc, Bool, true, false, ℕ, zero, suc, ◌+◌, ◌-◌, ◌*◌, ◌/◌, ◌%◌, ◌^◌, ◌<◌, ◌≤◌, max, min, arith, mul-le-mul, add-one, add-zero, sub-zero, eqb-true, eqb-false, eq-eqb, ltb-true, ltb-false, lt-ltb, le-ltb, ltb, eqb, length, set, length-set, replicate, length-replicate, get_or-replicate, get_or-set_same, get_or-set_other, nth, In, incoming, delay, Edge, Time, tick, never, later, sooner, after, least, largest, Outcome, Limits}
 use lib.Ieee.{Float, nan}
 use native.Mathlib.Nat.{lt_of_not-le}
 use Rattle.definitions.specs.Times.{times, message}

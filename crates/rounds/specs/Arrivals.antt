@@ -1,6 +1,6 @@
 -- Data and finishes on all processors at once, in tables with a lane for each.
-use Rattle.std.specs.Prelude.{◌≡◌, List, Bool, true, false, ℕ, ◌+◌, ◌*◌, ◌/◌, ◌≤◌, ◌<◌, eqb, length, Float}
-use Rattle.definitions.specs.Lists.{if◌then◌else◌, nth, In}
+use Rattle.std.specs.Prelude.{◌≡◌, List, Bool, true, false, ℕ, ◌+◌, ◌*◌, ◌/◌, ◌≤◌, ◌<◌, eqb, length, Float, if◌then◌else◌}
+use Rattle.definitions.specs.Lists.{nth, In}
 use Rattle.definitions.specs.Limits.{Limits}
 use Rattle.definitions.specs.Job.{Edge, run_time, delay, incoming}
 use Rattle.definitions.specs.Times.{Time, tick, never, later, after, times}

@@ -1,6 +1,6 @@
 // The end of a plan: over exit tasks, the largest of the least early finish, or of the largest late finish, of their replicas.
-ghost use Rattle.std.specs.Prelude.{◌≡◌, [], ◌+◌, ◌≤◌, ◌<◌, length};
-ghost use Rattle.definitions.specs.Lists.{if◌then◌else◌, nth, empty};
+ghost use Rattle.std.specs.Prelude.{◌≡◌, [], ◌+◌, ◌≤◌, ◌<◌, length, if◌then◌else◌};
+ghost use Rattle.definitions.specs.Lists.{nth, empty};
 ghost use Rattle.definitions.specs.Limits.{document01};
 ghost use Rattle.definitions.specs.Job.{outgoing};
 ghost use Rattle.definitions.specs.Times.{tick, times, of_task, makespan};

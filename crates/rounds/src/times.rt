@@ -1,6 +1,6 @@
 // The equations: when data arrives, and when a replica finishes. A cell of all ones is never.
-ghost use Rattle.std.specs.Prelude.{◌≡◌, ◌⊎◌, true, false, ℕ, ◌+◌, ◌*◌, ◌≤◌, ◌<◌, max, length, replicate};
-ghost use Rattle.definitions.specs.Lists.{if◌then◌else◌, nth};
+ghost use Rattle.std.specs.Prelude.{◌≡◌, ◌⊎◌, true, false, ℕ, ◌+◌, ◌*◌, ◌≤◌, ◌<◌, max, length, replicate, if◌then◌else◌};
+ghost use Rattle.definitions.specs.Lists.{nth};
 ghost use Rattle.definitions.specs.Limits.{document01};
 ghost use Rattle.definitions.specs.Job.{run_time};
 ghost use Rattle.definitions.specs.Times.{tick, later, sooner, after, least, largest, arrival, times};

@@ -1,6 +1,5 @@
 -- Rows of numbers in a memory, and what C and D lines take.
-use Rattle.std.specs.Prelude.{ℕ, zero, suc, ◌*◌, List, [], ◌∷◌, ◌++◌, Bool, ◌&&◌, ltb, leb, take, drop}
-use Rattle.definitions.specs.Lists.{if◌then◌else◌}
+use Rattle.std.specs.Prelude.{ℕ, zero, suc, ◌*◌, List, [], ◌∷◌, ◌++◌, Bool, ◌&&◌, ltb, leb, take, drop, if◌then◌else◌}
 use Rattle.definitions.specs.Limits.{Limits}
 use Rattle.definitions.specs.Text.{Reader, refused, line, lines}
 use Rattle.definitions.specs.Job.{outside, run_rule, delay_rule}

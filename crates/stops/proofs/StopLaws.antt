@@ -1,5 +1,6 @@
 -- Stop lists: lines to the end of a text, the rule of a stop line, and stop ticks in cells.
-use Rattle.lists.proofs.Prelude.{◌≡◌, refl, sym, ◌∙◌, inl, inr, ⊎_elim, List, [], ◌∷◌, ◌++◌, get_last?, none, some, Bool, true, false, ℕ, zero, suc, ◌+◌, ◌-◌, ◌*◌, ◌<◌, ◌≤◌, arith, ltb-true, ltb-false, lt-ltb, le-ltb, lt-leb, le-leb, eq-eqb, ne_eqb, eqb, ltb, leb, length, set, take, drop, length-set, length-drop, drop_of_length-le, get_or-take, get_or-set_same, get_or-set_other, if◌then◌else◌, bytes, nth, Limits, Reader, found, refused, next, return, due, first_of, is_digit, digits, number, exactly, mark, numbers, line, Result, ended, Job, Stop, read_stops, tick, never, stop_time}
+use Rattle.std.specs.Prelude.{if◌then◌else◌}
+use Rattle.lists.proofs.Prelude.{◌≡◌, refl, sym, ◌∙◌, inl, inr, ⊎_elim, List, [], ◌∷◌, ◌++◌, get_last?, none, some, Bool, true, false, ℕ, zero, suc, ◌+◌, ◌-◌, ◌*◌, ◌<◌, ◌≤◌, arith, ltb-true, ltb-false, lt-ltb, le-ltb, lt-leb, le-leb, eq-eqb, ne_eqb, eqb, ltb, leb, length, set, take, drop, length-set, length-drop, drop_of_length-le, get_or-take, get_or-set_same, get_or-set_other, bytes, nth, Limits, Reader, found, refused, next, return, due, first_of, is_digit, digits, number, exactly, mark, numbers, line, Result, ended, Job, Stop, read_stops, tick, never, stop_time}
 use mathlib.Core.Option.{Option}
 use Rattle.definitions.specs.Text.{lines_to_end}
 use Rattle.definitions.specs.Stops.{stop_of, not_after, stop_line, stop_rule}

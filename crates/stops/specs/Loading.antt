@@ -1,7 +1,7 @@
 -- What the cells hold after a stop list was read.
-use Rattle.std.specs.Prelude.{◌≡◌, ℕ, ◌<◌, ltb, length}
+use Rattle.std.specs.Prelude.{◌≡◌, ℕ, ◌<◌, ltb, length, if◌then◌else◌}
 use mathlib.Core.List.{List, get_last?}
-use Rattle.definitions.specs.Lists.{if◌then◌else◌, nth}
+use Rattle.definitions.specs.Lists.{nth}
 use Rattle.definitions.specs.Limits.{Limits}
 use Rattle.definitions.specs.Text.{Reader, lines_to_end, Result, good, bad}
 use Rattle.definitions.specs.Job.{Job}

@@ -1,5 +1,6 @@
 -- The table of powers of ten, and the width that it decides.
-use Rattle.lists.proofs.Prelude.{◌≡◌, ap, ◌∙◌, sym, List, [], ◌∷◌, ℕ, zero, suc, ◌+◌, ◌-◌, ◌*◌, ◌^◌, ◌<◌, ◌≤◌, arith, lt-ltb, le-ltb, ltb, get_or, if◌then◌else◌, width_from}
+use Rattle.std.specs.Prelude.{if◌then◌else◌}
+use Rattle.lists.proofs.Prelude.{◌≡◌, ap, ◌∙◌, sym, List, [], ◌∷◌, ℕ, zero, suc, ◌+◌, ◌-◌, ◌*◌, ◌^◌, ◌<◌, ◌≤◌, arith, lt-ltb, le-ltb, ltb, get_or, width_from}
 use native.Mathlib.Nat.{pow-succ', mul_assoc}
 
 -- k numbers, the first is p, each of the others ten times the one before.

@@ -1,6 +1,5 @@
 -- What the answers of the leaves mean.
-use Rattle.std.specs.Prelude.{◌≡◌, ℕ, ◌+◌, ◌≤◌, List, ◌++◌, leb, ltb, length, drop}
-use Rattle.definitions.specs.Lists.{if◌then◌else◌}
+use Rattle.std.specs.Prelude.{◌≡◌, ℕ, ◌+◌, ◌≤◌, List, ◌++◌, leb, ltb, length, drop, if◌then◌else◌}
 use Rattle.definitions.specs.Limits.{Limits}
 use Rattle.definitions.specs.Text.{Reading, Reader, found, refused, next, ◌>>=◌, ◌>>◌, return, due, line, Result, good, bad}
 use Rattle.lists.specs.Over.{over}

@@ -1,8 +1,8 @@
 -- Times in lanes: what the float operations do with them.
+use Rattle.std.specs.Prelude.{if◌then◌else◌}
 use Rattle.std.proofs.Common.{◌≡◌, ℕ, zero, suc, ◌+◌, ◌*◌, ◌<◌, ◌≤◌, Bool, true, false, T, ltb, List, length, pos, sym, refl, ap, ◌∙◌, subst, ⊎_elim, lt_of_not-le, arith, ltb-false, ltb-true}
 use lib.ListN.{get_or-eq_default}
 use lib.Ieee.{Float, nan, inf, binary64, add, lt, eq, in_signed, to_signed, of_bits, of_int}
-use Rattle.definitions.specs.Lists.{if◌then◌else◌}
 use Rattle.definitions.specs.Times.{Time, tick, never, later, sooner, after}
 use Rattle.definitions.specs.Claims.{Within}
 use Rattle.definitions.specs.Shelf.{NoLater}

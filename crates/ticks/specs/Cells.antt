@@ -1,6 +1,5 @@
 -- Times in cells of 64 bits.
-use Rattle.std.specs.Prelude.{◌≡◌, ℕ, ◌≤◌, ◌⊎◌, ◌==◌}
-use Rattle.definitions.specs.Lists.{if◌then◌else◌}
+use Rattle.std.specs.Prelude.{◌≡◌, ℕ, ◌≤◌, ◌⊎◌, ◌==◌, if◌then◌else◌}
 use Rattle.definitions.specs.Times.{Time, tick, never}
 
 -- Never in a cell: the greatest number.

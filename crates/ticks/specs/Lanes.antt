@@ -1,8 +1,8 @@
 -- What is done on all processors at once, in lanes of 64-bit floats.
-use Rattle.std.specs.Prelude.{ℕ, zero, suc, ◌+◌, ◌*◌, ◌/◌, ◌%◌, ◌^◌, false, List, ◌==◌, nat_lt, slice_set, Float}
+use Rattle.std.specs.Prelude.{ℕ, zero, suc, ◌+◌, ◌*◌, ◌/◌, ◌%◌, ◌^◌, false, List, ◌==◌, nat_lt, slice_set, Float, if◌then◌else◌}
 use Rattle.std.specs.Float.{binary64, inf}
 use Rattle.std.specs.Float.Ieee.{add, mul, lt}
-use Rattle.definitions.specs.Lists.{if◌then◌else◌, nth}
+use Rattle.definitions.specs.Lists.{nth}
 use Rattle.ticks.specs.Floats.{whole, lane}
 
 -- The first n lanes, each changed by f, which is given the lane's number and what it holds.

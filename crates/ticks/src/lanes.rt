@@ -1,9 +1,9 @@
 // Times on many processors at once, in lanes of 64-bit floats: a tick is a whole number, never is the infinity. A table of 16 lanes has one
 // for each processor, one of eight is for a half of them, processors 0 to 7 or 8 to 15; a ninth lane takes what is of no processor of that
 // half.
-ghost use Rattle.std.specs.Prelude.{◌≡◌, ◌+◌, ◌*◌, ◌/◌, ◌%◌, ◌^◌, min, false, replicate, ◌==◌};
+ghost use Rattle.std.specs.Prelude.{◌≡◌, ◌+◌, ◌*◌, ◌/◌, ◌%◌, ◌^◌, min, false, replicate, ◌==◌, if◌then◌else◌};
 ghost use Rattle.std.specs.Float.{inf};
-ghost use Rattle.definitions.specs.Lists.{if◌then◌else◌, nth, sum};
+ghost use Rattle.definitions.specs.Lists.{nth, sum};
 ghost use Rattle.ticks.specs.Floats.{whole, lane};
 ghost use Rattle.ticks.specs.Lanes as Lanes;
 ghost use Rattle.ticks.specs.Lanes.{lanes, sent, delay_at, lane_in, least_lane};

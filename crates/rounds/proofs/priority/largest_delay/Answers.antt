@@ -27,11 +27,14 @@ loop-q-preserved c =
     let args = c.args in
     let loop = c.loop-q in
     let g = greatest_more (delay (job_in args.mem.now) args.p) loop.q in
-    let e = c.delay-y.ensures.0 in
-    (search rules, loop.invariant.1, elim c.if-y-x.branch [
-      | then-y-x w ↦ omega (arith, w.x-is, w.if-y-x.true, e, g)
-      | else-y-x w ↦ omega (arith, w.x-is, w.if-y-x.false, e, g)
-    ])
+    let e = c.delay-y.ensures.0 in (
+      search rules,
+      loop.invariant.1,
+      elim c.if-y-x.branch [
+        | then-y-x w ↦ omega (arith, w.x-is, w.if-y-x.true, e, g)
+        | else-y-x w ↦ omega (arith, w.x-is, w.if-y-x.false, e, g)
+      ],
+    )
 
 pub returns : goal.returns
 unfolding largest_delay

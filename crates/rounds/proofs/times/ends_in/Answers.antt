@@ -30,8 +30,7 @@ pub loop-c-preserved : goal.loop-c-preserved
 loop-c-preserved c =
     let x = c.args in
     let l = c.loop-c in
-    let r = c.replica_at-r.ensures in
-    (
+    let r = c.replica_at-r.ensures in (
       search rules,
       l.invariant.1,
       chosen_next false x.a x.mem.now l.c _ l.first c.chosen_of-first.result r.1 l.invariant.2 c.chosen_of-first.ensures.result_value,

@@ -50,10 +50,10 @@ loop-k-preserved c =
     let on = pass_on w taken _ refl in
     elim c.if-may_wait.branch [
       | then-may_wait b ↦ (
-          on,
-          rw b.early-is (gathered_next a.capacity false (lane_time a.early.now) a.t w e b.raise_edge.ensures.0),
-          rw b.late-is (gathered_next a.capacity true (lane_time a.late.now) a.t w f b.raise_edge.ensures.1),
-        )
+        on,
+        rw b.early-is (gathered_next a.capacity false (lane_time a.early.now) a.t w e b.raise_edge.ensures.0),
+        rw b.late-is (gathered_next a.capacity true (lane_time a.late.now) a.t w f b.raise_edge.ensures.1),
+      )
       | else-may_wait b ↦
           let (x, y) = c.may_wait.ensures b.if-may_wait.false in (
             on,

@@ -1,5 +1,6 @@
 -- The lanes before those of the half are kept, those passed are raised, and those behind it are kept.
-use Rattle.lists.proofs.Prelude.{◌≡◌, ℕ, List, ◌≤◌, ◌-◌, ◌+◌, ◌*◌, ◌/◌, ◌%◌, eqb, if◌then◌else◌}
+use Rattle.std.specs.Prelude.{if◌then◌else◌}
+use Rattle.lists.proofs.Prelude.{◌≡◌, ℕ, List, ◌≤◌, ◌-◌, ◌+◌, ◌*◌, ◌/◌, ◌%◌, eqb}
 use lib.Ieee.{Float}
 use Rattle.ticks.specs.Floats.{lane}
 use Rattle.ticks.specs.Lanes as Lanes
