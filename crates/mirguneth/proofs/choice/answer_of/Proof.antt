@@ -1,8 +1,0 @@
-use Rattle.lists.proofs.Prelude.{needs}
-use Rattle.mirguneth.proofs.choice.answer_of.Statement.{statement}
-use Rattle.mirguneth.proofs.choice.answer_of.Tie as tie
-
-pub answer-of-spec : {M : Type 1} → statement M
-answer-of-spec = tie.close (tie.spec
-    (λ c. search needs) (λ c. search needs) (λ c. search needs) (λ c. rw c.before.said.given.1) (λ c. search needs)
-    (λ c. rw c.before.said2.given.1))
