@@ -1,5 +1,5 @@
 -- The program's output holds the longest answer of the replay.
-use Rattle.lists.proofs.Prelude.{◌≡◌, refl, ap, inl, inr, ⊎_elim, List, [], ◌∷◌, ℕ, ◌<◌, ◌≤◌, arith, le-ltb, length, In, document01, Result, good, bad, and_then, Job, read_job, Line, processors_of, read_plan, Stop, read_stops, never, least, Placement, Outcome, walk, placements_of, placements, replay, replay_text, fitting, replayed, replay_answer, printed, replay_printed, Ordered}
+use Rattle.lists.proofs.Prelude.{◌≡◌, refl, ap, inl, inr, ⊎_elim, List, [], ◌∷◌, ℕ, ◌<◌, ◌≤◌, arith, le-ltb, length, In, document01, Result, good, bad, and_then, Job, read_job, Line, processors_of, read_plan, Stop, read_stops, never, least, Placement, Outcome, outcome, finish, walk, placements_of, placements, replay, replay_text, fitting, replayed, replay_answer, printed, replay_printed, Ordered}
 use Rattle.definitions.proofs.Lists.{in_append, in_map}
 use Rattle.definitions.proofs.Reading.{and_then_good, job_facts, plan_facts}
 use Rattle.console.proofs.Shown.{refusal_most}
@@ -11,11 +11,13 @@ use Rattle.rounds.proofs.Longest.{text_most, longest}
 walk_on : (j : Job) (ss : List Stop) (placed : List Outcome) (cs : List Placement) (d : Outcome) → In d (walk j least ss placed cs)
     → (c : Placement) × In c cs × (c.processor ≡ d.processor)
 unfolding walk
+walk_on j ss placed [] d x' = elim x' [ ]
 walk_on j ss placed (c ∷ cs) d (inl e) = (c, inl refl, ap (λ (d : Outcome). d.processor) e)
-walk_on j ss placed (c ∷ cs) d (inr i) = let (a, k, e) = walk_on j ss _ cs d i in (a, inr k, e)
+walk_on j ss placed (c ∷ cs) d (inr i) = let (a, k, e) = walk_on j ss (outcome c (finish j least ss placed c) ∷ placed) cs d i in (a, inr k, e)
 
 placements_on : (j : Job) (seen : List ℕ) (ns : List Line) → Ordered j seen ns → (c : Placement) → In c (placements j ns) → c.processor < j.processors
 unfolding placements
+placements_on j seen [] _ c i = elim i [ ]
 placements_on j seen (n ∷ ns) (o, os) c i =
     ⊎_elim
     (λ k. let (p, m, e) = in_map _ c (processors_of n) k in rw (← e) (o.processors_below p m))

@@ -5,13 +5,17 @@ use Rattle.plan_job.proofs.Printed.{said, plan_printed_lem, all_fits, printed_mo
 use Rattle.plan_job.proofs.answer.Goals as goal
 
 pub returns-in-Done : goal.returns-in-Done
-returns-in-Done c = let both = let a = c.args in
+returns-in-Done c =
+    let a = c.args in
     let pre = c.requires in
-    shown_done (said a.job.now) (plan_printed a.job.now) a.out.now c.plan.new.out c.in-Done.k (plan_printed_lem a.job.now) (omega (arith, printed_most a.job.now, pre))
-    (rw (c.in-Done.is, all_fits a.job.now (length a.out.now) pre) at c.plan.ensures) in record { value = both.0; holds = both.1; counted = both.2 }
+    let both = shown_done (said a.job.now) (plan_printed a.job.now) a.out.now c.plan.new.out c.in-Done.k (plan_printed_lem a.job.now) (omega (arith, printed_most a.job.now, pre))
+    (rw (c.in-Done.is, all_fits a.job.now (length a.out.now) pre) at c.plan.ensures) in
+    record { value = both.0; holds = both.1.0; counted = both.1.1 }
 
 pub returns-in-Refusal : goal.returns-in-Refusal
-returns-in-Refusal c = let both = let a = c.args in
+returns-in-Refusal c =
+    let a = c.args in
     let pre = c.requires in
-    shown_refusal (said a.job.now) (plan_printed a.job.now) a.out.now c.plan.new.out c.in-Refusal.x (plan_printed_lem a.job.now)
-    (omega (arith, printed_most a.job.now, pre)) (rw (c.in-Refusal.is, all_fits a.job.now (length a.out.now) pre) at c.plan.ensures) c.write_refusal.new.out c.write_refusal.result c.write_refusal.ensures.value c.write_refusal.ensures.holds in record { value = both.0; holds = both.1; counted = both.2 }
+    let both = shown_refusal (said a.job.now) (plan_printed a.job.now) a.out.now c.plan.new.out c.in-Refusal.x (plan_printed_lem a.job.now)
+    (omega (arith, printed_most a.job.now, pre)) (rw (c.in-Refusal.is, all_fits a.job.now (length a.out.now) pre) at c.plan.ensures) c.write_refusal.new.out c.write_refusal.result c.write_refusal.ensures.value c.write_refusal.ensures.holds in
+    record { value = both.0; holds = both.1.0; counted = both.1.1 }
