@@ -15,9 +15,7 @@ use Rattle.rounds.specs.Verdicts.{refusal_of, Judged}
 use Rattle.rounds.specs.declared.Checked.{Checked}
 use Rattle.mirguneth.specs.Said.{done_of, numbers_of, Wrote, Answers}
 use Rattle.mirguneth.specs.declared.choice.Tool.{Tool}
-use Rattle.mirguneth.specs.declared.choice.Tool.TheVariants as Tool
 use Rattle.mirguneth.specs.declared.choice.Said.{Said}
-use Rattle.mirguneth.specs.declared.choice.Said.TheVariants as Said
 
 -- The definitions by what was read of both texts ----------------------------------------------------------------------
 

@@ -8,9 +8,7 @@ use Rattle.lists.specs.Over.{over}
 use Rattle.plans.specs.Loading.{with_plan}
 use Rattle.rounds.specs.Tools.{plan_of, verdict_both, replay_both}
 use Rattle.mirguneth.specs.declared.choice.Tool.{Tool}
-use Rattle.mirguneth.specs.declared.choice.Tool.TheVariants as Tool
 use Rattle.mirguneth.specs.declared.choice.Said.{Said}
-use Rattle.mirguneth.specs.declared.choice.Said.TheVariants as Said
 
 -- Of a tool that writes: how many bytes, or the number of the refusal.
 abbrev pub done_of : Said → Result ℕ

@@ -1,6 +1,5 @@
 -- Times in lanes and in cells: the casts between them, and when no processor waits.
-use Rattle.std.specs.Prelude.{if◌then◌else◌}
-use Rattle.lists.proofs.Prelude.{◌≡◌, refl, sym, subst, ◌∙◌, inl, inr, List, Bool, true, false, ℕ, zero, suc, ◌+◌, ◌*◌, ◌^◌, ◌<◌, ◌≤◌, arith, eq-eqb, eqb-true, eqb, nth, Edge, Limits, document01, In, Time, tick, never, after, times}
+use Rattle.lists.proofs.Prelude.{◌≡◌, refl, sym, subst, ◌∙◌, List, Bool, true, false, ℕ, ◌+◌, ◌*◌, ◌^◌, ◌<◌, ◌≤◌, arith, nth, Edge, Limits, document01, In, Time, tick, never, after, times}
 use mir.Syntax.{w64}
 use mir.Val.{to_z, of_z}
 use mir.Facts.{to_z-of_z}
@@ -12,7 +11,7 @@ use Rattle.definitions.specs.Shelf.{NoLater}
 use Rattle.definitions.proofs.Lists.{in_map}
 use Rattle.definitions.proofs.Bounds.{least_within, largest_within}
 use Rattle.heads.specs.Layout.{time_at}
-use Rattle.ticks.specs.Cells.{never_cell, time_in, Small}
+use Rattle.ticks.specs.Cells.{time_in, Small}
 use Rattle.ticks.specs.Floats.{whole, float_of, time_of, Held, lane}
 use Rattle.ticks.proofs.Wholes.{Fine, to_unsigned_lem}
 use Rattle.ticks.proofs.HeldLaws.{held_more, add_holds, lt_no, signed_holds, never_no}

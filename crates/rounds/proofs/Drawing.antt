@@ -1,5 +1,5 @@
 -- The memory while a plan is drawn up: its ticks, a line more, and what a change elsewhere leaves as it was.
-use Rattle.lists.proofs.Prelude.{◌≡◌, refl, ap, ◌∙◌, sym, ⊎_elim, List, [], ◌∷◌, ◌++◌, map, map-map, map-append, append-nil, Bool, true, false, not, ◌&&◌, ℕ, zero, suc, ◌+◌, ◌*◌, ◌-◌, ◌<◌, ◌≤◌, min, arith, add-zero, add-one, eqb-false, eq-eqb, ne_eqb, lt-ltb, not-true, eqb, ltb, length, set, take, take_all, take-suc, length-take-le, length-append, length-map, length-set, get_or-set_same, get_or-set_other, nth, keep, all, has, below, Limits, Edge, run_time, incoming, data_ready, start, stop_time, finish, placement_of, tick_of, Waiting, free_tasks, ranked, trial, replicas, place, plan_for}
+use Rattle.lists.proofs.Prelude.{◌≡◌, refl, ap, ◌∙◌, sym, ⊎_elim, List, [], ◌∷◌, ◌++◌, map, map-map, map-append, append-nil, Bool, true, false, not, ◌&&◌, ℕ, zero, suc, ◌+◌, ◌*◌, ◌-◌, ◌<◌, ◌≤◌, min, arith, add-zero, add-one, eqb-false, eq-eqb, ne_eqb, lt-ltb, not-true, eqb, ltb, length, set, take, take_all, take-suc, length-take-le, length-append, length-map, length-set, get_or-set_same, get_or-set_other, nth, keep, all, has, below, Limits, Edge, run_time, incoming, data_ready, start, stop_time, finish, placement_of, tick_of, Waiting, free_tasks, ranked, trial, place, plan_for}
 use Rattle.definitions.proofs.Lists.{in_map, in_keep, map_same, map_keep, in_below, all_in}
 use Rattle.definitions.proofs.Placing.{placed_count}
 use Rattle.definitions.proofs.Chosen.{chosen_count}

@@ -1,10 +1,8 @@
 -- The replay of a plan in memory, replica by replica and line by line.
-use Rattle.std.specs.Prelude.{if◌then◌else◌}
 use Rattle.lists.proofs.Prelude.{◌≡◌, refl, ap, ◌∙◌, sym, inl, inr, ⊎_elim, List, [], ◌∷◌, ◌++◌, map, map-append, Bool, true, false, ℕ, suc, ◌+◌, ◌*◌, ◌-◌, ◌<◌, ◌≤◌, mul-le-mul, arith, add-one, eq-eqb, ne_eqb, lt-leb, le-leb, set, length-set, get_or-set_same, get_or-set_other, nth, below, In, Limits, Edge, Job, run_time, incoming, Stop, Time, never, later, after, least, largest, Placement, Outcome, outcome, arrival, data_ready, start, ready, stop_time, finish, walk, placements_of, placement_of, tick_of, trial}
 use lib.Ieee.{Float}
 use Rattle.definitions.specs.Times.{unless_stopped, feeding}
 use Rattle.definitions.specs.Shelf.{NoLater}
-use Rattle.definitions.specs.Claims.{Within}
 use Rattle.definitions.proofs.Lists.{map_same, map_in, below_in}
 use Rattle.definitions.proofs.Tasks.{in_incoming}
 use Rattle.definitions.proofs.Bounds.{weaker, trial_most}

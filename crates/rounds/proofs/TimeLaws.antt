@@ -1,6 +1,6 @@
 -- Times in cells: the later and the sooner, what comes after, and when data arrives.
 use Rattle.std.specs.Prelude.{if◌then◌else◌}
-use Rattle.lists.proofs.Prelude.{◌≡◌, refl, ap, ◌∙◌, sym, ◌⊎◌, inl, inr, ⊎_elim, List, [], ◌∷◌, map, reverse_aux, Bool, true, false, ℕ, ◌+◌, ◌*◌, ◌-◌, ◌<◌, ◌≤◌, max, min, arith, mul-le-mul, eq-eqb, ne_eqb, eqb-true, eqb, nth, In, greatest, Edge, delay, incoming, Time, tick, never, later, sooner, after, least, largest, any, Limits}
+use Rattle.lists.proofs.Prelude.{◌≡◌, refl, ap, ◌∙◌, sym, ◌⊎◌, inl, inr, ⊎_elim, List, [], ◌∷◌, map, reverse_aux, Bool, true, false, ℕ, ◌+◌, ◌*◌, ◌-◌, ◌<◌, ◌≤◌, max, min, arith, mul-le-mul, eq-eqb, ne_eqb, eqb-true, eqb, nth, In, greatest, Edge, incoming, Time, tick, never, later, sooner, least, largest, Limits}
 use Rattle.definitions.specs.Claims.{Within}
 use Rattle.definitions.proofs.Tasks.{in_incoming}
 use Rattle.definitions.proofs.Later.{later_comm, later_assoc, later_zero}
@@ -10,11 +10,11 @@ use Rattle.heads.specs.Layout.{line_at, replicas_most}
 use Rattle.jobs.specs.Held.{job_in}
 use Rattle.jobs.specs.Tables.{message_most, line_ticks, last_short, Tabled}
 use Rattle.ticks.specs.Cells.{never_cell, time_in, Small}
-use Rattle.plans.specs.Lines.{row_outcomes, LinesHeld}
-use Rattle.rounds.specs.Schedule.{choice_of, arrival_in, PredecessorsPlaced}
+use Rattle.plans.specs.Lines.{LinesHeld}
+use Rattle.rounds.specs.Schedule.{choice_of, PredecessorsPlaced}
 use Rattle.rounds.specs.Walks.{Feeds}
 use Rattle.lists.proofs.Counting.{equal_or_not}
-use Rattle.rounds.proofs.Placed.{row_all, line_in_lem}
+use Rattle.rounds.proofs.Placed.{line_in_lem}
 use Rattle.jobs.proofs.Held.{sizes, tasks_in_lem}
 
 -- Times in cells --------------------------------------------------------------------------------------------------

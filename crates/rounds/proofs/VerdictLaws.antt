@@ -2,7 +2,6 @@
 use Rattle.lists.proofs.Prelude.{◌≡◌, refl, [], true, false, ℕ, In, Limits, first_of, good, Job, Plan, doubled_tasks, ticks_agree, bounds_agree, verdict_for}
 use Rattle.definitions.specs.Refusals.{plan_refusal}
 use Rattle.definitions.proofs.Lists.{in_some}
-use Rattle.text.specs.declared.Step.TheVariants as Step
 use Rattle.rounds.specs.Verdicts.{Judged}
 use Rattle.rounds.specs.declared.Checked.TheVariants.{Accepted, Doubled, Refused}
 

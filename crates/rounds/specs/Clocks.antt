@@ -1,5 +1,5 @@
 -- What the first lines of a plan give: the outcomes of their replicas, the clocks after them, and the finishes of a task placed next.
-use Rattle.std.specs.Prelude.{◌≡◌, List, [], ◌++◌, Bool, true, false, ℕ, ◌+◌, ◌-◌, ◌<◌, ◌≤◌, length}
+use Rattle.std.specs.Prelude.{◌≡◌, List, [], ◌++◌, Bool, true, false, ℕ, ◌+◌, ◌<◌, ◌≤◌, length}
 use Rattle.definitions.specs.Lists.{nth}
 use Rattle.definitions.specs.Limits.{Limits}
 use Rattle.definitions.specs.Job.{Job}

@@ -2,7 +2,6 @@
 use Rattle.std.specs.Prelude.{ℕ, List, [], ◌∷◌}
 use Rattle.definitions.specs.Tools.{Verdict, Says}
 use Rattle.rounds.specs.declared.Checked.{Checked}
-use Rattle.rounds.specs.declared.Checked.TheVariants as Checked
 
 -- Document 01's number and values for each case of the checker's answer: none if the plan is accepted; with 12 the task.
 abbrev pub refusal_of : Checked → List ℕ

@@ -3,4 +3,6 @@ use Rattle.console.proofs.Shown.{refusal_counted}
 use Rattle.console.proofs.write_doubled.Goals as goal
 
 pub returns : goal.returns
-returns c = let args = c.args in record { value = refusal_counted (12 ∷ args.task ∷ []) c.line.result (omega arith) c.line.ensures.value; holds = c.line.ensures.holds }
+returns c =
+    let args = c.args in
+    record { value = refusal_counted (12 ∷ args.task ∷ []) c.line.result (omega arith) c.line.ensures.value; holds = c.line.ensures.holds }

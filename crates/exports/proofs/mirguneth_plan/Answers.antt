@@ -1,4 +1,4 @@
-use Rattle.lists.proofs.Prelude.{◌-◌, length, document01, plan_answer}
+use Rattle.lists.proofs.Prelude.{length, document01, plan_answer}
 use Rattle.exports.proofs.ExportLaws.{answer_written, answer_refused}
 use Rattle.exports.proofs.mirguneth_plan.Goals as goal
 

@@ -22,7 +22,8 @@ returns-then-roomy c =
     let passed : job_head_rule document01 (head_of c.args.head) ≡ 0 = omega (arith, c.head_rule-x.ensures, c.if-x-gt0.false) in
     let y = sym c.roomy.ensures ∙ c.if-roomy.true in
     let (_, l, _, f) = roomy_parts _ _ _ _ y in
-    rw (from_room document01 _ _ _ _ _ passed y) (rest_loaded suited tabled c.args.capacity _ _ c.load_rest.new.mem _ passed (c.load_rest.auto.mem ∙ l) f _ c.load_rest.ensures)
+    rw (from_room document01 _ _ _ _ _ passed y)
+    (rest_loaded suited tabled c.args.capacity _ _ c.load_rest.new.mem _ passed (c.load_rest.auto.mem ∙ l) f _ c.load_rest.ensures)
 
 pub returns : goal.returns
 returns c =

@@ -8,4 +8,8 @@ returns-then-vals-k c = record { result_after = sym (line_unfit _ _ _ _ _ c.if-v
 
 pub returns : goal.returns
 returns c = let a = c.args in
-    let if1 = c.if-vals-k in record { result_after = rw (le-ltb (length a.vals.now) a.k if1.false) c.line_of.ensures.0; rest = (c.line_of.ensures.1, λ h. absurd (omega (arith, h, if1.false))) }
+    let if1 = c.if-vals-k in
+    record {
+      result_after = rw (le-ltb (length a.vals.now) a.k if1.false) c.line_of.ensures.0;
+      rest = (c.line_of.ensures.1, λ h. absurd (omega (arith, h, if1.false)));
+    }

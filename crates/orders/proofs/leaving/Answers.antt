@@ -4,10 +4,13 @@ use Rattle.orders.proofs.leaving.Goals as goal
 
 pub returns-then-v-links : goal.returns-then-v-links
 returns-then-v-links c =
-    let a = c.args in (link_some a.v a.t _ a.links.now (omega arith) (omega arith), link_some a.v a.t _ a.links.now (omega arith) (omega arith))
+    let a = c.args in
+    (link_some a.v a.t _ a.links.now (omega arith) (omega arith), link_some a.v a.t _ a.links.now (omega arith) (omega arith))
 
 pub returns-else-v-links : goal.returns-else-v-links
-returns-else-v-links c = let a = c.args in (link_few a.v a.t _ a.links.now (omega arith) (omega arith), link_few a.v a.t _ a.links.now (omega arith) (omega arith))
+returns-else-v-links c =
+    let a = c.args in
+    (link_few a.v a.t _ a.links.now (omega arith) (omega arith), link_few a.v a.t _ a.links.now (omega arith) (omega arith))
 
 pub returns-else-t-v : goal.returns-else-t-v
 returns-else-t-v c = let a = c.args in (link_none a.v a.t _ a.links.now (omega arith), link_none a.v a.t _ a.links.now (omega arith))

@@ -23,5 +23,6 @@ returns-in-Next c =
 pub returns-in-Refused : goal.returns-in-Refused
 returns-in-Refused c =
     let a = c.args in
-    no_job _ a.capacity (job_from document01 a.capacity (length a.mem.now) (length a.links.now) (head_of a.head) (drop a.at a.job.now)) a.plan.now
+    no_job _ a.capacity (job_from document01 a.capacity (length a.mem.now) (length a.links.now) (head_of a.head) (drop a.at a.job.now))
+    a.plan.now
     c.load_job.new.mem c.load_job.new.links _ (rw c.in-Refused.is at c.load_job.ensures)

@@ -8,14 +8,22 @@ pub write_numbers-requires : goal.write_numbers-requires
 write_numbers-requires c =
     let a = c.args in
     let h = sym c.line_fits.ensures ∙ c.if-line_fits.true in
-    numbers_room document01 a.out.now a.opening.now a.vals.now (leb-true _ _ h) _ _ c.write_fixed-at.ensures.holds c.write_fixed-at.ensures.value
+    numbers_room document01 a.out.now a.opening.now a.vals.now (leb-true _ _ h) _ _ c.write_fixed-at.ensures.holds
+    c.write_fixed-at.ensures.value
 
 pub returns-then-line_fits : goal.returns-then-line_fits
-returns-then-line_fits c = let both = let a = c.args in
+returns-then-line_fits c =
+    let a = c.args in
     let n = c.write_numbers.ensures in
     let h = sym c.line_fits.ensures ∙ c.if-line_fits.true in
-    line_written document01 a.out.now a.opening.now a.vals.now (leb-true _ _ h) _ _ c.write_fixed-at.ensures.holds c.write_fixed-at.ensures.value (omega arith) _ _ n.0 n.1 in record { value = both.0; holds = both.1 }
+    let both = line_written document01 a.out.now a.opening.now a.vals.now (leb-true _ _ h) _ _ c.write_fixed-at.ensures.holds
+    c.write_fixed-at.ensures.value (omega arith) _ _ n.0 n.1 in
+    record { value = both.0; holds = both.1 }
 
 pub returns : goal.returns
 returns c = let a = c.args in
-    let h = sym c.line_fits.ensures ∙ c.if-line_fits.false in record { value = rw (length_line document01 a.opening.now a.vals.now) (c.wrapping_add_usize.ensures.value ∙ rw c.numbers_length.ensures); holds = sym (written_unfit a.out.now 0 (line_text document01 a.opening.now a.vals.now) (omega (arith, leb-false, h))) }
+    let h = sym c.line_fits.ensures ∙ c.if-line_fits.false in
+    record {
+      value = rw (length_line document01 a.opening.now a.vals.now) (c.wrapping_add_usize.ensures.value ∙ rw c.numbers_length.ensures);
+      holds = sym (written_unfit a.out.now 0 (line_text document01 a.opening.now a.vals.now) (omega (arith, leb-false, h)));
+    }

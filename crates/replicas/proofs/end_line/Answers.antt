@@ -4,7 +4,8 @@ use Rattle.replicas.proofs.ResultLaws.{end_tick, end_never}
 use Rattle.replicas.proofs.end_line.Goals as goal
 
 pub returns-then-time-eq-NEVER : goal.returns-then-time-eq-NEVER
-returns-then-time-eq-NEVER c = rw (end_never document01 _ c.if-time-eq-NEVER.true) (record { value = (refl, omega arith); holds = c.write_fixed.ensures.holds })
+returns-then-time-eq-NEVER c =
+    rw (end_never document01 _ c.if-time-eq-NEVER.true) (record { value = (refl, omega arith); holds = c.write_fixed.ensures.holds })
 
 pub returns : goal.returns
 returns c =

@@ -23,4 +23,6 @@ loop-c-preserved c =
     )
 
 pub returns : goal.returns
-returns c = let e : c.loop-c.c ≡ replicas_of (length c.args.cells.now) = omega (arith, c.loop-c.invariant.0, c.loop-c-test.false) in record { time = rw e at c.loop-c.invariant.1; processor = rw e at c.loop-c.invariant.2 }
+returns c =
+    let e : c.loop-c.c ≡ replicas_of (length c.args.cells.now) = omega (arith, c.loop-c.invariant.0, c.loop-c-test.false) in
+    record { time = rw e at c.loop-c.invariant.1; processor = rw e at c.loop-c.invariant.2 }

@@ -4,7 +4,9 @@ use Rattle.replicas.proofs.ResultLaws.{result_tick, result_never}
 use Rattle.replicas.proofs.result_line.Goals as goal
 
 pub returns-then-first-eq-NEVER : goal.returns-then-first-eq-NEVER
-returns-then-first-eq-NEVER c = rw (result_never document01 _ _ _ c.if-first-eq-NEVER.true) (record { value = c.undone_line.ensures.value; holds = c.undone_line.ensures.holds })
+returns-then-first-eq-NEVER c =
+    rw (result_never document01 _ _ _ c.if-first-eq-NEVER.true)
+    (record { value = c.undone_line.ensures.value; holds = c.undone_line.ensures.holds })
 
 pub returns : goal.returns
 returns c =

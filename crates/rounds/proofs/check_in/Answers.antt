@@ -16,7 +16,8 @@ pub returns-in-Next : goal.returns-in-Next
 returns-in-Next c =
     let a = c.args in
     let x = with_plan document01 (job_from document01 a.capacity (length a.mem.now) (length a.links.now) (head_of a.head) (drop a.at a.job.now)) a.plan.now in
-    rw (both_next document01 a.capacity c.load_both.new.mem c.load_both.new.links _ x (rw c.in-Next.is at c.load_both.ensures)).0 c.judge.ensures
+    rw (both_next document01 a.capacity c.load_both.new.mem c.load_both.new.links _ x (rw c.in-Next.is at c.load_both.ensures)).0
+    c.judge.ensures
 
 pub returns-in-Refused : goal.returns-in-Refused
 returns-in-Refused c =

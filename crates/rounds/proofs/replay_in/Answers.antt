@@ -16,10 +16,12 @@ pub returns-in-Next : goal.returns-in-Next
 returns-in-Next c =
     let a = c.args in
     let x = with_plan document01 (job_from document01 a.capacity (length a.mem.now) (length a.links.now) (head_of a.head) (drop a.at a.job.now)) a.plan.now in
-    rw (both_next document01 a.capacity c.load_both.new.mem c.load_both.new.links _ x (rw c.in-Next.is at c.load_both.ensures)).0 c.put_replay.ensures
+    rw (both_next document01 a.capacity c.load_both.new.mem c.load_both.new.links _ x (rw c.in-Next.is at c.load_both.ensures)).0
+    c.put_replay.ensures
 
 pub returns-in-Refused : goal.returns-in-Refused
 returns-in-Refused c =
     let a = c.args in
     let x = with_plan document01 (job_from document01 a.capacity (length a.mem.now) (length a.links.now) (head_of a.head) (drop a.at a.job.now)) a.plan.now in
-    rw (both_no document01 a.capacity c.load_both.new.mem c.load_both.new.links _ x (rw c.in-Refused.is at c.load_both.ensures)) (refl, refl)
+    rw (both_no document01 a.capacity c.load_both.new.mem c.load_both.new.links _ x (rw c.in-Refused.is at c.load_both.ensures))
+    (refl, refl)

@@ -8,13 +8,25 @@ pub loop-i-init : goal.loop-i-init
 loop-i-init c = (search rules, search rules, search rules, refl)
 
 pub returns-then-d-lt48 : goal.returns-then-d-lt48
-returns-then-d-lt48 c = record { result_value = digits_stop _ _ _ _ c.loop-i-test.true (digit_low _ c.if-d-lt48.true) ∙ c.loop-i.invariant.3; placed = c.loop-i.invariant.0 }
+returns-then-d-lt48 c =
+    record {
+      result_value = digits_stop _ _ _ _ c.loop-i-test.true (digit_low _ c.if-d-lt48.true) ∙ c.loop-i.invariant.3;
+      placed = c.loop-i.invariant.0;
+    }
 
 pub returns-then-d-gt57 : goal.returns-then-d-gt57
-returns-then-d-gt57 c = let l = c.loop-i in record { result_value = digits_stop _ _ _ _ c.loop-i-test.true (digit_high _ c.if-d-gt57.true) ∙ l.invariant.3; placed = l.invariant.0 }
+returns-then-d-gt57 c =
+    let l = c.loop-i in
+    record { result_value = digits_stop _ _ _ _ c.loop-i-test.true (digit_high _ c.if-d-gt57.true) ∙ l.invariant.3; placed = l.invariant.0 }
 
 pub returns-then-k-eq0 : goal.returns-then-k-eq0
-returns-then-k-eq0 c = let loop-test = c.loop-i-test in record { result_value = digits_full _ _ _ _ loop-test.true (digit_yes _ c.if-d-lt48.false c.if-d-gt57.false) c.if-k-eq0.true ∙ c.loop-i.invariant.3; placed = tt }
+returns-then-k-eq0 c =
+    let loop-test = c.loop-i-test in
+    record {
+      result_value = digits_full _ _ _ _ loop-test.true (digit_yes _ c.if-d-lt48.false c.if-d-gt57.false) c.if-k-eq0.true
+          ∙ c.loop-i.invariant.3;
+      placed = tt;
+    }
 
 pub overflow_mul-acc : goal.overflow_mul-acc
 overflow_mul-acc c = omega (arith, value_fits _ suited _ _ (omega arith) c.loop-i.invariant.2)

@@ -10,7 +10,11 @@ pub returns-then-s-p : goal.returns-then-s-p
 returns-then-s-p c = record { result_value = fixed_end _ _ _ _ c.loop-i-test.true c.if-s-p.true ∙ c.loop-i.invariant.2; placed = tt }
 
 pub returns-then-s-p-2 : goal.returns-then-s-p-2
-returns-then-s-p-2 c = record { result_value = fixed_no _ _ _ _ c.loop-i-test.true c.if-s-p.false (λ e. omega arith) ∙ c.loop-i.invariant.2; placed = tt }
+returns-then-s-p-2 c =
+    record {
+      result_value = fixed_no _ _ _ _ c.loop-i-test.true c.if-s-p.false (λ e. omega arith) ∙ c.loop-i.invariant.2;
+      placed = tt;
+    }
 
 pub loop-i-preserved : goal.loop-i-preserved
 loop-i-preserved c =
@@ -18,4 +22,8 @@ loop-i-preserved c =
     (search rules, omega (arith, loop.invariant.1), fixed_yes _ _ _ _ c.loop-i-test.true c.if-s-p.false (omega arith) ∙ loop.invariant.2)
 
 pub returns : goal.returns
-returns c = record { result_value = fixed_done c.args.s.now _ _ c.loop-i.p c.loop-i-test.false ∙ c.loop-i.invariant.2; placed = omega (arith, c.loop-i-test.false, c.loop-i.invariant) }
+returns c =
+    record {
+      result_value = fixed_done c.args.s.now _ _ c.loop-i.p c.loop-i-test.false ∙ c.loop-i.invariant.2;
+      placed = omega (arith, c.loop-i-test.false, c.loop-i.invariant);
+    }

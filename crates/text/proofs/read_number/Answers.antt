@@ -14,7 +14,12 @@ returns-then-b-gt57 c = record { result_value = number_no _ _ _ c.if-s-at.false 
 
 pub returns-then-b-eq48 : goal.returns-then-b-eq48
 returns-then-b-eq48 c = let if1 = c.if-s-at in
-    let if2 = c.if-b-lt48 in record { result_value = c.more_digits.ensures.result_value ∙ number_zero _ _ _ if1.false (digit_yes _ if2.false c.if-b-gt57.false) c.if-b-eq48.true; placed = c.more_digits.ensures.placed }
+    let if2 = c.if-b-lt48 in
+    record {
+      result_value = c.more_digits.ensures.result_value ∙ number_zero _ _ _ if1.false (digit_yes _ if2.false c.if-b-gt57.false)
+          c.if-b-eq48.true;
+      placed = c.more_digits.ensures.placed;
+    }
 
 pub returns : goal.returns
 returns c = let if1 = c.if-s-at in

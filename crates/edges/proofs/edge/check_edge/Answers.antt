@@ -11,7 +11,8 @@ pub cell_of-requires : goal.cell_of-requires
 cell_of-requires c =
     let a = c.args in
     let pre = c.requires in
-    let w = edge_within document01 a.v (record { from = a.from; to = a.to; volume = a.volume }) (rw c.outside.ensures at c.if-from-v.false) in
+    let w = edge_within document01 a.v (record { from = a.from; to = a.to; volume = a.volume })
+    (rw c.outside.ensures at c.if-from-v.false) in
     (omega (arith, pre.0, w.0), omega (arith, pre.0, w.1), w.2)
 
 pub returns : goal.returns

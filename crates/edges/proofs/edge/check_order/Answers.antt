@@ -10,12 +10,14 @@ returns-then-edge_from-edge_to c = sym (order_self _ _ (sym c.edge_from.ensures.
 
 pub returns-then-n-eq0 : goal.returns-then-n-eq0
 returns-then-n-eq0 c =
-    let apart : (edge_in c.args.cell).from ≡ (edge_in c.args.cell).to → ⊥ = λ e. c.if-edge_from-edge_to.false (c.edge_from.ensures.0 ∙ e ∙ sym c.edge_to.ensures.0) in
+    let apart : (edge_in c.args.cell).from ≡ (edge_in c.args.cell).to → ⊥ =
+    λ e. c.if-edge_from-edge_to.false (c.edge_from.ensures.0 ∙ e ∙ sym c.edge_to.ensures.0) in
     sym (order_first _ _ apart (no_cell c.args.before.now (omega (arith, c.if-n-eq0.true))))
 
 pub returns-then-edge_pair : goal.returns-then-edge_pair
 returns-then-edge_pair c =
-    let apart : (edge_in c.args.cell).from ≡ (edge_in c.args.cell).to → ⊥ = λ e. c.if-edge_from-edge_to.false (c.edge_from.ensures.0 ∙ e ∙ sym c.edge_to.ensures.0) in
+    let apart : (edge_in c.args.cell).from ≡ (edge_in c.args.cell).to → ⊥ =
+    λ e. c.if-edge_from-edge_to.false (c.edge_from.ensures.0 ∙ e ∙ sym c.edge_to.ensures.0) in
     let a = c.args in
     let l = last_cell a.before.now (omega (arith, c.if-n-eq0.false)) in
     let h = rw (c.edge_pair.ensures, c.edge_pair-2.ensures) at c.if-edge_pair.true in
@@ -26,7 +28,8 @@ returns-then-is_repeated c = sym (order_repeated _ _ (sym c.is_repeated.ensures 
 
 pub returns : goal.returns
 returns c =
-    let apart : (edge_in c.args.cell).from ≡ (edge_in c.args.cell).to → ⊥ = λ e. c.if-edge_from-edge_to.false (c.edge_from.ensures.0 ∙ e ∙ sym c.edge_to.ensures.0) in
+    let apart : (edge_in c.args.cell).from ≡ (edge_in c.args.cell).to → ⊥ =
+    λ e. c.if-edge_from-edge_to.false (c.edge_from.ensures.0 ∙ e ∙ sym c.edge_to.ensures.0) in
     let a = c.args in
     let l = last_cell a.before.now (omega (arith, c.if-n-eq0.false)) in
     let h = rw (c.edge_pair.ensures, c.edge_pair-2.ensures) at c.if-edge_pair.false in

@@ -11,13 +11,15 @@ loop-i-init c = (omega arith, sym (any_map _ edge_in _))
 pub returns-then-edge_pair-pair : goal.returns-then-edge_pair-pair
 returns-then-edge_pair-pair c =
     let a = c.args in
-    let e = sym (pair_same (nth a.before.now c.loop-i.i) a.cell) ∙ eq-eqb _ _ (sym c.edge_pair.ensures ∙ c.if-edge_pair-pair.true ∙ c.edge_pair-pair.ensures) in
+    let e = sym (pair_same (nth a.before.now c.loop-i.i) a.cell) ∙ eq-eqb _ _
+    (sym c.edge_pair.ensures ∙ c.if-edge_pair-pair.true ∙ c.edge_pair-pair.ensures) in
     any_here (alike _) _ _ c.loop-i-test.true e ∙ c.loop-i.invariant.1
 
 pub loop-i-preserved : goal.loop-i-preserved
 loop-i-preserved c =
     let a = c.args in
-    let e = sym (pair_same (nth a.before.now c.loop-i.i) a.cell) ∙ ne_eqb _ _ (λ q. c.if-edge_pair-pair.false (c.edge_pair.ensures ∙ q ∙ sym c.edge_pair-pair.ensures)) in
+    let e = sym (pair_same (nth a.before.now c.loop-i.i) a.cell) ∙ ne_eqb _ _
+    (λ q. c.if-edge_pair-pair.false (c.edge_pair.ensures ∙ q ∙ sym c.edge_pair-pair.ensures)) in
     (omega (arith, c.loop-i-test.true), any_next (alike _) _ _ c.loop-i-test.true e ∙ c.loop-i.invariant.1)
 
 pub returns : goal.returns

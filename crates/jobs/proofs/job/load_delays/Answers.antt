@@ -37,5 +37,6 @@ returns-in-Refused c =
     let place : from ≡ delays_at (job_head_of c.args.mem.now) = c.numbers_at-a.ensures in
     λ runs q.
     let place = c.numbers_at-a.ensures in
-    let f = sym (c.read_rows.ensures ∙ delays_read c.args.mem.now c.requires (bytes "D,") _ place) ∙ ap (step_reading _ _) c.in-Refused.is in
+    let f = sym (c.read_rows.ensures ∙ delays_read c.args.mem.now c.requires (bytes "D,") _ place) ∙ ap (step_reading _ _)
+    c.in-Refused.is in
     delays_no _ (job_head_of c.args.mem.now) runs _ _ _ _ f

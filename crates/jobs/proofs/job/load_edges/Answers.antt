@@ -13,8 +13,10 @@ close-requires c =
     let held : List ℕ = c.read_edges.new.mem in
     let edges : List Edge = map edge_in (take (nth c.args.mem.now 2) held) in
     let place : c.edges_at-a.result ≡ edges_at (job_head_of c.args.mem.now) = c.edges_at-a.ensures in
-    let read : lines (edge_line document01) (edge_rule document01 (nth c.args.mem.now 0)) (nth c.args.mem.now 2) [] (drop c.args.at c.args.s.now)
-    ≡ found edges (drop c.in-Next.p c.args.s.now) = sym (c.read_edges.ensures ∙ edges_read _ c.requires _ place) ∙ ap (step_reading _ edges) c.in-Next.is in
+    let read : lines (edge_line document01) (edge_rule document01 (nth c.args.mem.now 0)) (nth c.args.mem.now 2) []
+    (drop c.args.at c.args.s.now)
+    ≡ found edges (drop c.in-Next.p c.args.s.now) = sym (c.read_edges.ensures ∙ edges_read _ c.requires _ place)
+    ∙ ap (step_reading _ edges) c.in-Next.is in
     let d = c.args.mem.now in
     rw (edges_part d _ held c.requires place refl c.read_edges.auto.mem)
     (linkable_made _ _ (length c.args.links.now) (omega (arith, length-take (nth d 2) held, c.requires.links_room))
@@ -25,8 +27,10 @@ returns-in-Next c =
     let held : List ℕ = c.read_edges.new.mem in
     let edges : List Edge = map edge_in (take (nth c.args.mem.now 2) held) in
     let place : c.edges_at-a.result ≡ edges_at (job_head_of c.args.mem.now) = c.edges_at-a.ensures in
-    let read : lines (edge_line document01) (edge_rule document01 (nth c.args.mem.now 0)) (nth c.args.mem.now 2) [] (drop c.args.at c.args.s.now)
-    ≡ found edges (drop c.in-Next.p c.args.s.now) = sym (c.read_edges.ensures ∙ edges_read _ c.requires _ place) ∙ ap (step_reading _ edges) c.in-Next.is in
+    let read : lines (edge_line document01) (edge_rule document01 (nth c.args.mem.now 0)) (nth c.args.mem.now 2) []
+    (drop c.args.at c.args.s.now)
+    ≡ found edges (drop c.in-Next.p c.args.s.now) = sym (c.read_edges.ensures ∙ edges_read _ c.requires _ place)
+    ∙ ap (step_reading _ edges) c.in-Next.is in
     λ runs delays q.
     let d = c.args.mem.now in
     let l = c.read_edges.auto.mem in

@@ -11,7 +11,8 @@ pub load_runs-requires : goal.load_runs-requires
 load_runs-requires c =
     let args = c.args in
     let pre = c.requires in
-    headed c.put_head.new.mem (length args.links.now) (head_of args.head) c.put_head.ensures pre.0 (omega (arith, pre.1, c.put_head.auto.mem)) pre.2
+    headed c.put_head.new.mem (length args.links.now) (head_of args.head) c.put_head.ensures pre.0
+    (omega (arith, pre.1, c.put_head.auto.mem)) pre.2
 
 pub returns : goal.returns
 returns c =

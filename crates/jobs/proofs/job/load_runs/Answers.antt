@@ -22,4 +22,5 @@ returns-in-Next c =
 
 pub returns-in-Refused : goal.returns-in-Refused
 returns-in-Refused c =
-    runs_no _ (job_head_of c.args.mem.now) _ _ _ _ (sym (c.read_rows.ensures ∙ runs_read c.args.mem.now c.requires (bytes "C,") _) ∙ ap (step_reading _ _) c.in-Refused.is)
+    runs_no _ (job_head_of c.args.mem.now) _ _ _ _
+    (sym (c.read_rows.ensures ∙ runs_read c.args.mem.now c.requires (bytes "C,") _) ∙ ap (step_reading _ _) c.in-Refused.is)

@@ -9,7 +9,11 @@ loop-i-init c = (search rules, search rules, refl)
 
 pub returns-then-d-gt9 : goal.returns-then-d-gt9
 returns-then-d-gt9 c = let l = c.loop-i in
-    let pre = c.requires in record { result_value = inner_stop _ _ _ _ _ pre.0 l.invariant.0 (c.digit-d.ensures.1 c.if-d-gt9.true) ∙ l.invariant.2; placed = omega (arith, c.loop-i-test.true) }
+    let pre = c.requires in
+    record {
+      result_value = inner_stop _ _ _ _ _ pre.0 l.invariant.0 (c.digit-d.ensures.1 c.if-d-gt9.true) ∙ l.invariant.2;
+      placed = omega (arith, c.loop-i-test.true);
+    }
 
 pub overflow_mul-acc : goal.overflow_mul-acc
 overflow_mul-acc c = omega (arith, value_fits _ suited _ _ c.loop-i-test.true c.loop-i.invariant.1)
@@ -26,8 +30,16 @@ loop-i-preserved c =
 
 pub returns-then-digit-le9 : goal.returns-then-digit-le9
 returns-then-digit-le9 c = let l = c.loop-i in
-    let pre = c.requires in record { result_value = inner_full _ _ _ _ _ pre.0 l.invariant.0 c.loop-i-test.false (c.digit.ensures.0 c.if-digit-le9.true).0 ∙ l.invariant.2; placed = tt }
+    let pre = c.requires in
+    record {
+      result_value = inner_full _ _ _ _ _ pre.0 l.invariant.0 c.loop-i-test.false (c.digit.ensures.0 c.if-digit-le9.true).0 ∙ l.invariant.2;
+      placed = tt;
+    }
 
 pub returns : goal.returns
 returns c = let l = c.loop-i in
-    let pre = c.requires in record { result_value = inner_end _ _ _ _ _ pre.0 l.invariant.0 c.loop-i-test.false (c.digit.ensures.1 c.if-digit-le9.false) ∙ l.invariant.2; placed = search rules }
+    let pre = c.requires in
+    record {
+      result_value = inner_end _ _ _ _ _ pre.0 l.invariant.0 c.loop-i-test.false (c.digit.ensures.1 c.if-digit-le9.false) ∙ l.invariant.2;
+      placed = search rules;
+    }

@@ -24,7 +24,8 @@ loop-c-preserved c =
     let before = c.replica_at-before.ensures.0 in (
       omega arith,
       loop.invariant.1,
-      λ i g h. ⊎_elim (λ (e : i ≡ loop.c - 1). rw e (omega (arith, c.if-last-before.false, last, before))) (λ (e : i ≡ loop.c - 1 → ⊥). loop.invariant.2 i (omega arith) h)
+      λ i g h. ⊎_elim (λ (e : i ≡ loop.c - 1). rw e (omega (arith, c.if-last-before.false, last, before)))
+          (λ (e : i ≡ loop.c - 1 → ⊥). loop.invariant.2 i (omega arith) h)
           (equal_or_not i (loop.c - 1)),
     )
 

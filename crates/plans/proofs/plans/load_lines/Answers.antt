@@ -18,7 +18,8 @@ returns-then-p-s c =
     let clear = c.clear_lines.ensures in
     let args = c.args in (
       read_kept c.requires.0 clear.0 args.s.now args.at c.read_plan_lines.result c.read_plan_lines.ensures.0 c.read_plan_lines.ensures.1,
-      lines_left_over c.requires.0 clear.0 args.s.now args.at c.read_plan_lines.result c.read_plan_lines.ensures.0 c.read_plan_lines.ensures.1 _ _ _ c.in-Next.is c.if-p-s.true,
+      lines_left_over c.requires.0 clear.0 args.s.now args.at c.read_plan_lines.result c.read_plan_lines.ensures.0
+          c.read_plan_lines.ensures.1 _ _ _ c.in-Next.is c.if-p-s.true,
     )
 
 pub bounds-mem-capacity : goal.bounds-mem-capacity
@@ -39,7 +40,8 @@ pub returns-else-p-s : goal.returns-else-p-s
 returns-else-p-s c =
     let clear = c.clear_lines.ensures in
     let args = c.args in
-    lines_good c.requires.0 clear.0 args.s.now args.at c.read_plan_lines.result c.read_plan_lines.ensures.0 c.read_plan_lines.ensures.1 args.lower args.upper _
+    lines_good c.requires.0 clear.0 args.s.now args.at c.read_plan_lines.result c.read_plan_lines.ensures.0 c.read_plan_lines.ensures.1
+    args.lower args.upper _
     c.in-Next.is c.if-p-s.false (c.read_plan_lines.ensures.2 _ c.in-Next.is)
 
 pub returns-in-Refused : goal.returns-in-Refused
@@ -47,5 +49,6 @@ returns-in-Refused c =
     let clear = c.clear_lines.ensures in
     let args = c.args in (
       read_kept c.requires.0 clear.0 args.s.now args.at c.read_plan_lines.result c.read_plan_lines.ensures.0 c.read_plan_lines.ensures.1,
-      lines_bad c.requires.0 clear.0 args.s.now args.at c.read_plan_lines.result c.read_plan_lines.ensures.0 c.read_plan_lines.ensures.1 _ _ _ c.in-Refused.is,
+      lines_bad c.requires.0 clear.0 args.s.now args.at c.read_plan_lines.result c.read_plan_lines.ensures.0 c.read_plan_lines.ensures.1 _
+          _ _ c.in-Refused.is,
     )

@@ -18,7 +18,8 @@ returns-then-x-gt0 c =
     let s = args.s.now in
     let ys = c.read_line.new.vals in (
       kept_all,
-      plan_head_no _ d s if1.false ys c.in-Next.p (line_reading _ 5 _ 5 _ s ys _ _ c.read_line.ensures.result_after (omega arith) c.in-Next.is) _ d _
+      plan_head_no _ d s if1.false ys c.in-Next.p
+          (line_reading _ 5 _ 5 _ s ys _ _ c.read_line.ensures.result_after (omega arith) c.in-Next.is) _ d _
           c.head_refusal-x.ensures c.if-x-gt0.true,
     )
 
@@ -36,7 +37,8 @@ returns-else-x-gt0 c =
     let z : 0 ≡ c.head_refusal-x.result = omega (arith, if2.false) in (
       c.load_lines.ensures.0,
       rw (plan_next _ d s if1.false ys c.in-Next.p
-          (line_reading _ 5 _ 5 _ s ys _ _ c.read_line.ensures.result_after (omega arith) c.in-Next.is) (z ∙ c.head_refusal-x.ensures)) c.load_lines.ensures.1,
+          (line_reading _ 5 _ 5 _ s ys _ _ c.read_line.ensures.result_after (omega arith) c.in-Next.is)
+          (z ∙ c.head_refusal-x.ensures)) c.load_lines.ensures.1,
     )
 
 pub returns-in-Refused : goal.returns-in-Refused

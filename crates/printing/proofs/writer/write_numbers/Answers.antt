@@ -24,7 +24,8 @@ pub loop-i-preserved : goal.loop-i-preserved
 loop-i-preserved c =
     let l = c.loop-i in
     let s = c.args.vals.now in
-    let t = turn document01 s l.i c.loop-i-test.true l.out l.p (omega arith) _ _ c.write_number-p.ensures.holds c.write_number-p.ensures.value in
+    let t = turn document01 s l.i c.loop-i-test.true l.out l.p (omega arith) _ _ c.write_number-p.ensures.holds
+    c.write_number-p.ensures.value in
     (search rules, refl, simp length-set (t.1 ∙ l.invariant.2), t.0 ∙ l.invariant.3, t.2 c.mark_after.result c.mark_after.ensures ∙ l.invariant.4)
 
 pub returns : goal.returns

@@ -10,4 +10,5 @@ returns-then-lower-mem c =
 pub returns : goal.returns
 returns c =
     let pre = c.requires in
-    upper_decides pre.0 pre.2 pre.3 c.makespan_of-lower.result c.makespan_of-lower.ensures c.if-lower-mem.false c.makespan_of-upper.result c.makespan_of-upper.ensures
+    upper_decides pre.0 pre.2 pre.3 c.makespan_of-lower.result c.makespan_of-lower.ensures c.if-lower-mem.false c.makespan_of-upper.result
+    c.makespan_of-upper.ensures

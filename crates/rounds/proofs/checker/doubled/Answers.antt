@@ -1,4 +1,4 @@
-use Rattle.lists.proofs.Prelude.{◌-◌, arith}
+use Rattle.lists.proofs.Prelude.{arith}
 use Rattle.jobs.proofs.Held.{sizes}
 use Rattle.rounds.proofs.CheckLaws.{doubled_said}
 use Rattle.rounds.proofs.checker.doubled.Goals as goal

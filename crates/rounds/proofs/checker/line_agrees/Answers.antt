@@ -1,6 +1,6 @@
-use Rattle.lists.proofs.Prelude.{refl, ◌≤◌, ◌<◌, ◌-◌, arith, true, false, false≢true, document01}
+use Rattle.lists.proofs.Prelude.{refl, ◌<◌, arith, true, false, false≢true}
 use Rattle.jobs.proofs.Held.{sizes}
-use Rattle.rounds.proofs.AgreeLaws.{finishes_asked, short_next, Compared, compared_none, cells_within, processor_most, compared_not, compared_next, compared_all}
+use Rattle.rounds.proofs.AgreeLaws.{finishes_asked, short_next, compared_none, cells_within, processor_most, compared_not, compared_next, compared_all}
 use Rattle.rounds.proofs.checker.line_agrees.Goals as goal
 
 pub overflow_add-w : goal.overflow_add-w

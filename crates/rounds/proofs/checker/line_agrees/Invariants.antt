@@ -1,7 +1,6 @@
 -- The ticks of the replicas passed are the equations'.
-use Rattle.lists.proofs.Prelude.{refl, ◌≤◌, ◌<◌, ◌-◌, arith, true, false, false≢true, document01}
-use Rattle.jobs.proofs.Held.{sizes}
-use Rattle.rounds.proofs.AgreeLaws.{finishes_asked, short_next, Compared, compared_none, cells_within, processor_most, compared_not, compared_next, compared_all}
+use Rattle.lists.proofs.Prelude.{◌≤◌, ◌-◌, document01}
+use Rattle.rounds.proofs.AgreeLaws.{Compared}
 use Rattle.rounds.proofs.checker.line_agrees.Given as goal
 
 abbrev pub invariant-loop-c : goal.invariant-loop-c

@@ -1,7 +1,4 @@
-use Rattle.lists.proofs.Prelude.{◌≡◌, refl, sym, ◌∙◌, ℕ, ◌≤◌, ◌<◌, ◌-◌, arith, length, false≢true, document01}
-use Rattle.rounds.specs.Schedule.{ShortTo}
-use Rattle.rounds.specs.Arrivals.{Ended}
-use Rattle.rounds.specs.Checking.{ClocksAfter, LineAgrees}
+use Rattle.lists.proofs.Prelude.{refl, sym, ◌∙◌, ◌<◌, arith, length, false≢true}
 use Rattle.jobs.proofs.Held.{sizes}
 use Rattle.rounds.proofs.ClockLaws.{line_timed, clocks_line}
 use Rattle.rounds.proofs.EndLaws.{ended_none, ended_line}
@@ -32,12 +29,14 @@ row_at-a-requires c = let pre = c.requires in
 
 pub offset_bounds-mem-a : goal.offset_bounds-mem-a
 offset_bounds-mem-a c =
-    let within : c.row_at-a.result < length c.args.mem.now = omega (arith, sizes c.requires.0.standing.job, c.loop-k-test.true, c.row_at-a.ensures) in
+    let within : c.row_at-a.result < length c.args.mem.now =
+    omega (arith, sizes c.requires.0.standing.job, c.loop-k-test.true, c.row_at-a.ensures) in
     let s = sizes c.requires.0.standing.job in omega (arith, within)
 
 pub bounds-mem-a : goal.bounds-mem-a
 bounds-mem-a c =
-    let within : c.row_at-a.result < length c.args.mem.now = omega (arith, sizes c.requires.0.standing.job, c.loop-k-test.true, c.row_at-a.ensures) in
+    let within : c.row_at-a.result < length c.args.mem.now =
+    omega (arith, sizes c.requires.0.standing.job, c.loop-k-test.true, c.row_at-a.ensures) in
     within
 
 pub put_ends-requires : goal.put_ends-requires

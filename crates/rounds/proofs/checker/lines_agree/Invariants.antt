@@ -1,12 +1,8 @@
 -- The ticks of the lines passed are the equations', the clocks are those after them and the table has their ends.
-use Rattle.lists.proofs.Prelude.{◌≡◌, refl, sym, ◌∙◌, ℕ, ◌≤◌, ◌<◌, ◌-◌, arith, length, false≢true, document01}
+use Rattle.lists.proofs.Prelude.{◌≡◌, ℕ, ◌≤◌, ◌<◌, ◌-◌, length, document01}
 use Rattle.rounds.specs.Schedule.{ShortTo}
 use Rattle.rounds.specs.Arrivals.{Ended}
 use Rattle.rounds.specs.Checking.{ClocksAfter, LineAgrees}
-use Rattle.jobs.proofs.Held.{sizes}
-use Rattle.rounds.proofs.ClockLaws.{line_timed, clocks_line}
-use Rattle.rounds.proofs.EndLaws.{ended_none, ended_line}
-use Rattle.rounds.proofs.AgreeLaws.{clocks_new, settled_agreed, ticks_yes, ticks_no, agreed_next}
 use Rattle.rounds.proofs.checker.lines_agree.Given as goal
 
 abbrev pub invariant-loop-k : goal.invariant-loop-k

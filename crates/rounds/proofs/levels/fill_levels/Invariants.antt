@@ -1,10 +1,8 @@
 -- The tasks of the order from place i on have their bottom level.
-use Rattle.lists.proofs.Prelude.{◌≡◌, refl, sym, ◌∙◌, ◌≤◌, ◌-◌, arith, length, drop, length-set, nth, document01}
+use Rattle.lists.proofs.Prelude.{◌≡◌, ◌≤◌, length, drop}
 use Rattle.heads.specs.Layout.{memory_size}
 use Rattle.orders.specs.Links.{order_at}
-use Rattle.jobs.proofs.Held.{sizes}
-use Rattle.rounds.proofs.Walks.{task_of_order}
-use Rattle.rounds.proofs.LevelLaws.{Filling, filling_none, FillStep, filling_step, filling_done}
+use Rattle.rounds.proofs.LevelLaws.{Filling}
 use Rattle.rounds.proofs.levels.fill_levels.Given as goal
 
 abbrev pub invariant-loop-i : goal.invariant-loop-i

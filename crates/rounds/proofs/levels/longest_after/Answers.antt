@@ -1,12 +1,12 @@
-use Rattle.lists.proofs.Prelude.{◌≡◌, ap, ◌∙◌, ◌≤◌, ◌-◌, ◌+◌, ◌*◌, max, arith, ⊎_elim, nth, outgoing, Time, tick, later, tick_of, document01}
+use Rattle.lists.proofs.Prelude.{◌≡◌, ap, ◌∙◌, ◌+◌, ◌*◌, max, arith, nth, outgoing, Time, tick, later, tick_of, document01}
 use Rattle.heads.specs.Layout.{level_at}
 use Rattle.orders.specs.Edges.{edge_in}
-use Rattle.orders.proofs.Walk.{Passed, pass_first, pass_at, pass_on}
+use Rattle.orders.proofs.Walk.{pass_first, pass_at, pass_on}
 use Rattle.jobs.specs.Held.{job_in}
 use Rattle.jobs.proofs.Held.{sizes}
-use Rattle.rounds.specs.Levels.{sent, sent_most, level_most}
+use Rattle.rounds.specs.Levels.{sent}
 use Rattle.rounds.proofs.Walks.{leaves_run}
-use Rattle.rounds.proofs.TimeLaws.{largest_ticks, gathered, gather_none, gather_next, gather_done}
+use Rattle.rounds.proofs.TimeLaws.{largest_ticks, gather_none, gather_next, gather_done}
 use Rattle.rounds.proofs.LevelLaws.{Message, message}
 use Rattle.rounds.proofs.levels.longest_after.Goals as goal
 use Rattle.rounds.proofs.levels.longest_after.Goals.{then-y-x, else-y-x}
@@ -61,14 +61,16 @@ loop-k-preserved c =
     let mem = a.mem.now in
     let l = c.loop-k in
     let z = sent a.capacity mem (edge_in (nth mem (c.edges_at-g.result + l.k))) in
-    let y : c.edge_volume.result * a.total + nth mem (level_at a.capacity + c.edge_to-to.result) ≡ z = rw (c.edge_volume.ensures, c.edge_to-to.ensures.0) h.sent_same in
+    let y : c.edge_volume.result * a.total + nth mem (level_at a.capacity + c.edge_to-to.result) ≡ z =
+    rw (c.edge_volume.ensures, c.edge_to-to.ensures.0) h.sent_same in
     let x : c.if-y-x.x ≡ max l.x z = elim c.if-y-x.branch [
       | then-y-x w ↦ omega (arith, w.x-is, w.if-y-x.true, y)
       | else-y-x w ↦ omega (arith, w.x-is, w.if-y-x.false, y)
     ] in (
       pass_on l.invariant.0 (omega (arith, c.loop-k-test.true)) _ (omega arith),
       omega (arith, x, h.little, h.level, h.sent_same, l.invariant.1),
-      ap tick x ∙ ap (λ (u : Time). later u (tick z)) l.invariant.2 ∙ gather_next (λ e. tick (sent a.capacity mem e)) l.invariant.0 _ (omega arith),
+      ap tick x ∙ ap (λ (u : Time). later u (tick z)) l.invariant.2 ∙ gather_next (λ e. tick (sent a.capacity mem e)) l.invariant.0 _
+          (omega arith),
     )
 
 pub returns : goal.returns

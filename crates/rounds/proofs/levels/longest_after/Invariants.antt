@@ -1,14 +1,9 @@
 -- x is the largest over the edges passed.
-use Rattle.lists.proofs.Prelude.{◌≡◌, ap, ◌∙◌, ◌≤◌, ◌-◌, ◌+◌, ◌*◌, max, arith, ⊎_elim, nth, outgoing, Time, tick, later, tick_of, document01}
-use Rattle.heads.specs.Layout.{level_at}
-use Rattle.orders.specs.Edges.{edge_in}
-use Rattle.orders.proofs.Walk.{Passed, pass_first, pass_at, pass_on}
+use Rattle.lists.proofs.Prelude.{◌≡◌, ◌≤◌, ◌-◌, ◌+◌, outgoing, tick, document01}
+use Rattle.orders.proofs.Walk.{Passed}
 use Rattle.jobs.specs.Held.{job_in}
-use Rattle.jobs.proofs.Held.{sizes}
 use Rattle.rounds.specs.Levels.{sent, sent_most, level_most}
-use Rattle.rounds.proofs.Walks.{leaves_run}
-use Rattle.rounds.proofs.TimeLaws.{largest_ticks, gathered, gather_none, gather_next, gather_done}
-use Rattle.rounds.proofs.LevelLaws.{Message, message}
+use Rattle.rounds.proofs.TimeLaws.{gathered}
 use Rattle.rounds.proofs.levels.longest_after.Given as goal
 
 abbrev pub invariant-loop-k : goal.invariant-loop-k

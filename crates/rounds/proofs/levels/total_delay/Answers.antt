@@ -1,5 +1,5 @@
 use Rattle.std.proofs.Common.{rules}
-use Rattle.lists.proofs.Prelude.{◌≡◌, refl, sym, ap, ◌∙◌, ℕ, ◌≤◌, ◌-◌, ◌+◌, arith, nth, count_from, below, sum, map}
+use Rattle.lists.proofs.Prelude.{◌≡◌, refl, sym, ap, ◌∙◌, ℕ, ◌+◌, arith, nth, count_from, below, sum, map}
 use Rattle.lists.proofs.Upward.{sum_more}
 use Rattle.jobs.proofs.Held.{sizes}
 use Rattle.rounds.specs.Levels.{row_sum}

@@ -1,9 +1,6 @@
 -- The sum is that of the rows passed.
-use Rattle.lists.proofs.Prelude.{◌≡◌, refl, sym, ap, ◌∙◌, ℕ, ◌≤◌, ◌-◌, ◌+◌, arith, nth, count_from, below, sum, map}
-use Rattle.lists.proofs.Upward.{sum_more}
-use Rattle.jobs.proofs.Held.{sizes}
+use Rattle.lists.proofs.Prelude.{◌≡◌, ◌≤◌, ◌-◌, ◌+◌, nth, below, sum, map}
 use Rattle.rounds.specs.Levels.{row_sum}
-use Rattle.rounds.proofs.RowSums.{total_in, total_most}
 use Rattle.rounds.proofs.levels.total_delay.Given as goal
 
 abbrev pub invariant-loop-p : goal.invariant-loop-p

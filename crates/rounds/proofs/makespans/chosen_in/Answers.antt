@@ -1,8 +1,7 @@
 use Rattle.std.proofs.Common.{rules}
-use Rattle.lists.proofs.Prelude.{◌≡◌, ◌≤◌, ◌-◌, ◌+◌, arith, document01, nth}
-use Rattle.ticks.specs.Cells.{time_in}
+use Rattle.lists.proofs.Prelude.{◌≡◌, ◌+◌, arith, nth}
 use Rattle.jobs.proofs.Held.{sizes}
-use Rattle.rounds.proofs.MakespanLaws.{chosen_in, chosen_first, chosen_next}
+use Rattle.rounds.proofs.MakespanLaws.{chosen_first, chosen_next}
 use Rattle.rounds.proofs.makespans.chosen_in.Goals as goal
 
 pub bounds-mem-3 : goal.bounds-mem-3

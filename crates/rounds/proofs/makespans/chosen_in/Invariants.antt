@@ -1,8 +1,7 @@
 -- After c turns acc is the choice among the first c replicas of the line.
-use Rattle.lists.proofs.Prelude.{◌≡◌, ◌≤◌, ◌-◌, ◌+◌, arith, document01, nth}
+use Rattle.lists.proofs.Prelude.{◌≡◌, ◌≤◌, ◌-◌, document01, nth}
 use Rattle.ticks.specs.Cells.{time_in}
-use Rattle.jobs.proofs.Held.{sizes}
-use Rattle.rounds.proofs.MakespanLaws.{chosen_in, chosen_first, chosen_next}
+use Rattle.rounds.proofs.MakespanLaws.{chosen_in}
 use Rattle.rounds.proofs.makespans.chosen_in.Given as goal
 
 abbrev pub invariant-loop-c : goal.invariant-loop-c

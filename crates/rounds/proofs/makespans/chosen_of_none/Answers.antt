@@ -1,5 +1,4 @@
 -- Late, the largest of no times is 0; early, the least is never.
-use Rattle.lists.proofs.Prelude.{◌-◌}
 use Rattle.rounds.proofs.TimeLaws.{none_late, none_early}
 use Rattle.rounds.proofs.makespans.chosen_of_none.Goals as goal
 

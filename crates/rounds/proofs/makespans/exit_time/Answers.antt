@@ -1,5 +1,5 @@
 -- The run of the edges that leave a task is empty exactly if it is an exit task.
-use Rattle.lists.proofs.Prelude.{refl, ◌-◌, arith}
+use Rattle.lists.proofs.Prelude.{refl, arith}
 use Rattle.jobs.proofs.Held.{sizes}
 use Rattle.rounds.proofs.Walks.{leaves_run}
 use Rattle.rounds.proofs.MakespanLaws.{cells_of_task, exit_makespan, exit_other}

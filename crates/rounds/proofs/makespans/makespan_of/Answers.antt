@@ -1,7 +1,7 @@
 use Rattle.std.proofs.Common.{rules}
-use Rattle.lists.proofs.Prelude.{◌≤◌, ◌-◌, arith}
+use Rattle.lists.proofs.Prelude.{arith}
 use Rattle.jobs.proofs.Held.{sizes}
-use Rattle.rounds.proofs.MakespanLaws.{Ending, ending_first, ending_next, ending_done}
+use Rattle.rounds.proofs.MakespanLaws.{ending_first, ending_next, ending_done}
 use Rattle.rounds.proofs.makespans.makespan_of.Goals as goal
 
 pub bounds-mem-0 : goal.bounds-mem-0

@@ -1,7 +1,6 @@
 -- acc is the largest end of the tasks passed.
-use Rattle.lists.proofs.Prelude.{◌≤◌, ◌-◌, arith}
-use Rattle.jobs.proofs.Held.{sizes}
-use Rattle.rounds.proofs.MakespanLaws.{Ending, ending_first, ending_next, ending_done}
+use Rattle.lists.proofs.Prelude.{◌≤◌, ◌-◌}
+use Rattle.rounds.proofs.MakespanLaws.{Ending}
 use Rattle.rounds.proofs.makespans.makespan_of.Given as goal
 
 abbrev pub invariant-loop-t : goal.invariant-loop-t

@@ -9,7 +9,8 @@ pub overflow_cast-r : goal.overflow_cast-r
 overflow_cast-r c = let pre = c.requires in omega (arith, sizes pre.0.1, pre.1)
 
 pub overflow_add-result-2 : goal.overflow_add-result-2
-overflow_add-result-2 c = let pre = c.requires in let s = sizes pre.0.1 in omega (arith, s, row_below s _ _ pre.1 pre.2, c.numbers_at.ensures)
+overflow_add-result-2 c =
+    let pre = c.requires in let s = sizes pre.0.1 in omega (arith, s, row_below s _ _ pre.1 pre.2, c.numbers_at.ensures)
 
 pub returns : goal.returns
 returns c = let pre = c.requires in let s = sizes pre.0.1 in

@@ -1,6 +1,6 @@
 use Rattle.lists.proofs.Prelude.{arith}
 use Rattle.jobs.proofs.Held.{sizes}
-use Rattle.rounds.proofs.RowSums.{row_room, row_in}
+use Rattle.rounds.proofs.RowSums.{row_in}
 use Rattle.rounds.proofs.numbers.row_total.Goals as goal
 
 pub number_at-a-requires : goal.number_at-a-requires

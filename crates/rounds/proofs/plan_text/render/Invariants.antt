@@ -1,10 +1,8 @@
 -- The head and the rows passed were rendered.
-use Rattle.lists.proofs.Prelude.{◌≡◌, List, ℕ, ◌≤◌, ◌-◌, ◌+◌, ◌*◌, arith, document01, nth}
-use Rattle.jobs.proofs.Held.{sizes}
+use Rattle.lists.proofs.Prelude.{List, ℕ, ◌≤◌, ◌-◌, ◌+◌, ◌*◌, document01}
 use Rattle.printing.specs.Rendered.{Rendered}
-use Rattle.printing.proofs.Rendering.{rendered_more}
 use Rattle.rounds.specs.Texts.{head_bytes, row_bytes}
-use Rattle.rounds.proofs.PlanTextLaws.{rows_after_head, head_rendered, rows_more, plan_text_lem}
+use Rattle.rounds.proofs.PlanTextLaws.{rows_after_head}
 use Rattle.rounds.proofs.plan_text.render.Given as goal
 
 abbrev pub invariant-loop-k : goal.invariant-loop-k

@@ -25,8 +25,11 @@ overflow_add-result c =
 pub returns : goal.returns
 returns c = let pre = c.requires in
     let args = c.args in
-    let (e, m) = row_counted (sizes pre.0) pre.1 c.row_at-a.ensures c.place-b.ensures (omega arith) (omega arith) c.line.result c.line.ensures.value in record {
+    let (e, m) = row_counted (sizes pre.0) pre.1 c.row_at-a.ensures c.place-b.ensures (omega arith) (omega arith) c.line.result
+    c.line.ensures.value in
+    record {
       value = (omega (arith, e), omega (arith, m));
-      holds = lent_written args.out.now args.at c.place_in-p.result (row_line document01 args.capacity args.k args.mem.now) c.line.new.out c.place_in-p.ensures
+      holds = lent_written args.out.now args.at c.place_in-p.result (row_line document01 args.capacity args.k args.mem.now) c.line.new.out
+          c.place_in-p.ensures
           (rw (row_part (sizes pre.0) pre.1 c.row_at-a.ensures c.place-b.ensures) at c.line.ensures.holds);
     }

@@ -1,10 +1,7 @@
 use Rattle.std.proofs.Common.{rules}
-use Rattle.lists.proofs.Prelude.{◌≡◌, refl, sym, ◌≤◌, ◌<◌, ◌-◌, ◌*◌, arith, length, length-set, document01, nth}
-use Rattle.heads.specs.Layout.{memory_size, line_at, row_at}
+use Rattle.lists.proofs.Prelude.{◌≡◌, refl, sym, ◌<◌, ◌*◌, arith, length-set, nth}
 use Rattle.orders.proofs.Walk.{pass_length}
 use Rattle.jobs.specs.Held.{job_in}
-use Rattle.lists.specs.Kept.{KeptOutside}
-use Rattle.rounds.specs.Planning.{Cleared}
 use Rattle.jobs.proofs.Held.{sizes}
 use Rattle.lists.proofs.Kept.{kept_all}
 use Rattle.jobs.proofs.Held.{enters_run}

@@ -1,14 +1,9 @@
 -- The tasks passed are cleared, and nothing else changed.
-use Rattle.lists.proofs.Prelude.{◌≡◌, refl, sym, ◌≤◌, ◌<◌, ◌-◌, ◌*◌, arith, length, length-set, document01, nth}
+use Rattle.lists.proofs.Prelude.{◌≡◌, ◌≤◌, ◌-◌, ◌*◌, length, document01}
 use Rattle.heads.specs.Layout.{memory_size, line_at, row_at}
-use Rattle.orders.proofs.Walk.{pass_length}
 use Rattle.jobs.specs.Held.{job_in}
 use Rattle.lists.specs.Kept.{KeptOutside}
 use Rattle.rounds.specs.Planning.{Cleared}
-use Rattle.jobs.proofs.Held.{sizes}
-use Rattle.lists.proofs.Kept.{kept_all}
-use Rattle.jobs.proofs.Held.{enters_run}
-use Rattle.rounds.proofs.OutsetLaws.{cleared_none, cleared_more, cleared_kept}
 use Rattle.rounds.proofs.planner.clear_tasks.Given as goal
 
 abbrev pub invariant-loop-t : goal.invariant-loop-t

@@ -1,12 +1,8 @@
 use Rattle.std.proofs.Common.{rules}
-use Rattle.lists.proofs.Prelude.{◌≡◌, refl, sym, ◌∙◌, [], ◌≤◌, ◌<◌, ◌-◌, ◌+◌, arith, ⊎_elim, length, document01, nth}
+use Rattle.lists.proofs.Prelude.{◌≡◌, refl, sym, ◌∙◌, ◌<◌, ◌-◌, ◌+◌, arith, ⊎_elim, nth}
 use Rattle.heads.specs.Layout.{memory_size, job_size, level_at, row_at}
 use Rattle.jobs.specs.Held.{job_in, LinksHeld}
 use Rattle.plans.specs.Lines.{placed_in}
-use Rattle.lists.specs.Kept.{KeptOutside}
-use Rattle.rounds.specs.Arrivals.{Ended}
-use Rattle.rounds.specs.Planning.{FreeList, Drawn, Ranked}
-use Rattle.rounds.specs.Clocks.{earlies_in, lates_in, ClocksHeld}
 use Rattle.jobs.proofs.Held.{processors_in, sizes, links_kept}
 use Rattle.lists.proofs.Kept.{same_before, same_behind, kept_all, kept_then, kept_wider}
 use Rattle.rounds.proofs.TimeTables.{delays_kept}
@@ -39,18 +35,22 @@ loop-k-init c =
 
 pub overflow_sub-t : goal.overflow_sub-t
 overflow_sub-t c =
-    let some : 0 < c.loop-k.n = let l = c.loop-k in listed_some l.invariant.3 l.invariant.4 (omega (arith, c.loop-k-test.true, l.invariant.1)) l.free l.n l.invariant.6 in
+    let some : 0 < c.loop-k.n = let l = c.loop-k in
+    listed_some l.invariant.3 l.invariant.4 (omega (arith, c.loop-k-test.true, l.invariant.1)) l.free l.n l.invariant.6 in
     some
 
 pub bounds-free-n : goal.bounds-free-n
 bounds-free-n c =
-    let some : 0 < c.loop-k.n = let l = c.loop-k in listed_some l.invariant.3 l.invariant.4 (omega (arith, c.loop-k-test.true, l.invariant.1)) l.free l.n l.invariant.6 in
+    let some : 0 < c.loop-k.n = let l = c.loop-k in
+    listed_some l.invariant.3 l.invariant.4 (omega (arith, c.loop-k-test.true, l.invariant.1)) l.free l.n l.invariant.6 in
     let l = c.loop-k in omega (arith, l.invariant.6.tasks.size, free_few l.invariant.6.tasks, l.invariant.1, l.invariant.7, some)
 
 pub place_task-after-requires : goal.place_task-after-requires
 place_task-after-requires c =
-    let some : 0 < c.loop-k.n = let l = c.loop-k in listed_some l.invariant.3 l.invariant.4 (omega (arith, c.loop-k-test.true, l.invariant.1)) l.free l.n l.invariant.6 in
-    let links-here : LinksHeld c.loop-k.mem c.args.links.now = let pre = c.requires in links_kept pre.0.standing.job c.loop-k.invariant.2 (omega arith) pre.2 in
+    let some : 0 < c.loop-k.n = let l = c.loop-k in
+    listed_some l.invariant.3 l.invariant.4 (omega (arith, c.loop-k-test.true, l.invariant.1)) l.free l.n l.invariant.6 in
+    let links-here : LinksHeld c.loop-k.mem c.args.links.now = let pre = c.requires in
+    links_kept pre.0.standing.job c.loop-k.invariant.2 (omega arith) pre.2 in
     let job = c.requires.0.standing.job in
     let (delays, most, few) = c.fill_delays-most.ensures in
     let l = c.loop-k in
@@ -66,14 +66,18 @@ place_task-after-requires c =
 
 pub overflow_sub-n : goal.overflow_sub-n
 overflow_sub-n c =
-    let some : 0 < c.loop-k.n = let l = c.loop-k in listed_some l.invariant.3 l.invariant.4 (omega (arith, c.loop-k-test.true, l.invariant.1)) l.free l.n l.invariant.6 in
+    let some : 0 < c.loop-k.n = let l = c.loop-k in
+    listed_some l.invariant.3 l.invariant.4 (omega (arith, c.loop-k-test.true, l.invariant.1)) l.free l.n l.invariant.6 in
     some
 
 pub release-count-requires : goal.release-count-requires
 release-count-requires c =
-    let some : 0 < c.loop-k.n = let l = c.loop-k in listed_some l.invariant.3 l.invariant.4 (omega (arith, c.loop-k-test.true, l.invariant.1)) l.free l.n l.invariant.6 in
-    let last-task : nth c.loop-k.free (c.loop-k.n - 1) < nth c.loop-k.mem 0 = let l = c.loop-k in l.invariant.6.tasks.task_of (l.n - 1) (omega (arith, some)) in
-    let links-here : LinksHeld c.loop-k.mem c.args.links.now = let pre = c.requires in links_kept pre.0.standing.job c.loop-k.invariant.2 (omega arith) pre.2 in
+    let some : 0 < c.loop-k.n = let l = c.loop-k in
+    listed_some l.invariant.3 l.invariant.4 (omega (arith, c.loop-k-test.true, l.invariant.1)) l.free l.n l.invariant.6 in
+    let last-task : nth c.loop-k.free (c.loop-k.n - 1) < nth c.loop-k.mem 0 = let l = c.loop-k in
+    l.invariant.6.tasks.task_of (l.n - 1) (omega (arith, some)) in
+    let links-here : LinksHeld c.loop-k.mem c.args.links.now = let pre = c.requires in
+    links_kept pre.0.standing.job c.loop-k.invariant.2 (omega arith) pre.2 in
     let l = c.loop-k in
     let p = c.place_task-after.ensures in
     let z : nth c.place_task-after.new.mem 0 ≡ nth l.mem 0 = p.0.before 0 (omega arith) in

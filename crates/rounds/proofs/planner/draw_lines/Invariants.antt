@@ -1,20 +1,11 @@
 -- k lines are drawn up, what is left to place gives the rest of the plan, and the free tasks are listed.
-use Rattle.lists.proofs.Prelude.{◌≡◌, refl, sym, ◌∙◌, [], ◌≤◌, ◌<◌, ◌-◌, ◌+◌, arith, ⊎_elim, length, document01, nth}
-use Rattle.heads.specs.Layout.{memory_size, job_size, level_at, row_at}
-use Rattle.jobs.specs.Held.{job_in, LinksHeld}
-use Rattle.plans.specs.Lines.{placed_in}
+use Rattle.lists.proofs.Prelude.{◌≡◌, [], ◌≤◌, ◌-◌, length, document01, nth}
+use Rattle.heads.specs.Layout.{memory_size, level_at}
+use Rattle.jobs.specs.Held.{job_in}
 use Rattle.lists.specs.Kept.{KeptOutside}
 use Rattle.rounds.specs.Arrivals.{Ended}
 use Rattle.rounds.specs.Planning.{FreeList, Drawn, Ranked}
 use Rattle.rounds.specs.Clocks.{earlies_in, lates_in, ClocksHeld}
-use Rattle.jobs.proofs.Held.{processors_in, sizes, links_kept}
-use Rattle.lists.proofs.Kept.{same_before, same_behind, kept_all, kept_then, kept_wider}
-use Rattle.rounds.proofs.TimeTables.{delays_kept}
-use Rattle.rounds.proofs.EndLaws.{ended_none, ended_same, no_delay_kept}
-use Rattle.rounds.proofs.FreeLaws.{free_few, last_critical, free_out}
-use Rattle.rounds.proofs.Drawing.{drawn_choice, listed_some}
-use Rattle.rounds.proofs.Tables.{clocks_kept}
-use Rattle.rounds.proofs.ClockLaws.{outset_clocks}
 use Rattle.rounds.proofs.planner.draw_lines.Given as goal
 
 abbrev pub invariant-loop-k : goal.invariant-loop-k

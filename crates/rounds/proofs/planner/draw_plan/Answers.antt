@@ -1,5 +1,5 @@
 -- The table of ends has room for the job's tasks.
-use Rattle.lists.proofs.Prelude.{◌∙◌, arith}
+use Rattle.lists.proofs.Prelude.{arith}
 use Rattle.jobs.proofs.Held.{sizes, links_kept}
 use Rattle.lists.proofs.Kept.{kept_then}
 use Rattle.rounds.proofs.planner.draw_plan.Goals as goal

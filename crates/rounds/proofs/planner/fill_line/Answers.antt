@@ -1,8 +1,7 @@
 use Rattle.std.proofs.Common.{rules}
-use Rattle.lists.proofs.Prelude.{◌≡◌, ◌≤◌, ◌<◌, ◌-◌, ◌+◌, arith, take, nth}
-use Rattle.heads.specs.Layout.{row_at, lanes_most}
+use Rattle.lists.proofs.Prelude.{◌≡◌, ◌<◌, ◌+◌, arith, nth}
+use Rattle.heads.specs.Layout.{lanes_most}
 use Rattle.jobs.proofs.Held.{sizes}
-use Rattle.rounds.specs.Planning.{Begun, processors_for}
 use Rattle.rounds.proofs.Drawing.{begun_none, replica_on_lem, replica_lane, replica_within, replica_more, replicas_all}
 use Rattle.rounds.proofs.planner.fill_line.Goals as goal
 
@@ -16,22 +15,26 @@ loop-c-init c =
 
 pub offset_bounds-early-p : goal.offset_bounds-early-p
 offset_bounds-early-p c =
-    let lane : nth c.chosen-list.result c.loop-c.c < lanes_most = omega (arith, c.loop-c.invariant.0, replica_lane c.requires c.loop-c-test.true c.chosen-list.ensures) in
+    let lane : nth c.chosen-list.result c.loop-c.c < lanes_most =
+    omega (arith, c.loop-c.invariant.0, replica_lane c.requires c.loop-c-test.true c.chosen-list.ensures) in
     omega (arith, lane)
 
 pub bounds-early-p : goal.bounds-early-p
 bounds-early-p c =
-    let lane : nth c.chosen-list.result c.loop-c.c < lanes_most = omega (arith, c.loop-c.invariant.0, replica_lane c.requires c.loop-c-test.true c.chosen-list.ensures) in
+    let lane : nth c.chosen-list.result c.loop-c.c < lanes_most =
+    omega (arith, c.loop-c.invariant.0, replica_lane c.requires c.loop-c-test.true c.chosen-list.ensures) in
     lane
 
 pub offset_bounds-late-p : goal.offset_bounds-late-p
 offset_bounds-late-p c =
-    let lane : nth c.chosen-list.result c.loop-c.c < lanes_most = omega (arith, c.loop-c.invariant.0, replica_lane c.requires c.loop-c-test.true c.chosen-list.ensures) in
+    let lane : nth c.chosen-list.result c.loop-c.c < lanes_most =
+    omega (arith, c.loop-c.invariant.0, replica_lane c.requires c.loop-c-test.true c.chosen-list.ensures) in
     omega (arith, lane)
 
 pub bounds-late-p : goal.bounds-late-p
 bounds-late-p c =
-    let lane : nth c.chosen-list.result c.loop-c.c < lanes_most = omega (arith, c.loop-c.invariant.0, replica_lane c.requires c.loop-c-test.true c.chosen-list.ensures) in
+    let lane : nth c.chosen-list.result c.loop-c.c < lanes_most =
+    omega (arith, c.loop-c.invariant.0, replica_lane c.requires c.loop-c-test.true c.chosen-list.ensures) in
     lane
 
 pub put_replica-requires : goal.put_replica-requires

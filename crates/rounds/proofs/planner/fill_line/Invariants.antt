@@ -1,9 +1,7 @@
 -- The first c processors of the list have their replicas in the line.
-use Rattle.lists.proofs.Prelude.{◌≡◌, ◌≤◌, ◌<◌, ◌-◌, ◌+◌, arith, take, nth}
+use Rattle.lists.proofs.Prelude.{◌≡◌, ◌≤◌, ◌-◌, take}
 use Rattle.heads.specs.Layout.{row_at, lanes_most}
-use Rattle.jobs.proofs.Held.{sizes}
 use Rattle.rounds.specs.Planning.{Begun, processors_for}
-use Rattle.rounds.proofs.Drawing.{begun_none, replica_on_lem, replica_lane, replica_within, replica_more, replicas_all}
 use Rattle.rounds.proofs.planner.fill_line.Given as goal
 
 abbrev pub invariant-loop-c : goal.invariant-loop-c

@@ -37,21 +37,24 @@ fill_line-requires c = let p = c.requires in
 
 pub row_at-a-requires : goal.row_at-a-requires
 row_at-a-requires c =
-    let small : (c.args.k < 8 * c.args.capacity) × (c.args.t < 8 * c.args.capacity) × (length c.args.mem.now ≡ memory_size c.args.capacity) = let g = c.requires.4 in
+    let small : (c.args.k < 8 * c.args.capacity) × (c.args.t < 8 * c.args.capacity) × (length c.args.mem.now ≡ memory_size c.args.capacity) =
+    let g = c.requires.4 in
     let w = sizes g.drawn.standing.job in
     (omega (arith, g.more), omega (arith, task_below g), w.size) in
     omega (arith, small)
 
 pub offset_bounds-mem-a : goal.offset_bounds-mem-a
 offset_bounds-mem-a c =
-    let small : (c.args.k < 8 * c.args.capacity) × (c.args.t < 8 * c.args.capacity) × (length c.args.mem.now ≡ memory_size c.args.capacity) = let g = c.requires.4 in
+    let small : (c.args.k < 8 * c.args.capacity) × (c.args.t < 8 * c.args.capacity) × (length c.args.mem.now ≡ memory_size c.args.capacity) =
+    let g = c.requires.4 in
     let w = sizes g.drawn.standing.job in
     (omega (arith, g.more), omega (arith, task_below g), w.size) in
     omega (arith, small, c.row_at-a.ensures)
 
 pub bounds-mem-a : goal.bounds-mem-a
 bounds-mem-a c =
-    let small : (c.args.k < 8 * c.args.capacity) × (c.args.t < 8 * c.args.capacity) × (length c.args.mem.now ≡ memory_size c.args.capacity) = let g = c.requires.4 in
+    let small : (c.args.k < 8 * c.args.capacity) × (c.args.t < 8 * c.args.capacity) × (length c.args.mem.now ≡ memory_size c.args.capacity) =
+    let g = c.requires.4 in
     let w = sizes g.drawn.standing.job in
     (omega (arith, g.more), omega (arith, task_below g), w.size) in
     omega (
@@ -63,7 +66,8 @@ bounds-mem-a c =
 
 pub put_line-requires : goal.put_line-requires
 put_line-requires c =
-    let small : (c.args.k < 8 * c.args.capacity) × (c.args.t < 8 * c.args.capacity) × (length c.args.mem.now ≡ memory_size c.args.capacity) = let g = c.requires.4 in
+    let small : (c.args.k < 8 * c.args.capacity) × (c.args.t < 8 * c.args.capacity) × (length c.args.mem.now ≡ memory_size c.args.capacity) =
+    let g = c.requires.4 in
     let w = sizes g.drawn.standing.job in
     (omega (arith, g.more), omega (arith, task_below g), w.size) in
     simp length-set (omega (
@@ -75,7 +79,9 @@ put_line-requires c =
 pub put_ends-requires : goal.put_ends-requires
 put_ends-requires c =
     let line : let a = c.args in
-    Laid a.capacity a.k a.t a.mem.now (set (set c.fill_line.new.mem (row_at a.capacity a.k) a.t) (line_at a.capacity + a.t) (a.k + 1)) = laid c.requires.4 c.fill_line.new.mem c.fill_line.ensures in
+    Laid a.capacity a.k a.t a.mem.now
+    (set (set c.fill_line.new.mem (row_at a.capacity a.k) a.t) (line_at a.capacity + a.t) (a.k + 1)) = laid c.requires.4
+    c.fill_line.new.mem c.fill_line.ensures in
     let g = c.requires.4 in
     let n = drawn_next g line in
     let x = line_timed n.standing (omega arith) n.ticks c.args.k (omega arith) in
@@ -88,7 +94,9 @@ put_ends-requires c =
 pub advance_line-requires : goal.advance_line-requires
 advance_line-requires c =
     let line : let a = c.args in
-    Laid a.capacity a.k a.t a.mem.now (set (set c.fill_line.new.mem (row_at a.capacity a.k) a.t) (line_at a.capacity + a.t) (a.k + 1)) = laid c.requires.4 c.fill_line.new.mem c.fill_line.ensures in
+    Laid a.capacity a.k a.t a.mem.now
+    (set (set c.fill_line.new.mem (row_at a.capacity a.k) a.t) (line_at a.capacity + a.t) (a.k + 1)) = laid c.requires.4
+    c.fill_line.new.mem c.fill_line.ensures in
     let n = drawn_next c.requires.4 line in
     let put = c.put_line.ensures in
     let at = c.row_at-a.ensures in
@@ -97,7 +105,9 @@ advance_line-requires c =
 pub returns : goal.returns
 returns c =
     let line : let a = c.args in
-    Laid a.capacity a.k a.t a.mem.now (set (set c.fill_line.new.mem (row_at a.capacity a.k) a.t) (line_at a.capacity + a.t) (a.k + 1)) = laid c.requires.4 c.fill_line.new.mem c.fill_line.ensures in
+    Laid a.capacity a.k a.t a.mem.now
+    (set (set c.fill_line.new.mem (row_at a.capacity a.k) a.t) (line_at a.capacity + a.t) (a.k + 1)) = laid c.requires.4
+    c.fill_line.new.mem c.fill_line.ensures in
     let (_, _, _, ended, g, clocks, _) = c.requires in
     let x = line in
     let at = c.row_at-a.ensures in

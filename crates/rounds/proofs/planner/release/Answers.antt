@@ -1,11 +1,10 @@
-use Rattle.lists.proofs.Prelude.{sym, ◌∙◌, ◌-◌, ◌+◌, arith}
+use Rattle.lists.proofs.Prelude.{◌-◌, ◌+◌, arith}
 use Rattle.orders.proofs.Walk.{pass_none, pass_last}
 use Rattle.jobs.proofs.Held.{sizes, links_kept}
 use Rattle.lists.proofs.Kept.{kept_all}
-use Rattle.rounds.specs.Planning.{FreeList}
 use Rattle.rounds.proofs.Walks.{leaves_run}
 use Rattle.rounds.proofs.Drawing.{drawn_choice}
-use Rattle.rounds.proofs.ReleaseLaws.{Releasing, release_done, release_asks, release_next}
+use Rattle.rounds.proofs.ReleaseLaws.{release_done, release_asks, release_next}
 use Rattle.rounds.proofs.planner.release.Goals as goal
 
 pub edges_at-g-requires : goal.edges_at-g-requires

@@ -1,12 +1,7 @@
 -- The edges in the cells before k are still counted, and the free tasks are listed.
-use Rattle.lists.proofs.Prelude.{sym, ◌∙◌, ◌-◌, ◌+◌, arith}
-use Rattle.orders.proofs.Walk.{pass_none, pass_last}
-use Rattle.jobs.proofs.Held.{sizes, links_kept}
-use Rattle.lists.proofs.Kept.{kept_all}
+use Rattle.lists.proofs.Prelude.{◌+◌}
 use Rattle.rounds.specs.Planning.{FreeList}
-use Rattle.rounds.proofs.Walks.{leaves_run}
-use Rattle.rounds.proofs.Drawing.{drawn_choice}
-use Rattle.rounds.proofs.ReleaseLaws.{Releasing, release_done, release_asks, release_next}
+use Rattle.rounds.proofs.ReleaseLaws.{Releasing}
 use Rattle.rounds.proofs.planner.release.Given as goal
 
 abbrev pub invariant-loop-k : goal.invariant-loop-k

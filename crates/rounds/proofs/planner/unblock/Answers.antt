@@ -10,12 +10,14 @@ use Rattle.rounds.proofs.planner.unblock.Goals as goal
 
 pub offset_bounds-mem-blocked : goal.offset_bounds-mem-blocked
 offset_bounds-mem-blocked c =
-    let small : (c.args.u < 8 * c.args.capacity) × (c.args.u < document01.tasks) × (length c.args.mem.now ≡ memory_size c.args.capacity) = omega (arith, sizes c.requires.0.1.standing.job, c.requires.1.task) in
+    let small : (c.args.u < 8 * c.args.capacity) × (c.args.u < document01.tasks) × (length c.args.mem.now ≡ memory_size c.args.capacity) =
+    omega (arith, sizes c.requires.0.1.standing.job, c.requires.1.task) in
     omega (arith, small)
 
 pub offset_bounds-mem-blocked-then-b-gt1 : goal.offset_bounds-mem-blocked-then-b-gt1
 offset_bounds-mem-blocked-then-b-gt1 c =
-    let small : (c.args.u < 8 * c.args.capacity) × (c.args.u < document01.tasks) × (length c.args.mem.now ≡ memory_size c.args.capacity) = omega (arith, sizes c.requires.0.1.standing.job, c.requires.1.task) in
+    let small : (c.args.u < 8 * c.args.capacity) × (c.args.u < document01.tasks) × (length c.args.mem.now ≡ memory_size c.args.capacity) =
+    omega (arith, sizes c.requires.0.1.standing.job, c.requires.1.task) in
     omega (arith, small)
 
 pub returns-then-b-gt1 : goal.returns-then-b-gt1
@@ -37,7 +39,8 @@ top_level-x-requires c =
 
 pub bounds-mem-capacity : goal.bounds-mem-capacity
 bounds-mem-capacity c =
-    let small : (c.args.u < 8 * c.args.capacity) × (c.args.u < document01.tasks) × (length c.args.mem.now ≡ memory_size c.args.capacity) = omega (arith, sizes c.requires.0.1.standing.job, c.requires.1.task) in
+    let small : (c.args.u < 8 * c.args.capacity) × (c.args.u < document01.tasks) × (length c.args.mem.now ≡ memory_size c.args.capacity) =
+    omega (arith, sizes c.requires.0.1.standing.job, c.requires.1.task) in
     omega (arith, small)
 
 pub overflow_add-mem-3 : goal.overflow_add-mem-3
@@ -47,17 +50,20 @@ overflow_add-mem-3 c =
 
 pub bounds-mem-capacity-2 : goal.bounds-mem-capacity-2
 bounds-mem-capacity-2 c =
-    let small : (c.args.u < 8 * c.args.capacity) × (c.args.u < document01.tasks) × (length c.args.mem.now ≡ memory_size c.args.capacity) = omega (arith, sizes c.requires.0.1.standing.job, c.requires.1.task) in
+    let small : (c.args.u < 8 * c.args.capacity) × (c.args.u < document01.tasks) × (length c.args.mem.now ≡ memory_size c.args.capacity) =
+    omega (arith, sizes c.requires.0.1.standing.job, c.requires.1.task) in
     omega (arith, small)
 
 pub bounds-mem-blocked-2 : goal.bounds-mem-blocked-2
 bounds-mem-blocked-2 c =
-    let small : (c.args.u < 8 * c.args.capacity) × (c.args.u < document01.tasks) × (length c.args.mem.now ≡ memory_size c.args.capacity) = omega (arith, sizes c.requires.0.1.standing.job, c.requires.1.task) in
+    let small : (c.args.u < 8 * c.args.capacity) × (c.args.u < document01.tasks) × (length c.args.mem.now ≡ memory_size c.args.capacity) =
+    omega (arith, sizes c.requires.0.1.standing.job, c.requires.1.task) in
     simp length-set (omega (arith, small))
 
 pub overflow_cast-u : goal.overflow_cast-u
 overflow_cast-u c =
-    let small : (c.args.u < 8 * c.args.capacity) × (c.args.u < document01.tasks) × (length c.args.mem.now ≡ memory_size c.args.capacity) = omega (arith, sizes c.requires.0.1.standing.job, c.requires.1.task) in
+    let small : (c.args.u < 8 * c.args.capacity) × (c.args.u < document01.tasks) × (length c.args.mem.now ≡ memory_size c.args.capacity) =
+    omega (arith, sizes c.requires.0.1.standing.job, c.requires.1.task) in
     omega (arith, small)
 
 pub put_in-requires : goal.put_in-requires

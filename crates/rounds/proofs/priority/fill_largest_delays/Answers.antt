@@ -1,8 +1,7 @@
 use Rattle.std.proofs.Common.{rules}
-use Rattle.lists.proofs.Prelude.{◌≡◌, ℕ, ◌≤◌, ◌<◌, ◌-◌, ◌+◌, arith, length, document01, nth, largest_delay}
-use Rattle.heads.specs.Layout.{memory_size, largest_delay_at}
+use Rattle.lists.proofs.Prelude.{◌+◌, arith, largest_delay}
+use Rattle.heads.specs.Layout.{largest_delay_at}
 use Rattle.jobs.specs.Held.{job_in}
-use Rattle.lists.specs.Kept.{KeptOutside}
 use Rattle.jobs.proofs.Held.{sizes, job_kept, held_kept}
 use Rattle.lists.proofs.Kept.{kept_all, kept_set}
 use Rattle.lists.proofs.Upward.{table_more}
@@ -46,7 +45,8 @@ loop-p-preserved c =
       search rules,
       search rules,
       kept_set (largest_delay_at args.capacity + loop.p) c.largest_delay-x.result loop.invariant.3 (omega arith) (omega arith),
-      table_more (largest_delay (job_in args.mem.now)) loop.mem (largest_delay_at args.capacity) loop.p c.largest_delay-x.result loop.invariant.4 (omega arith) (rw new at c.largest_delay-x.ensures),
+      table_more (largest_delay (job_in args.mem.now)) loop.mem (largest_delay_at args.capacity) loop.p c.largest_delay-x.result
+          loop.invariant.4 (omega arith) (rw new at c.largest_delay-x.ensures),
     )
 
 pub returns : goal.returns

@@ -1,11 +1,8 @@
 -- The places passed hold the largest delays, and nothing else changed.
-use Rattle.lists.proofs.Prelude.{◌≡◌, ℕ, ◌≤◌, ◌<◌, ◌-◌, ◌+◌, arith, length, document01, nth, largest_delay}
+use Rattle.lists.proofs.Prelude.{◌≡◌, ℕ, ◌≤◌, ◌<◌, ◌-◌, ◌+◌, length, document01, nth, largest_delay}
 use Rattle.heads.specs.Layout.{memory_size, largest_delay_at}
 use Rattle.jobs.specs.Held.{job_in}
 use Rattle.lists.specs.Kept.{KeptOutside}
-use Rattle.jobs.proofs.Held.{sizes, job_kept, held_kept}
-use Rattle.lists.proofs.Kept.{kept_all, kept_set}
-use Rattle.lists.proofs.Upward.{table_more}
 use Rattle.rounds.proofs.priority.fill_largest_delays.Given as goal
 
 abbrev pub invariant-loop-p : goal.invariant-loop-p

@@ -1,5 +1,5 @@
 use Rattle.std.proofs.Common.{rules}
-use Rattle.lists.proofs.Prelude.{◌≡◌, refl, ap, ◌∙◌, ⊎_elim, ℕ, ◌≤◌, ◌-◌, arith, map, count_from, below, greatest, delay, document01, largest_delay}
+use Rattle.lists.proofs.Prelude.{◌≡◌, refl, ap, ◌∙◌, ℕ, arith, map, count_from, below, greatest, delay, largest_delay}
 use Rattle.jobs.specs.Held.{job_in}
 use Rattle.jobs.proofs.Held.{sizes, processors_in}
 use Rattle.lists.proofs.Upward.{greatest_more}

@@ -1,8 +1,6 @@
 -- The greatest is that of the processors passed.
-use Rattle.lists.proofs.Prelude.{◌≡◌, refl, ap, ◌∙◌, ⊎_elim, ℕ, ◌≤◌, ◌-◌, arith, map, count_from, below, greatest, delay, document01, largest_delay}
+use Rattle.lists.proofs.Prelude.{◌≡◌, ◌≤◌, ◌-◌, map, below, greatest, delay, document01}
 use Rattle.jobs.specs.Held.{job_in}
-use Rattle.jobs.proofs.Held.{sizes, processors_in}
-use Rattle.lists.proofs.Upward.{greatest_more}
 use Rattle.rounds.proofs.priority.largest_delay.Given as goal
 
 abbrev pub invariant-loop-q : goal.invariant-loop-q

@@ -1,8 +1,6 @@
 use Rattle.std.proofs.Common.{rules}
-use Rattle.lists.proofs.Prelude.{◌≡◌, refl, ◌≤◌, ◌<◌, ◌-◌, ◌+◌, ◌*◌, min, arith, ⊎_elim, nth, document01}
+use Rattle.lists.proofs.Prelude.{◌≡◌, refl, ◌<◌, ◌+◌, ◌*◌, min, arith, nth}
 use Rattle.heads.specs.Layout.{largest_delay_at, processor_at, early_at, lanes_most}
-use Rattle.ticks.specs.Cells.{never_cell, time_in}
-use Rattle.rounds.specs.Planning.{spread_in, spread_most}
 use Rattle.rounds.proofs.TimeLaws.{time_tick}
 use Rattle.rounds.proofs.TopLaws.{spread_none, sent_on, sent_little, spread_more}
 use Rattle.rounds.proofs.priority.spread.Goals as goal

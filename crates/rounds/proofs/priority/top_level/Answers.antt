@@ -1,9 +1,7 @@
-use Rattle.lists.proofs.Prelude.{◌≡◌, refl, ap, ap₂, ◌∙◌, ◌≤◌, ◌-◌, max, arith, ⊎_elim, incoming, tick, later, document01}
-use Rattle.rounds.specs.Planning.{spread_most}
-use Rattle.orders.proofs.Walk.{Passed, pass_first, pass_at, pass_on}
-use Rattle.jobs.specs.Held.{job_in}
+use Rattle.lists.proofs.Prelude.{◌≡◌, refl, ap, ap₂, ◌∙◌, max, arith, tick, later}
+use Rattle.orders.proofs.Walk.{pass_first, pass_at, pass_on}
 use Rattle.jobs.proofs.Held.{sizes, enters_run}
-use Rattle.rounds.proofs.TimeLaws.{feeds, gathered, gather_none, gather_next}
+use Rattle.rounds.proofs.TimeLaws.{feeds, gather_none, gather_next}
 use Rattle.rounds.proofs.TopLaws.{spreads, feeds_sends, scale_most, top_most_lem, top_one, top_scaled}
 use Rattle.rounds.proofs.priority.top_level.Goals as goal
 use Rattle.rounds.proofs.priority.top_level.Goals.{then-y-x, else-y-x}

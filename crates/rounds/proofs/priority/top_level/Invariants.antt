@@ -1,11 +1,10 @@
 -- x is the largest time of the edges passed.
-use Rattle.lists.proofs.Prelude.{◌≡◌, refl, ap, ap₂, ◌∙◌, ◌≤◌, ◌-◌, max, arith, ⊎_elim, incoming, tick, later, document01}
+use Rattle.lists.proofs.Prelude.{◌≡◌, ◌≤◌, ◌-◌, incoming, tick, document01}
 use Rattle.rounds.specs.Planning.{spread_most}
-use Rattle.orders.proofs.Walk.{Passed, pass_first, pass_at, pass_on}
+use Rattle.orders.proofs.Walk.{Passed}
 use Rattle.jobs.specs.Held.{job_in}
-use Rattle.jobs.proofs.Held.{sizes, enters_run}
-use Rattle.rounds.proofs.TimeLaws.{feeds, gathered, gather_none, gather_next}
-use Rattle.rounds.proofs.TopLaws.{spreads, feeds_sends, scale_most, top_most_lem, top_one, top_scaled}
+use Rattle.rounds.proofs.TimeLaws.{gathered}
+use Rattle.rounds.proofs.TopLaws.{spreads}
 use Rattle.rounds.proofs.priority.top_level.Given as goal
 
 abbrev pub invariant-loop-k : goal.invariant-loop-k

@@ -1,9 +1,8 @@
 use Rattle.std.proofs.Common.{rules}
-use Rattle.lists.proofs.Prelude.{◌≡◌, refl, ◌≤◌, ◌-◌, arith, add-one, length, document01}
+use Rattle.lists.proofs.Prelude.{refl, arith, add-one}
 use Rattle.jobs.proofs.Held.{sizes, links_kept}
-use Rattle.rounds.specs.Arrivals.{Ended}
 use Rattle.rounds.proofs.EndLaws.{ended_none}
-use Rattle.rounds.proofs.RoundLaws.{RoundRuns, round_first, round_asks, round_next, round_done}
+use Rattle.rounds.proofs.RoundLaws.{round_first, round_asks, round_next, round_done}
 use Rattle.rounds.proofs.replaying.run_lines.Goals as goal
 
 pub bounds-mem-0 : goal.bounds-mem-0

@@ -1,9 +1,7 @@
 -- Line by line the outcomes are those of the replay.
-use Rattle.lists.proofs.Prelude.{◌≡◌, refl, ◌≤◌, ◌-◌, arith, add-one, length, document01}
-use Rattle.jobs.proofs.Held.{sizes, links_kept}
+use Rattle.lists.proofs.Prelude.{◌≡◌, ◌≤◌, ◌-◌, length, document01}
 use Rattle.rounds.specs.Arrivals.{Ended}
-use Rattle.rounds.proofs.EndLaws.{ended_none}
-use Rattle.rounds.proofs.RoundLaws.{RoundRuns, round_first, round_asks, round_next, round_done}
+use Rattle.rounds.proofs.RoundLaws.{RoundRuns}
 use Rattle.rounds.proofs.replaying.run_lines.Given as goal
 
 abbrev pub invariant-loop-k : goal.invariant-loop-k

@@ -1,8 +1,7 @@
-use Rattle.lists.proofs.Prelude.{◌≡◌, ◌≤◌, ◌-◌, ◌*◌, arith, document01, nth}
+use Rattle.lists.proofs.Prelude.{◌≡◌, arith, document01, nth}
 use Rattle.jobs.proofs.Held.{sizes}
-use Rattle.printing.specs.Rendered.{Rendered}
 use Rattle.printing.proofs.Rendering.{rendered_none, rendered_more}
-use Rattle.rounds.proofs.ResultLaws.{task_lines, tasks_none, tasks_next, replay_rendered}
+use Rattle.rounds.proofs.ResultLaws.{tasks_none, tasks_next, replay_rendered}
 use Rattle.rounds.proofs.results.render.Goals as goal
 
 pub bounds-mem-0 : goal.bounds-mem-0
@@ -33,7 +32,8 @@ loop-t-preserved c =
     let args = c.args in (
       omega (arith, loop-test.true),
       omega (arith, loop.invariant.1, c.task_line-at.ensures.value.1),
-      rw (tasks_next document01 args.capacity args.mem.now loop.t) (rendered_more loop.invariant.2 _ c.task_line-at.new.out _ c.task_line-at.ensures.value.0 c.task_line-at.ensures.holds),
+      rw (tasks_next document01 args.capacity args.mem.now loop.t)
+          (rendered_more loop.invariant.2 _ c.task_line-at.new.out _ c.task_line-at.ensures.value.0 c.task_line-at.ensures.holds),
     )
 
 pub makespan_of-end-requires : goal.makespan_of-end-requires

@@ -1,9 +1,7 @@
 -- The R lines of the tasks passed were rendered.
-use Rattle.lists.proofs.Prelude.{◌≡◌, ◌≤◌, ◌-◌, ◌*◌, arith, document01, nth}
-use Rattle.jobs.proofs.Held.{sizes}
+use Rattle.lists.proofs.Prelude.{◌≤◌, ◌-◌, ◌*◌, document01}
 use Rattle.printing.specs.Rendered.{Rendered}
-use Rattle.printing.proofs.Rendering.{rendered_none, rendered_more}
-use Rattle.rounds.proofs.ResultLaws.{task_lines, tasks_none, tasks_next, replay_rendered}
+use Rattle.rounds.proofs.ResultLaws.{task_lines}
 use Rattle.rounds.proofs.results.render.Given as goal
 
 abbrev pub invariant-loop-t : goal.invariant-loop-t

@@ -18,6 +18,7 @@ returns c = let args = c.args in
     let q = task_line_lem document01 c.first_finish-first.ensures in
     let (e, m) = c.result_line.ensures.value in record {
       value = (omega (arith, e, ap length q), omega (arith, m));
-      holds = lent_written args.out.now args.at c.place_in-p.result (task_line document01 args.capacity args.t args.mem.now) c.result_line.new.out c.place_in-p.ensures
+      holds = lent_written args.out.now args.at c.place_in-p.result (task_line document01 args.capacity args.t args.mem.now)
+          c.result_line.new.out c.place_in-p.ensures
           (rw q c.result_line.ensures.holds);
     }

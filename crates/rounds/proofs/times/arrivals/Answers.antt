@@ -1,8 +1,8 @@
-use Rattle.lists.proofs.Prelude.{◌≡◌, refl, ◌∙◌, ◌≤◌, ◌<◌, ◌-◌, ◌+◌, arith, nth, document01}
+use Rattle.lists.proofs.Prelude.{◌≡◌, refl, ◌∙◌, ◌<◌, ◌-◌, ◌+◌, arith, nth, document01}
 use Rattle.jobs.proofs.Held.{sizes}
 use Rattle.ticks.proofs.HeldLaws.{whole_holds, never_holds, zero_literal}
 use Rattle.rounds.specs.Arrivals.{lane_most}
-use Rattle.rounds.proofs.TimeTables.{Offered, lane_most_lem, offered_none, offered_next, offered_all}
+use Rattle.rounds.proofs.TimeTables.{lane_most_lem, offered_none, offered_next, offered_all}
 use Rattle.rounds.proofs.times.arrivals.Goals as goal
 
 pub bounds-mem-3 : goal.bounds-mem-3
@@ -78,7 +78,8 @@ loop-c-preserved c =
     let (u, v) = c.lane_of-late.ensures in (
       omega arith,
       rw (c.lane_in-i.ensures, on) (offered_next p.0.1 c.args.h c.args.volume c.args.a (omega arith, omega arith) p.5 p.1 p.4 q
-          (rw e at l.invariant.1) k refl (x, y ∙ rw early) (u, v ∙ rw late) (rw on at c.offer.ensures.first) (rw on at c.offer.ensures.last)),
+          (rw e at l.invariant.1) k refl (x, y ∙ rw early) (u, v ∙ rw late) (rw on at c.offer.ensures.first)
+          (rw on at c.offer.ensures.last)),
     )
 
 pub returns : goal.returns

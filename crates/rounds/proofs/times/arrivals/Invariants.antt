@@ -1,9 +1,6 @@
 -- From the last replica of the line to the first: those passed were offered to the processors of the half, and their own noted.
-use Rattle.lists.proofs.Prelude.{◌≡◌, refl, ◌∙◌, ◌≤◌, ◌<◌, ◌-◌, ◌+◌, arith, nth, document01}
-use Rattle.jobs.proofs.Held.{sizes}
-use Rattle.ticks.proofs.HeldLaws.{whole_holds, never_holds, zero_literal}
-use Rattle.rounds.specs.Arrivals.{lane_most}
-use Rattle.rounds.proofs.TimeTables.{Offered, lane_most_lem, offered_none, offered_next, offered_all}
+use Rattle.lists.proofs.Prelude.{◌≤◌, ◌+◌, nth, document01}
+use Rattle.rounds.proofs.TimeTables.{Offered}
 use Rattle.rounds.proofs.times.arrivals.Given as goal
 
 abbrev pub invariant-loop-c : goal.invariant-loop-c

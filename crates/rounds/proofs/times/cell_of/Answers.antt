@@ -12,8 +12,10 @@ pub float_to_int-result : goal.float_to_int-result
 float_to_int-result c = (signed_cast c.requires (rw c.no_time.ensures at c.if-x-no_time.false)).2
 
 pub overflow_cast-result : goal.overflow_cast-result
-overflow_cast-result c = let (n, _, _, s, l) = signed_cast c.requires (rw c.no_time.ensures at c.if-x-no_time.false) in rw s (tt, omega arith)
+overflow_cast-result c =
+    let (n, _, _, s, l) = signed_cast c.requires (rw c.no_time.ensures at c.if-x-no_time.false) in rw s (tt, omega arith)
 
 pub returns : goal.returns
 returns c =
-    let (n, t, _, s, l) = signed_cast c.requires (rw c.no_time.ensures at c.if-x-no_time.false) in rw (s, t) (time_tick n (λ e. omega arith), inr l)
+    let (n, t, _, s, l) = signed_cast c.requires (rw c.no_time.ensures at c.if-x-no_time.false) in
+    rw (s, t) (time_tick n (λ e. omega arith), inr l)

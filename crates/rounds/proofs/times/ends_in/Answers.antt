@@ -1,9 +1,9 @@
 use Rattle.std.proofs.Common.{rules}
-use Rattle.lists.proofs.Prelude.{◌≡◌, ◌≤◌, ◌-◌, ◌+◌, arith, true, false, document01, nth}
-use Rattle.ticks.specs.Cells.{time_in, never_cell}
+use Rattle.lists.proofs.Prelude.{◌≡◌, ◌+◌, arith, true, false, nth}
+use Rattle.ticks.specs.Cells.{never_cell}
 use Rattle.jobs.proofs.Held.{sizes}
 use Rattle.rounds.proofs.TimeLaws.{none_late, none_early}
-use Rattle.rounds.proofs.MakespanLaws.{chosen_in, chosen_first, chosen_next}
+use Rattle.rounds.proofs.MakespanLaws.{chosen_first, chosen_next}
 use Rattle.rounds.proofs.times.ends_in.Goals as goal
 
 pub bounds-mem-3 : goal.bounds-mem-3

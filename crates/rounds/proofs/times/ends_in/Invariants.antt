@@ -1,9 +1,7 @@
 -- After c turns the two ends are the choices among the first c replicas of the line.
-use Rattle.lists.proofs.Prelude.{◌≡◌, ◌≤◌, ◌-◌, ◌+◌, arith, true, false, document01, nth}
-use Rattle.ticks.specs.Cells.{time_in, never_cell}
-use Rattle.jobs.proofs.Held.{sizes}
-use Rattle.rounds.proofs.TimeLaws.{none_late, none_early}
-use Rattle.rounds.proofs.MakespanLaws.{chosen_in, chosen_first, chosen_next}
+use Rattle.lists.proofs.Prelude.{◌≡◌, ◌≤◌, ◌-◌, true, false, document01, nth}
+use Rattle.ticks.specs.Cells.{time_in}
+use Rattle.rounds.proofs.MakespanLaws.{chosen_in}
 use Rattle.rounds.proofs.times.ends_in.Given as goal
 
 abbrev pub invariant-loop-c : goal.invariant-loop-c

@@ -1,8 +1,7 @@
 use Rattle.std.proofs.Common.{rules}
-use Rattle.lists.proofs.Prelude.{◌≤◌, ◌-◌, arith, nth, document01}
-use Rattle.heads.specs.Layout.{lanes_most}
+use Rattle.lists.proofs.Prelude.{arith}
 use Rattle.jobs.proofs.Held.{sizes}
-use Rattle.rounds.proofs.TimeTables.{DelaysTo, delays_none, delays_next, delays_row, delays_done}
+use Rattle.rounds.proofs.TimeTables.{delays_none, delays_next, delays_row, delays_done}
 use Rattle.rounds.proofs.times.fill_delays.Goals as goal
 
 pub loop-i-init : goal.loop-i-init

@@ -1,8 +1,7 @@
 -- The cells before i hold the delays, and none is over the greatest of them.
-use Rattle.lists.proofs.Prelude.{◌≤◌, ◌-◌, arith, nth, document01}
+use Rattle.lists.proofs.Prelude.{◌≤◌, ◌-◌, nth, document01}
 use Rattle.heads.specs.Layout.{lanes_most}
-use Rattle.jobs.proofs.Held.{sizes}
-use Rattle.rounds.proofs.TimeTables.{DelaysTo, delays_none, delays_next, delays_row, delays_done}
+use Rattle.rounds.proofs.TimeTables.{DelaysTo}
 use Rattle.rounds.proofs.times.fill_delays.Given as goal
 
 abbrev pub invariant-loop-i : goal.invariant-loop-i

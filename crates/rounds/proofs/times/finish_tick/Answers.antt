@@ -1,5 +1,5 @@
 -- The start is a tick of 32 bits, and so is the finish.
-use Rattle.lists.proofs.Prelude.{refl, arith}
+use Rattle.lists.proofs.Prelude.{arith}
 use Rattle.rounds.proofs.CastLaws.{short_cast}
 use Rattle.rounds.proofs.times.finish_tick.Goals as goal
 

@@ -1,5 +1,5 @@
 -- The ready ticks in lanes, raised to the data, and a run after them.
-use Rattle.lists.proofs.Prelude.{◌≡◌, ◌∙◌, arith, true, false}
+use Rattle.lists.proofs.Prelude.{◌∙◌, arith, true, false}
 use Rattle.rounds.proofs.TimeTables.{table_held, table_ticks, supplied_lanes, starts_held}
 use Rattle.rounds.proofs.times.finishes.Goals as goal
 

@@ -1,6 +1,5 @@
-use Rattle.lists.proofs.Prelude.{◌≡◌, refl, ℕ, ◌≤◌, ◌<◌, ◌-◌, arith, length, length-set, nth, document01}
+use Rattle.lists.proofs.Prelude.{refl, arith, length-set, nth, document01}
 use Rattle.ticks.specs.Cells.{time_in}
-use Rattle.ticks.specs.Floats.{lane}
 use Rattle.ticks.proofs.HeldLaws.{Holds, held_more}
 use Rattle.jobs.proofs.Held.{sizes}
 use Rattle.rounds.specs.Arrivals.{lane_most}

@@ -1,11 +1,9 @@
 -- The lanes before p hold the times of the cells.
-use Rattle.lists.proofs.Prelude.{◌≡◌, refl, ℕ, ◌≤◌, ◌<◌, ◌-◌, arith, length, length-set, nth, document01}
+use Rattle.lists.proofs.Prelude.{◌≡◌, ℕ, ◌≤◌, ◌<◌, ◌-◌, length, nth, document01}
 use Rattle.ticks.specs.Cells.{time_in}
 use Rattle.ticks.specs.Floats.{lane}
-use Rattle.ticks.proofs.HeldLaws.{Holds, held_more}
-use Rattle.jobs.proofs.Held.{sizes}
+use Rattle.ticks.proofs.HeldLaws.{Holds}
 use Rattle.rounds.specs.Arrivals.{lane_most}
-use Rattle.rounds.proofs.LaneLoops.{each_lane}
 use Rattle.rounds.proofs.times.lanes_of.Given as goal
 
 abbrev pub invariant-loop-p : goal.invariant-loop-p

@@ -18,4 +18,5 @@ returns-then-x-ends c = λ e. absurd (true≢false e)
 pub returns : goal.returns
 returns c =
     let (h, x, y, m) = c.requires in
-    λ e. no_waits c.edge_from-t.result c.edge_volume.result c.args.most h x y m c.edge_from-t.ensures.0 c.edge_volume.ensures c.if-x-ends.false e
+    λ e. no_waits c.edge_from-t.result c.edge_volume.result c.args.most h x y m c.edge_from-t.ensures.0 c.edge_volume.ensures
+    c.if-x-ends.false e

@@ -12,4 +12,5 @@ lane_of-requires-2 c = choice_small c.requires.1 true c.ends_in-e.ensures.1
 
 pub returns : goal.returns
 returns c =
-    ends_put c.args.ends.now c.ends_in-e.result.first c.ends_in-e.result.last c.requires.4 c.ends_in-e.ensures.0 c.ends_in-e.ensures.1 c.lane_of.ensures c.lane_of-2.ensures
+    ends_put c.args.ends.now c.ends_in-e.result.first c.ends_in-e.result.last c.requires.4 c.ends_in-e.ensures.0 c.ends_in-e.ensures.1
+    c.lane_of.ensures c.lane_of-2.ensures

@@ -1,14 +1,10 @@
-use Rattle.lists.proofs.Prelude.{◌≡◌, refl, ap, ◌∙◌, sym, ⊎_elim, ℕ, ◌≤◌, ◌<◌, ◌-◌, ◌+◌, ◌*◌, min, arith, nth, Bool, true, false, incoming, after, document01}
+use Rattle.lists.proofs.Prelude.{refl, arith, nth, true, false}
 use Rattle.orders.specs.Edges.{edge_in}
-use Rattle.orders.proofs.Walk.{Passed, pass_first, pass_at, pass_on}
-use Rattle.jobs.specs.Held.{job_in}
+use Rattle.orders.proofs.Walk.{pass_first, pass_at, pass_on}
 use Rattle.jobs.proofs.Held.{sizes, enters_run}
-use Rattle.definitions.specs.Shelf.{NoLater}
-use Rattle.ticks.specs.Floats.{Held, lane_time, time_of}
-use Rattle.ticks.proofs.HeldLaws.{least_holds}
-use Rattle.rounds.specs.Arrivals.{lane_most}
+use Rattle.ticks.specs.Floats.{lane_time, time_of}
 use Rattle.rounds.proofs.TimeLaws.{feeds}
-use Rattle.rounds.proofs.TimeTables.{table_held, Gathered, gathered_none, gathered_next, gathered_same, gathered_done, ready_least, waits_not, edge_ends}
+use Rattle.rounds.proofs.TimeTables.{table_held, gathered_none, gathered_next, gathered_same, gathered_done, ready_least, waits_not, edge_ends}
 use Rattle.rounds.proofs.times.raise_data.Goals as goal
 use Rattle.rounds.proofs.times.raise_data.Goals.{then-may_wait, else-may_wait}
 

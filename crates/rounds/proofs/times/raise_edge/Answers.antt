@@ -1,6 +1,6 @@
-use Rattle.lists.proofs.Prelude.{◌≡◌, refl, true, false, ◌≤◌, ◌<◌, ◌-◌, ◌*◌, arith, nth, document01}
+use Rattle.lists.proofs.Prelude.{refl, true, false, ◌≤◌, ◌<◌, ◌*◌, arith, nth}
 use Rattle.jobs.proofs.Held.{sizes}
-use Rattle.rounds.proofs.TimeTables.{table_held, HalvesRaised, halves_none, halves_next, halves_done}
+use Rattle.rounds.proofs.TimeTables.{table_held, halves_none, halves_next, halves_done}
 use Rattle.rounds.proofs.times.raise_edge.Goals as goal
 
 pub entering-e-requires : goal.entering-e-requires

@@ -1,7 +1,6 @@
 -- The arrivals of the line of the task that the edge leaves, half after half.
-use Rattle.lists.proofs.Prelude.{◌≡◌, refl, true, false, ◌≤◌, ◌<◌, ◌-◌, ◌*◌, arith, nth, document01}
-use Rattle.jobs.proofs.Held.{sizes}
-use Rattle.rounds.proofs.TimeTables.{table_held, HalvesRaised, halves_none, halves_next, halves_done}
+use Rattle.lists.proofs.Prelude.{◌≡◌, true, false, ◌≤◌, ◌-◌, ◌*◌, nth, document01}
+use Rattle.rounds.proofs.TimeTables.{HalvesRaised}
 use Rattle.rounds.proofs.times.raise_edge.Given as goal
 
 abbrev pub invariant-loop-h : goal.invariant-loop-h

@@ -1,4 +1,4 @@
-use Rattle.lists.proofs.Prelude.{◌≡◌, ℕ, ◌≤◌, ◌<◌, ◌-◌, arith, length, length-set, nth, tick, after, run_time}
+use Rattle.lists.proofs.Prelude.{◌≡◌, arith, length-set, tick, after, run_time}
 use Rattle.lists.proofs.ListLaws.{each_more}
 use Rattle.ticks.specs.Floats.{lane_time}
 use Rattle.jobs.specs.Held.{job_in}

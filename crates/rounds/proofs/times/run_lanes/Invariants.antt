@@ -1,9 +1,7 @@
 -- The lanes before p hold the finishes.
-use Rattle.lists.proofs.Prelude.{◌≡◌, ℕ, ◌≤◌, ◌<◌, ◌-◌, arith, length, length-set, nth, tick, after, run_time}
-use Rattle.lists.proofs.ListLaws.{each_more}
+use Rattle.lists.proofs.Prelude.{◌≡◌, ℕ, ◌≤◌, ◌<◌, ◌-◌, length, nth, tick, after, run_time}
 use Rattle.ticks.specs.Floats.{lane_time}
 use Rattle.jobs.specs.Held.{job_in}
-use Rattle.jobs.proofs.Held.{sizes}
 use Rattle.rounds.proofs.times.run_lanes.Given as goal
 
 abbrev pub invariant-loop-p : goal.invariant-loop-p

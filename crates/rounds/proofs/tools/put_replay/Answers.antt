@@ -30,7 +30,8 @@ pub returns-else-replay_fits : goal.returns-else-replay_fits
 returns-else-replay_fits c =
     let d = c.args.mem.now in
     run_short c.requires.0 c.run_round.ensures c.args.stops.now c.args.out.now _ _ c.load_stops.auto.stops
-    (rw c.in-Next.is at (c.load_stops.ensures (job_in d) (processors_in d))) refl (leb-false _ _ (sym c.replay_fits.ensures ∙ c.if-replay_fits.false))
+    (rw c.in-Next.is at (c.load_stops.ensures (job_in d) (processors_in d))) refl
+    (leb-false _ _ (sym c.replay_fits.ensures ∙ c.if-replay_fits.false))
 
 pub returns-in-Refused : goal.returns-in-Refused
 returns-in-Refused c =

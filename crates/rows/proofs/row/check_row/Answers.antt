@@ -4,12 +4,14 @@ use Rattle.rows.proofs.RowLaws.{out_of_turn, out_of_range, run_good, delay_self,
 use Rattle.rows.proofs.row.check_row.Goals as goal
 
 pub returns-then-misplaced : goal.returns-then-misplaced
-returns-then-misplaced c = λ seen l. let a = c.args in out_of_turn document01 seen a.row.now _ l a.kind (ap not (ne_eqb _ _ c.if-misplaced.true))
+returns-then-misplaced c =
+    λ seen l. let a = c.args in out_of_turn document01 seen a.row.now _ l a.kind (ap not (ne_eqb _ _ c.if-misplaced.true))
 
 pub returns-then-astray : goal.returns-then-astray
 returns-then-astray c = λ seen l.
     let a = c.args in
-    out_of_range document01 seen a.row.now _ l (ap not (eq-eqb _ _ c.if-misplaced.false)) a.kind (sym c.if-astray.true ∙ c.off_range-astray.ensures)
+    out_of_range document01 seen a.row.now _ l (ap not (eq-eqb _ _ c.if-misplaced.false)) a.kind
+    (sym c.if-astray.true ∙ c.off_range-astray.ensures)
 
 pub overflow_add-i : goal.overflow_add-i
 overflow_add-i c = omega (arith, c.requires.1 c.in-Delays.is)
@@ -29,7 +31,8 @@ returns-then-row-i-ne0 c = λ seen l.
 pub returns-in-Runs : goal.returns-in-Runs
 returns-in-Runs c = λ seen l.
     let a = c.args in
-    run_good document01 seen a.row.now _ l (ap not (eq-eqb _ _ c.if-misplaced.false)) a.kind (sym c.if-astray.false ∙ c.off_range-astray.ensures) c.in-Runs.is
+    run_good document01 seen a.row.now _ l (ap not (eq-eqb _ _ c.if-misplaced.false)) a.kind
+    (sym c.if-astray.false ∙ c.off_range-astray.ensures) c.in-Runs.is
 
 pub returns-else-row-i-ne0 : goal.returns-else-row-i-ne0
 returns-else-row-i-ne0 c = λ seen l.

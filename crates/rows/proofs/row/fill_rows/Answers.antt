@@ -11,27 +11,32 @@ loop-i-init c = (refl, lines_none)
 
 pub overflow_mul-a : goal.overflow_mul-a
 overflow_mul-a c =
-    let ends : c.loop-i.i * c.args.k + c.args.k ≤ length c.loop-i.mem = let l = c.loop-i in omega (arith, row_ends l.i c.args.n c.args.k c.loop-i-test.true, l.invariant.0, c.requires.1) in
+    let ends : c.loop-i.i * c.args.k + c.args.k ≤ length c.loop-i.mem = let l = c.loop-i in
+    omega (arith, row_ends l.i c.args.n c.args.k c.loop-i-test.true, l.invariant.0, c.requires.1) in
     omega (arith, ends)
 
 pub offset_bounds-mem-a : goal.offset_bounds-mem-a
 offset_bounds-mem-a c =
-    let ends : c.loop-i.i * c.args.k + c.args.k ≤ length c.loop-i.mem = let l = c.loop-i in omega (arith, row_ends l.i c.args.n c.args.k c.loop-i-test.true, l.invariant.0, c.requires.1) in
+    let ends : c.loop-i.i * c.args.k + c.args.k ≤ length c.loop-i.mem = let l = c.loop-i in
+    omega (arith, row_ends l.i c.args.n c.args.k c.loop-i-test.true, l.invariant.0, c.requires.1) in
     omega (arith, ends)
 
 pub slice_bounds-read_row-count : goal.slice_bounds-read_row-count
 slice_bounds-read_row-count c =
-    let ends : c.loop-i.i * c.args.k + c.args.k ≤ length c.loop-i.mem = let l = c.loop-i in omega (arith, row_ends l.i c.args.n c.args.k c.loop-i-test.true, l.invariant.0, c.requires.1) in
+    let ends : c.loop-i.i * c.args.k + c.args.k ≤ length c.loop-i.mem = let l = c.loop-i in
+    omega (arith, row_ends l.i c.args.n c.args.k c.loop-i-test.true, l.invariant.0, c.requires.1) in
     omega (arith, ends)
 
 pub slice_bounds-read_row-start : goal.slice_bounds-read_row-start
 slice_bounds-read_row-start c =
-    let ends : c.loop-i.i * c.args.k + c.args.k ≤ length c.loop-i.mem = let l = c.loop-i in omega (arith, row_ends l.i c.args.n c.args.k c.loop-i-test.true, l.invariant.0, c.requires.1) in
+    let ends : c.loop-i.i * c.args.k + c.args.k ≤ length c.loop-i.mem = let l = c.loop-i in
+    omega (arith, row_ends l.i c.args.n c.args.k c.loop-i-test.true, l.invariant.0, c.requires.1) in
     omega (arith, ends)
 
 pub read_row-requires : goal.read_row-requires
 read_row-requires c =
-    let ends : c.loop-i.i * c.args.k + c.args.k ≤ length c.loop-i.mem = let l = c.loop-i in omega (arith, row_ends l.i c.args.n c.args.k c.loop-i-test.true, l.invariant.0, c.requires.1) in
+    let ends : c.loop-i.i * c.args.k + c.args.k ≤ length c.loop-i.mem = let l = c.loop-i in
+    omega (arith, row_ends l.i c.args.n c.args.k c.loop-i-test.true, l.invariant.0, c.requires.1) in
     let pre = c.requires in
     (pre.0, simp (length-take, length-drop) (omega (arith, ends)), λ e. omega (arith, c.loop-i-test.true, pre.2 e))
 
@@ -42,7 +47,8 @@ returns-in-Refused c =
 
 pub loop-i-preserved : goal.loop-i-preserved
 loop-i-preserved c =
-    let ends : c.loop-i.i * c.args.k + c.args.k ≤ length c.loop-i.mem = let l = c.loop-i in omega (arith, row_ends l.i c.args.n c.args.k c.loop-i-test.true, l.invariant.0, c.requires.1) in
+    let ends : c.loop-i.i * c.args.k + c.args.k ≤ length c.loop-i.mem = let l = c.loop-i in
+    omega (arith, row_ends l.i c.args.n c.args.k c.loop-i-test.true, l.invariant.0, c.requires.1) in
     let l = c.loop-i in
     let k = c.args.k in
     let ys = c.read_row.new.cells in

@@ -23,14 +23,16 @@ pub returns-then-x-gt0 : goal.returns-then-x-gt0
 returns-then-x-gt0 c =
     let held : List ℕ = c.read_line.new.vals in
     let formed : line document01 c.args.opening.now c.args.k (drop c.args.at c.args.s.now)
-    ≡ found (take c.args.k held) (drop c.in-Next.p c.args.s.now) = line_reading _ _ _ _ _ _ held _ _ c.read_line.ensures.result_after c.requires.1 c.in-Next.is in
+    ≡ found (take c.args.k held) (drop c.in-Next.p c.args.s.now) = line_reading _ _ _ _ _ _ held _ _ c.read_line.ensures.result_after
+    c.requires.1 c.in-Next.is in
     λ seen l. ruled_no (line _ _ _) (rule_of document01 c.args.kind) seen _ _ _ formed _ (c.check_row-x.ensures seen l) c.if-x-gt0.true
 
 pub returns-else-x-gt0 : goal.returns-else-x-gt0
 returns-else-x-gt0 c =
     let held : List ℕ = c.read_line.new.vals in
     let formed : line document01 c.args.opening.now c.args.k (drop c.args.at c.args.s.now)
-    ≡ found (take c.args.k held) (drop c.in-Next.p c.args.s.now) = line_reading _ _ _ _ _ _ held _ _ c.read_line.ensures.result_after c.requires.1 c.in-Next.is in
+    ≡ found (take c.args.k held) (drop c.in-Next.p c.args.s.now) = line_reading _ _ _ _ _ _ held _ _ c.read_line.ensures.result_after
+    c.requires.1 c.in-Next.is in
     λ seen l. ruled_yes (line _ _ _) (rule_of document01 c.args.kind) seen _ _ _ formed _ (c.check_row-x.ensures seen l) c.if-x-gt0.false
 
 pub returns-in-Refused : goal.returns-in-Refused

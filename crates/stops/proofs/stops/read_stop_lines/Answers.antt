@@ -11,14 +11,16 @@ loop-p-init c = (search rules, refl, stops_none _ _ _ _ c.requires.0 c.requires.
 pub returns-in-Refused : goal.returns-in-Refused
 returns-in-Refused c =
     let loop = c.loop-p in
-    let e = line_reading _ (length loop.line) _ 2 _ _ c.read_line.new.vals _ _ c.read_line.ensures.result_after (omega (arith, loop.invariant.0)) c.in-Refused.is in
+    let e = line_reading _ (length loop.line) _ 2 _ _ c.read_line.new.vals _ _ c.read_line.ensures.result_after
+    (omega (arith, loop.invariant.0)) c.in-Refused.is in
     stops_bad loop.invariant.2 c.loop-p-test.true _ e
 
 pub returns-then-x-gt0 : goal.returns-then-x-gt0
 returns-then-x-gt0 c =
     let held : List ℕ = c.read_line.new.vals in
     let formed : line document01 (bytes "S,") 2 (drop c.loop-p.p c.args.s.now)
-    ≡ found (take 2 held) (drop c.in-Next.next c.args.s.now) = line_reading _ (length c.loop-p.line) _ 2 _ _ held _ _ c.read_line.ensures.result_after (omega (arith, c.loop-p.invariant.0)) c.in-Next.is in
+    ≡ found (take 2 held) (drop c.in-Next.next c.args.s.now) = line_reading _ (length c.loop-p.line) _ 2 _ _ held _ _
+    c.read_line.ensures.result_after (omega (arith, c.loop-p.invariant.0)) c.in-Next.is in
     let h = c.loop-p-test.true in
     stops_no c.loop-p.invariant.2 h held c.in-Next.next formed _ c.if-x-gt0.true c.check_stop-x.ensures.0
 
@@ -36,14 +38,16 @@ pub loop-p-smaller : goal.loop-p-smaller
 loop-p-smaller c =
     let held : List ℕ = c.read_line.new.vals in
     let formed : line document01 (bytes "S,") 2 (drop c.loop-p.p c.args.s.now)
-    ≡ found (take 2 held) (drop c.in-Next.next c.args.s.now) = line_reading _ (length c.loop-p.line) _ 2 _ _ held _ _ c.read_line.ensures.result_after (omega (arith, c.loop-p.invariant.0)) c.in-Next.is in
+    ≡ found (take 2 held) (drop c.in-Next.next c.args.s.now) = line_reading _ (length c.loop-p.line) _ 2 _ _ held _ _
+    c.read_line.ensures.result_after (omega (arith, c.loop-p.invariant.0)) c.in-Next.is in
     stops_shorter c.loop-p.invariant.2 c.loop-p-test.true held c.in-Next.next formed
 
 pub loop-p-preserved : goal.loop-p-preserved
 loop-p-preserved c =
     let held : List ℕ = c.read_line.new.vals in
     let formed : line document01 (bytes "S,") 2 (drop c.loop-p.p c.args.s.now)
-    ≡ found (take 2 held) (drop c.in-Next.next c.args.s.now) = line_reading _ (length c.loop-p.line) _ 2 _ _ held _ _ c.read_line.ensures.result_after (omega (arith, c.loop-p.invariant.0)) c.in-Next.is in
+    ≡ found (take 2 held) (drop c.in-Next.next c.args.s.now) = line_reading _ (length c.loop-p.line) _ 2 _ _ held _ _
+    c.read_line.ensures.result_after (omega (arith, c.loop-p.invariant.0)) c.in-Next.is in
     let z : c.check_stop-x.result ≡ 0 = omega arith in
     let (k, t, o) = c.check_stop-x.ensures.1 z in
     let u = stops_next c.loop-p.invariant.2 c.loop-p-test.true held c.in-Next.next formed in

@@ -16,4 +16,8 @@ loop-p-preserved c =
     )
 
 pub returns : goal.returns
-returns c = record { first = lanes_all _ _ c.loop-p.p c.loop-p.invariant.1 (omega arith); last = lanes_all _ _ c.loop-p.p c.loop-p.invariant.2 (omega arith) }
+returns c =
+    record {
+      first = lanes_all _ _ c.loop-p.p c.loop-p.invariant.1 (omega arith);
+      last = lanes_all _ _ c.loop-p.p c.loop-p.invariant.2 (omega arith);
+    }

@@ -1,8 +1,8 @@
 use Rattle.std.proofs.Common.{rules}
-use Rattle.lists.proofs.Prelude.{◌≡◌, ◌∙◌, ℕ, ◌≤◌, ◌<◌, ◌-◌, arith, length, nth, document01}
+use Rattle.lists.proofs.Prelude.{◌≡◌, ◌∙◌, ℕ, ◌≤◌, ◌<◌, arith, length, nth, document01}
 use Rattle.heads.specs.Layout.{row_at, processor_at, replica_end}
 use Rattle.jobs.proofs.Held.{sizes}
-use Rattle.rounds.proofs.RunLaws.{LineRuns, LineStep, line_supplied, line_first, line_step, line_next, line_done, line_row, line_ended}
+use Rattle.rounds.proofs.RunLaws.{LineStep, line_supplied, line_first, line_step, line_next, line_done, line_row, line_ended}
 use Rattle.rounds.proofs.replaying.Ready.run_line.Goals as goal
 
 pub bounds-mem-3 : goal.bounds-mem-3
@@ -213,7 +213,8 @@ loop-c-preserved c =
       rw (c.put_early.ensures, q, l.invariant.2)
           (line_next a.k l.c l.invariant.3 p.4.standing p.5 p.6 c.loop-c-test.true
           c.cell_of.result c.run_time-n.result c.finish_of-x.result c.unless_stopped-y.result
-          (rw q at c.cell_of.ensures.0 ∙ rw row at (c.first_starts-starts.ensures.time _ s.processor)) (rw (row, q) at c.run_time-n.ensures.0) (rw q at c.finish_of-x.ensures.0)
+          (rw q at c.cell_of.ensures.0 ∙ rw row at (c.first_starts-starts.ensures.time _ s.processor))
+          (rw (row, q) at c.run_time-n.ensures.0) (rw q at c.finish_of-x.ensures.0)
           (rw q at c.unless_stopped-y.ensures.0) c.unless_stopped-y.ensures.1),
     )
 

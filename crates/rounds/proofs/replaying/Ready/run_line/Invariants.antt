@@ -1,8 +1,7 @@
 -- Replica by replica the outcomes are those of the walk, and then the ends of the line are noted.
-use Rattle.lists.proofs.Prelude.{◌≡◌, ◌∙◌, ℕ, ◌≤◌, ◌<◌, ◌-◌, arith, length, nth, document01}
-use Rattle.heads.specs.Layout.{row_at, processor_at, replica_end}
-use Rattle.jobs.proofs.Held.{sizes}
-use Rattle.rounds.proofs.RunLaws.{LineRuns, LineStep, line_supplied, line_first, line_step, line_next, line_done, line_row, line_ended}
+use Rattle.lists.proofs.Prelude.{◌≡◌, ◌≤◌, ◌-◌, document01}
+use Rattle.heads.specs.Layout.{row_at}
+use Rattle.rounds.proofs.RunLaws.{LineRuns}
 use Rattle.rounds.proofs.replaying.Ready.run_line.Given as goal
 
 abbrev pub invariant-loop-c : goal.invariant-loop-c
