@@ -2,7 +2,7 @@
  * Replicated plans for watering rounds: draw up a plan that bears the loss of
  * some boxes, check a plan, and replay one while boxes stop.
  *
- * Link with libexports.a, which is for Linux on x86-64; beside it only memcpy
+ * Link with libexports.a, which is for Linux on x86-64-v2; beside it only memcpy
  * and memset are needed. The functions keep nothing between calls, allocate
  * nothing and do no input or output, and may be called by several threads at
  * once, each with its own outputs. docs/FORMAT.md says what stands in a text.
