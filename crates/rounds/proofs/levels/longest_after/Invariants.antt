@@ -8,7 +8,9 @@ use Rattle.rounds.proofs.levels.longest_after.Given as goal
 
 abbrev pub invariant-loop-k : goal.invariant-loop-k
 invariant-loop-k l =
-    Passed (l.g + l.initial.k) (l.g + l.k-end) l.mem (outgoing (job_in l.mem) l.t) (l.g + l.k) × (l.x ≤ sent_most document01 + level_most document01) × (tick l.x ≡ gathered (λ e. tick (sent l.capacity l.mem e)) (l.g + l.initial.k) l.mem (l.g + l.k))
+    Passed (l.g + l.initial.k) (l.g + l.k-end) l.mem (outgoing (job_in l.mem) l.t) (l.g + l.k)
+    × (l.x ≤ sent_most document01 + level_most document01)
+    × (tick l.x ≡ gathered (λ e. tick (sent l.capacity l.mem e)) (l.g + l.initial.k) l.mem (l.g + l.k))
 
 abbrev pub decreases-loop-k : goal.decreases-loop-k
 decreases-loop-k l = l.k-end - l.k
