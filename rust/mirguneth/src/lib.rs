@@ -1,7 +1,7 @@
 //! Replicated plans for watering rounds: draw up a plan that bears the loss of
 //! some boxes, check a plan, and replay one while boxes stop.
 //!
-//! The work is done by a proved static library, for Linux on x86-64; this crate
+//! The work is done by a proved static library, for Linux on x86-64-v2; this crate
 //! is a safe layer over its four functions. What stands in a job, a plan and a
 //! stop list is said in the repository's `docs/FORMAT.md`. Nothing is kept
 //! between calls, and nothing is allocated but by [`plan_to_vec`] and
