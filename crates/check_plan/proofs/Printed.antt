@@ -11,8 +11,9 @@ printed_most [] h = omega arith
 printed_most (n ∷ ns) h = omega (arith, refusal_most (n ∷ ns))
 
 -- The verdict v says these numbers, and what is printed for them was written into the output d.
-pub shown : (v : Verdict) (ns d e : List ℕ) (n : ℕ) → Says v ns → length ns ≤ 2 → length d ≡ 24 → n ≡ length (check_printed document01 ns) → e ≡ written d 0 (check_printed document01 ns)
+pub shown : (v : Verdict) (ns d e : List ℕ) (n : ℕ) → Says v ns → length ns ≤ 2 → length d ≡ 24 → n ≡ length (check_printed document01 ns)
+    → e ≡ written d 0 (check_printed document01 ns)
     → ((ms : List ℕ) × Says v ms × (n ≡ length (check_printed document01 ms)) × (e ≡ over d 0 (check_printed document01 ms))) × IsPrefixLen n e
 shown v ns d e n s k r l f =
-    let (a, (b, c)) = written_front d e (check_printed document01 ns) n (omega (arith, printed_most ns k)) l f in
+    let (a, b, c) = written_front d e (check_printed document01 ns) n (omega (arith, printed_most ns k)) l f in
     ((ns, s, a, b), c)

@@ -7,7 +7,7 @@ ghost use Rattle.definitions.specs.Tools.{Says, check_printed, verdict};
 ghost use Rattle.io.specs.Counts.{IsPrefixLen};
 ghost use Rattle.lists.specs.Over.{over};
 
-use mirguneth::Checked;
+use mirguneth::Fault;
 use std::io::Write;
 
 // What is printed for the two texts, at the front of `out`, which has room for `N,` and two numbers. The answer is its length.
@@ -18,9 +18,9 @@ fn answer(job: &[u8], plan: &[u8], out: &mut [u8]) -> usize
     ensures counted { IsPrefixLen result out.new }
 {
     match mirguneth::check(job, plan) {
-        Checked::Accepted => text::write_fixed(out, 0, b"OK\n"),
-        Checked::Doubled(t) => console::write_doubled(out, t as u64),
-        Checked::Refused(x) => console::write_refusal(out, x),
+        Ok(()) => text::write_fixed(out, 0, b"OK\n"),
+        Err(Fault::Doubled(t)) => console::write_doubled(out, u64::from(t)),
+        Err(Fault::Refused(x)) => console::write_refusal(out, u64::from(x)),
     }
 }
 

@@ -23,6 +23,7 @@ pub fn load(files: &impl Files, path: &[u8], buf: &mut [u8]) -> usize
         return 0;
     };
     let mut done = 0;
+    // Kept: it counts the bytes that were read, and a read that fails or gives none ends it.
     while done < buf.len() {
         match file.read(&mut buf[done..]) {
             Ok(n) if n > 0 => done += n,
@@ -41,6 +42,7 @@ pub fn write_refusal(out: &mut [u8], x: u64) -> usize
 }
 
 // `N,12,` and the task, the same way.
+// Kept: a public function beside write_refusal, whose contract may not change; must-fail/doubled_as_thirteen.edit is its own.
 pub fn write_doubled(out: &mut [u8], task: u64) -> usize
     ensures value { result ≡ length (line_text document01 (bytes "N,") (12 ∷ task ∷ [])) }
     ensures holds { out.new ≡ written out.old 0 (line_text document01 (bytes "N,") (12 ∷ task ∷ [])) }

@@ -3,6 +3,11 @@ use Rattle.std.specs.Prelude.{ℕ, List, [], Bool, ◌&&◌, leb, if◌then◌el
 use Rattle.definitions.specs.Limits.{Limits}
 use Rattle.definitions.specs.Text.{Reader, refused, lines}
 use Rattle.definitions.specs.Job.{Edge, edge_line, edge_rule}
+use Rattle.edges.specs.declared.edge.Edge as Line
+
+-- The edge whose numbers stand in a line.
+abbrev pub edge_for : Line.Edge → Edge
+edge_for e = record { from = e.from; to = e.to; volume = e.volume }
 
 module _ (l : Limits) where
   -- n edge lines between v tasks, after those in `seen`.

@@ -1,118 +1,100 @@
 // E lines, one after another: each is held against the one before it, and only where it is smaller against all before it.
-ghost use Rattle.std.specs.Prelude.{◌≡◌, [], map, ◌≤◌, ◌<◌, length, take, drop};
-ghost use Rattle.definitions.specs.Lists.{nth, any};
+ghost use Rattle.std.specs.Prelude.{◌≡◌, [], map, eqb, ◌≤◌, ◌<◌, length, take};
+ghost use Rattle.std.specs.List.{list_any};
+ghost use Rattle.definitions.specs.Lists.{nth};
 ghost use Rattle.definitions.specs.Limits.{document01};
 ghost use Rattle.definitions.specs.Text.{first_of};
-ghost use Rattle.definitions.specs.Job.{Ascends, same_pair, edge_order, edge_line, edge_rule};
-ghost use Rattle.text.specs.Meaning.{step_reading, ruled};
-ghost use Rattle.orders.specs.Edges.{edge_cell, edge_in};
-ghost use Rattle.edges.specs.EdgeLines.{edge_lines, edges_fit};
+ghost use Rattle.definitions.specs.Job.{Ascends, edge_order, edge_line, edge_rule};
+ghost use Rattle.text.specs.Meaning.{reading, due_of, ruled};
+ghost use Rattle.orders.specs.Edges.{edge_cell, edge_in, pair_in};
+ghost use Rattle.edges.specs.EdgeLines.{edge_for, edge_lines};
 
+use lines::reader::Reader;
 use orders::{edge_from, edge_pair, edge_to};
-use text::Step;
-use text::limits::{TASKS, VOLUME};
+use text::limits::VOLUME;
+use text::refusal::Refusal;
 
-// There is room for n edges between v tasks in so many cells.
-pub fn fits(v: u64, n: usize, size: usize) -> bool
-    ensures { result ≡ edges_fit document01 size v n }
-{
-    (v <= TASKS) & (n <= size)
-}
-
-// Some edge has the pair of the edge in a cell.
+// Some cell's edge has the pair of the edge in a cell.
 fn is_repeated(before: &[u64], cell: u64) -> bool
-    ensures { result ≡ any (λ d. same_pair d (edge_in cell)) (map edge_in before.now) }
+    ensures { result ≡ list_any (λ other. eqb (pair_in other) (pair_in cell)) before.now }
 {
     let pair = edge_pair(cell);
-    let mut i = 0;
-    while i < before.len() {
-        if edge_pair(before[i]) == pair {
-            return true;
-        }
-        i += 1;
-    }
-    false
+    before.iter().any(|other| edge_pair(*other) == pair)
 }
 
-// The number of the refusal by the order of edges, of the edge in a cell after some that ascend; or 0. Where it is greater than the last
-// no earlier one has its pair.
-fn check_order(before: &[u64], cell: u64) -> u64
+// Whether the edge in a cell is refused by the order of edges, after some that ascend. Where it is greater than the last no earlier one
+// has its pair.
+fn check_order(before: &[u64], cell: u64) -> Result<(), Refusal>
     requires { Ascends (map edge_in before.now) }
-    ensures { result ≡ first_of (edge_order (map edge_in before.now) (edge_in cell)) }
+    ensures { due_of result ≡ first_of (edge_order (map edge_in before.now) (edge_in cell)) }
 {
     if edge_from(cell) == edge_to(cell) {
-        return 6;
+        return Err(Refusal::RepeatedEdge);
     }
-    let n = before.len();
-    if n == 0 {
-        return 0;
-    }
-    if edge_pair(before[n - 1]) < edge_pair(cell) {
-        return 0;
+    let Some(last) = before.last() else {
+        return Ok(());
+    };
+    if edge_pair(*last) < edge_pair(cell) {
+        return Ok(());
     }
     if is_repeated(before, cell) {
-        return 6;
+        return Err(Refusal::RepeatedEdge);
     }
-    16
+    Err(Refusal::EdgesDescend)
+}
+
+// The numbers of an edge line.
+#[derive(Clone, Copy)]
+struct Edge {
+    from: u64,
+    to: u64,
+    volume: u64,
 }
 
 // An edge in one cell.
-fn cell_of(from: u64, to: u64, volume: u64) -> u64
-    requires { (from < document01.tasks) × (to < document01.tasks) × (volume ≤ document01.volume) }
-    ensures { result ≡ edge_cell (record { from = from; to = to; volume = volume }) }
+fn cell_of(edge: Edge) -> u64
+    requires { (edge.from < document01.tasks) × (edge.to < document01.tasks) × (edge.volume ≤ document01.volume) }
+    ensures { result ≡ edge_cell (edge_for edge) }
 {
-    from + 256 * to + 65536 * volume
+    edge.from + 256 * edge.to + 65536 * edge.volume
 }
 
-// The number of the refusal of an edge after some that ascend, or 0.
-fn check_edge(v: u64, from: u64, to: u64, volume: u64, before: &[u64]) -> u64
+// Whether an edge is refused, after some that ascend.
+#[tactic(auto, unfolding(definitions::specs::Job::edge_rule, definitions::specs::Text::first_of))]
+fn check_edge(v: u64, edge: Edge, before: &[u64]) -> Result<(), Refusal>
     requires { (v ≤ document01.tasks) × Ascends (map edge_in before.now) }
-    ensures { (result ≡ edge_rule document01 v (map edge_in before.now) (record { from = from; to = to; volume = volume }))
-        × (result ≡ 0 → (from < v) × (to < v) × (volume ≤ document01.volume)) }
+    ensures { (due_of result ≡ edge_rule document01 v (map edge_in before.now) (edge_for edge))
+        × (due_of result ≡ 0 → (edge.from < v) × (edge.to < v) × (edge.volume ≤ document01.volume)) }
 {
-    if !(from < v) | !(to < v) | text::outside(0, VOLUME, volume) {
-        return 3;
+    if edge.from >= v || edge.to >= v || text::outside(0, VOLUME, edge.volume) {
+        return Err(Refusal::OutOfRange);
     }
-    check_order(before, cell_of(from, to, volume))
+    check_order(before, cell_of(edge))
 }
 
-// The edge line at `at`, after the i edges in front of `mem`: its cell then stands behind them.
-fn read_edge(s: &[u8], at: usize, v: u64, mem: &mut [u64], i: usize) -> Step
+// The next edge line, after the i edges in front of `mem`: its cell then stands behind them.
+fn read_edge(reader: &mut Reader, v: u64, mem: &mut [u64], i: usize) -> Result<(), Refusal>
     requires { (v ≤ document01.tasks) × (i < length mem.old) × Ascends (map edge_in (take i mem.old)) }
     ensures { (take i mem.new ≡ take i mem.old)
-        × (step_reading s.now (edge_in (nth mem.new i)) result ≡ ruled (edge_line document01) (edge_rule document01 v)
-        (map edge_in (take i mem.old)) (drop at s.now)) }
+        × (reading reader.new (edge_in (nth mem.new i)) result ≡ ruled (edge_line document01) (edge_rule document01 v)
+        (map edge_in (take i mem.old)) reader.old) }
 {
     let mut line = [0u64; 3];
-    match lines::read_line(s, at, b"E,", 3, &mut line) {
-        Step::Next(p) => {
-            let from = line[0];
-            let to = line[1];
-            let volume = line[2];
-            let x = check_edge(v, from, to, volume, &mem[..i]);
-            if x > 0 {
-                return Step::Refused(x);
-            }
-            mem[i] = cell_of(from, to, volume);
-            Step::Next(p)
-        }
-        Step::Refused(x) => Step::Refused(x),
-    }
+    reader.line(b"E,", 3, &mut line)?;
+    let [from, to, volume] = line;
+    let edge = Edge { from, to, volume };
+    check_edge(v, edge, &mem[..i])?;
+    mem[i] = cell_of(edge);
+    Ok(())
 }
 
 // n edge lines, kept from the front of `mem` on, one cell each.
-pub fn fill_edges(s: &[u8], at: usize, v: u64, n: usize, mem: &mut [u64]) -> Step
+pub fn fill_edges(reader: &mut Reader, v: u64, n: usize, mem: &mut [u64]) -> Result<(), Refusal>
     requires { (v ≤ document01.tasks) × (n ≤ length mem.old) }
-    ensures { step_reading s.now (map edge_in (take n mem.new)) result ≡ edge_lines document01 v n [] (drop at s.now) }
+    ensures { reading reader.new (map edge_in (take n mem.new)) result ≡ edge_lines document01 v n [] reader.old }
 {
-    let mut i = 0;
-    let mut p = at;
-    while i < n {
-        match read_edge(s, p, v, mem, i) {
-            Step::Next(next) => p = next,
-            Step::Refused(x) => return Step::Refused(x),
-        }
-        i += 1;
+    for i in 0..n {
+        read_edge(reader, v, mem, i)?;
     }
-    Step::Next(p)
+    Ok(())
 }

@@ -1,22 +1,25 @@
 // E lines: each edge in one cell.
 #![tactic(auto)]
 
-ghost use Rattle.std.specs.Prelude.{◌≡◌, map, length, take, drop};
+ghost use Rattle.std.specs.Prelude.{◌≡◌, map, length, take};
 ghost use Rattle.definitions.specs.Limits.{document01};
-ghost use Rattle.text.specs.Meaning.{step_reading};
+ghost use Rattle.text.specs.Meaning.{reading};
 ghost use Rattle.orders.specs.Edges.{edge_in};
 ghost use Rattle.edges.specs.EdgeLines.{edges_into};
 
-use text::Step;
+use lines::reader::Reader;
+use text::limits::TASKS;
+use text::refusal::Refusal;
 
 mod edge;
 
 // n edge lines, kept from the front of `mem` on, one cell each. 8 if there are more than the most tasks, or fewer cells than edges.
-pub fn read_edges(s: &[u8], at: usize, v: u64, n: usize, mem: &mut [u64]) -> Step
-    ensures { step_reading s.now (map edge_in (take n mem.new)) result ≡ edges_into document01 (length mem.old) v n (drop at s.now) }
+#[tactic(auto, unfolding(crate::specs::EdgeLines::edges_into))]
+pub fn read_edges(reader: &mut Reader, v: u64, n: usize, mem: &mut [u64]) -> Result<(), Refusal>
+    ensures { reading reader.new (map edge_in (take n mem.new)) result ≡ edges_into document01 (length mem.old) v n reader.old }
 {
-    if edge::fits(v, n, mem.len()) {
-        return edge::fill_edges(s, at, v, n, mem);
+    if v > TASKS || n > mem.len() {
+        return Err(Refusal::NoRoom);
     }
-    Step::Refused(8)
+    edge::fill_edges(reader, v, n, mem)
 }

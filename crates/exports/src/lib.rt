@@ -1,27 +1,35 @@
 // The library for C and Rust: numbers and byte slices.
 #![tactic(auto)]
 
-ghost use Rattle.std.specs.Prelude.{length};
+ghost use Rattle.std.specs.Prelude.{List, ℕ, length};
 ghost use Rattle.definitions.specs.Claims.{Bears, Breaks};
 ghost use Rattle.definitions.specs.Limits.{document01};
+ghost use Rattle.definitions.specs.Text as Text;
 ghost use Rattle.definitions.specs.Tools.{plan_answer, verdict, replay_answer};
-ghost use Rattle.jobs.specs.Answers.{job_answer};
+ghost use Rattle.jobs.specs.Answers.{Answered, job_answer};
 ghost use Rattle.exports.specs.Exported.{Exported, ExportedVerdict};
 
-use mirguneth::{Answer, Checked};
+use mirguneth::{Fault, Refusal};
+
+// A tool's answer in numbers: 0 with the count written, or the number of the refusal.
+fn in_numbers(answer: Result<usize, Refusal>, written: &mut u64) -> u64
+    ensures { (x : Text.Result (List ℕ)) (d e : List ℕ) → Answered x d e answer → Exported x d e written.old written.new result }
+{
+    match answer {
+        Ok(n) => {
+            *written = n as u64;
+            0
+        }
+        Err(refusal) => u64::from(refusal),
+    }
+}
 
 // A job's text in cells: 0 with the number of cells written, or the number of the refusal.
 #[unsafe(no_mangle)]
 pub extern "C" fn mirguneth_read_job(text: &[u8], cells: &mut [u64], written: &mut u64) -> u64
     ensures { Exported (job_answer document01 text.now (length cells.old)) cells.old cells.new written.old written.new result }
 {
-    match mirguneth::read_job(text, cells) {
-        Answer::Done(count) => {
-            *written = count as u64;
-            0
-        }
-        Answer::Refusal(z) => z,
-    }
+    in_numbers(mirguneth::read_job(text, cells), written)
 }
 
 // The plan for a job: 0 with the number of bytes written, or the number of the refusal.
@@ -29,13 +37,7 @@ pub extern "C" fn mirguneth_read_job(text: &[u8], cells: &mut [u64], written: &m
 pub extern "C" fn mirguneth_plan(job: &[u8], out: &mut [u8], written: &mut u64) -> u64
     ensures { Exported (plan_answer document01 job.now (length out.old)) out.old out.new written.old written.new result }
 {
-    match mirguneth::plan(job, out) {
-        Answer::Done(n) => {
-            *written = n as u64;
-            0
-        }
-        Answer::Refusal(x) => x,
-    }
+    in_numbers(mirguneth::plan(job, out), written)
 }
 
 // A plan held against its job: 0, or 12 with a task that has two replicas on one processor, or another number.
@@ -45,12 +47,12 @@ pub extern "C" fn mirguneth_check(job: &[u8], plan: &[u8], task: &mut u64) -> u6
     ensures breaks { Breaks job.now plan.now }
 {
     match mirguneth::check(job, plan) {
-        Checked::Accepted => 0,
-        Checked::Doubled(t) => {
-            *task = t as u64;
+        Ok(()) => 0,
+        Err(Fault::Doubled(t)) => {
+            *task = u64::from(t);
             12
         }
-        Checked::Refused(x) => x,
+        Err(Fault::Refused(x)) => u64::from(x),
     }
 }
 
@@ -67,11 +69,5 @@ pub extern "C" fn mirguneth_replay(
         out.new written.old written.new result }
     ensures bears { Bears job.now plan.now stops.now }
 {
-    match mirguneth::replay(job, plan, stops, out) {
-        Answer::Done(k) => {
-            *written = k as u64;
-            0
-        }
-        Answer::Refusal(y) => y,
-    }
+    in_numbers(mirguneth::replay(job, plan, stops, out), written)
 }

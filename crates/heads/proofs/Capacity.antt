@@ -1,9 +1,9 @@
 -- The capacity that a job needs.
 use Rattle.std.specs.Prelude.{if◌then◌else◌}
-use Rattle.lists.proofs.Prelude.{◌≡◌, refl, Bool, true, false, ◌&&◌, ℕ, ◌+◌, ◌*◌, ◌<◌, ◌≤◌, arith, mul-le-mul, leb-true, le-leb, lt-leb, eqb-true, eq-eqb, leb, eqb, Limits, document01, JobHead, job_head_rule}
+use Rattle.lists.proofs.Prelude.{◌≡◌, refl, Bool, true, false, ℕ, ◌+◌, ◌≤◌, arith, mul-le-mul, leb-true, le-leb, eqb-true, eq-eqb, Limits, document01, JobHead, job_head_rule}
 use Rattle.definitions.proofs.Lists.{both, both_true}
 use Rattle.definitions.proofs.Reading.{job_head_parts}
-use Rattle.heads.specs.Layout.{memory_size, links_room, job_size, cells_for, FitsIn, has_room, capacity_for, largest}
+use Rattle.heads.specs.Layout.{memory_size, links_room, FitsIn, has_room, capacity_for, largest}
 use Rattle.heads.specs.Heads.{roomy}
 
 -- The largest job of document 01 fits a memory of capacity 32.
@@ -31,33 +31,7 @@ module _ (capacity : ℕ) (h : JobHead) where
   unfolding has_room
   fits_room (a, b, c) = both_true (both_true (le-leb _ _ a) (le-leb _ _ b)) (le-leb _ _ c)
 
-  pub many_tasks : 8 * capacity < h.tasks → false ≡ has_room capacity h
-  unfolding has_room
-  many_tasks a = rw (lt-leb h.tasks (8 * capacity) a)
-
-  module _ (a : h.tasks ≤ 8 * capacity) where
-    pub many_edges : 32 * capacity < h.edges → false ≡ has_room capacity h
-    unfolding has_room
-    many_edges b = rw (le-leb h.tasks (8 * capacity) a, lt-leb h.edges (32 * capacity) b)
-
-    module _ (b : h.edges ≤ 32 * capacity) where
-      pub many_cells : job_size capacity < cells_for h → false ≡ has_room capacity h
-      unfolding has_room
-      many_cells c = rw (le-leb h.tasks (8 * capacity) a, le-leb h.edges (32 * capacity) b, lt-leb (cells_for h) (job_size capacity) c)
-
-      pub few_cells : leb (cells_for h) (job_size capacity) ≡ has_room capacity h
-      unfolding has_room
-      few_cells = rw (le-leb h.tasks (8 * capacity) a, le-leb h.edges (32 * capacity) b)
-
-      pub many_processors : capacity ≤ 32 → 5664 < h.processors → false ≡ has_room capacity h
-      many_processors r c =
-          many_cells (omega (arith, mul-le-mul {n₁ = h.processors} {m₁ = 1} {n₂ = h.tasks + h.processors} {m₂ = h.processors + 1} (omega arith) (omega arith), r, c))
-
 -- The capacity that a job is given is 1, 2, 8 or 32.
-pub capacity_tried : (h : JobHead) → capacity_for h ≡ (if has_room 1 h then 1 else (if has_room 2 h then 2 else (if has_room 8 h then 8 else 32)))
-unfolding capacity_for
-capacity_tried h = refl
-
 capacity_cases : (h : JobHead) (P : ℕ → Type 0) → (has_room 1 h ≡ true → P 1) → (has_room 2 h ≡ true → P 2) → (has_room 8 h ≡ true → P 8) → P 32 → P (capacity_for h)
 unfolding capacity_for
 capacity_cases h P = by (has_room 1 h) (has_room 2 h) (has_room 8 h)
@@ -85,11 +59,3 @@ module _ (capacity size links : ℕ) (h : JobHead) where
   pub roomy_made : capacity ≤ 32 → size ≡ memory_size capacity → links_room capacity ≤ links → FitsIn capacity h → roomy capacity size links h ≡ true
   unfolding roomy
   roomy_made a b c d = both_true (both_true (both_true (le-leb _ _ a) (eq-eqb _ _ b)) (le-leb _ _ c)) (fits_room capacity h d)
-
-  pub beyond_capacity : 32 < capacity → false ≡ roomy capacity size links h
-  unfolding roomy
-  beyond_capacity a = rw (lt-leb capacity 32 a)
-
-  pub within_capacity : capacity ≤ 32 → (eqb size (memory_size capacity) && leb (links_room capacity) links && has_room capacity h) ≡ roomy capacity size links h
-  unfolding roomy
-  within_capacity a = rw (le-leb capacity 32 a)

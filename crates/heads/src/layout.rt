@@ -7,6 +7,7 @@ ghost use Rattle.heads.specs.Layout.{numbers_at};
 pub fn numbers_at(m: u32, r: u32) -> usize
     ensures { result ≡ numbers_at m r }
 {
+    // Kept: `usize` has no From<u32>, and `try_from`, no plainer, would add a case that never comes.
     4 + r as usize * (1 + m as usize)
 }
 
@@ -14,7 +15,7 @@ pub fn numbers_at(m: u32, r: u32) -> usize
 pub fn edges_at(v: u16, m: u16) -> usize
     ensures { result ≡ numbers_at m (v + m) }
 {
-    numbers_at(m as u32, v as u32 + m as u32)
+    numbers_at(u32::from(m), u32::from(v) + u32::from(m))
 }
 
 // How many cells there are.

@@ -5,17 +5,19 @@ ghost use Rattle.std.specs.Prelude.{◌≡◌};
 ghost use Rattle.definitions.specs.Limits.{document01};
 ghost use Rattle.definitions.specs.Job.{job_head_rule};
 ghost use Rattle.heads.specs.Layout.{capacity_for};
+ghost use Rattle.text.specs.Meaning.{due_of};
 ghost use Rattle.heads.specs.Heads.{head_of, HeadRead, roomy};
 
 use crate::layout::{LINKS, MEMORY};
-use text::Step;
+use lines::reader::Reader;
 use text::limits::{EDGES, LOSSES, PROCESSORS, TASKS, TEXT_LENGTH};
+use text::refusal::Refusal;
 
 pub mod layout;
 mod room;
 
 // The numbers of a job's head.
-#[derive(Clone, Copy)]
+#[derive(Clone, Copy, Debug, PartialEq, Eq)]
 pub struct Head {
     pub tasks: u64,
     pub processors: u64,
@@ -23,78 +25,70 @@ pub struct Head {
     pub losses: u64,
 }
 
-// A job's head and the place after it, or the number of the refusal.
-#[derive(Clone, Copy)]
-pub enum Opening {
-    Opened(Head, usize),
-    Refused(u64),
+// A job's text whose head was read: the head, and a reader of what is left.
+#[derive(Drop)]
+pub struct Opened<'a> {
+    pub head: Head,
+    pub rest: Reader<'a>,
 }
 
-// The number of the refusal of a job's head, or 0.
-pub fn head_rule(head: Head) -> u64
-    ensures { result ≡ job_head_rule document01 (head_of head) }
+// Whether a job's head is refused.
+#[tactic(auto, unfolding(definitions::specs::Job::job_head_rule, definitions::specs::Text::first_of))]
+pub fn head_rule(head: Head) -> Result<(), Refusal>
+    ensures { due_of result ≡ job_head_rule document01 (head_of head) }
 {
-    let tasks = text::outside(1, TASKS, head.tasks);
-    let processors = text::outside(1, PROCESSORS, head.processors);
-    let edges = text::outside(0, EDGES, head.edges);
-    let losses = text::outside(0, LOSSES, head.losses);
-    if tasks | processors | edges | losses {
-        return 3;
+    if text::outside(1, TASKS, head.tasks)
+        || text::outside(1, PROCESSORS, head.processors)
+        || text::outside(0, EDGES, head.edges)
+        || text::outside(0, LOSSES, head.losses)
+    {
+        return Err(Refusal::OutOfRange);
     }
     if head.processors < head.losses + 1 {
-        return 4;
+        return Err(Refusal::TooFewProcessors);
     }
-    0
+    Ok(())
 }
 
-// A job's head.
-pub fn read_head(s: &[u8]) -> Opening
+// A job's text, opened.
+pub fn read_head(s: &[u8]) -> Result<Opened<'_>, Refusal>
     ensures { HeadRead document01 s.now result }
 {
     if s.len() > TEXT_LENGTH {
-        return Opening::Refused(1);
+        return Err(Refusal::TooLong);
     }
+    let mut rest = Reader::new(s);
     let mut line = [0u64; 4];
-    match lines::read_line(s, 0, b"JOB,", 4, &mut line) {
-        Step::Next(at) => {
-            let head = Head {
-                tasks: line[0],
-                processors: line[1],
-                edges: line[2],
-                losses: line[3],
-            };
-            let x = head_rule(head);
-            if x > 0 {
-                return Opening::Refused(x);
-            }
-            Opening::Opened(head, at)
-        }
-        Step::Refused(n) => Opening::Refused(n),
-    }
+    rest.line(b"JOB,", 4, &mut line)?;
+    let [tasks, processors, edges, losses] = line;
+    let head = Head {
+        tasks,
+        processors,
+        edges,
+        losses,
+    };
+    head_rule(head)?;
+    Ok(Opened { head, rest })
 }
 
 // The capacity of a memory for a job with this head: 1, 2, 8 or 32.
+#[tactic(auto, unfolding(crate::specs::Layout::capacity_for))]
 pub fn capacity_for(head: Head) -> usize
     ensures { result ≡ capacity_for (head_of head) }
 {
-    if room::fits(head, 1) {
-        return 1;
-    }
-    if room::fits(head, 2) {
-        return 2;
-    }
-    if room::fits(head, 8) {
-        return 8;
-    }
-    32
+    [1, 2, 8]
+        .into_iter()
+        .find(|capacity| room::fits(head, *capacity))
+        .unwrap_or(32)
 }
 
 // A memory of so many cells has this capacity, the one for the links beside it too, and a job with this head fits it.
+#[tactic(auto, unfolding(crate::specs::Heads::roomy))]
 pub fn roomy(head: Head, size: usize, links: usize, capacity: usize) -> bool
     ensures { result ≡ roomy capacity size links (head_of head) }
 {
-    if capacity > 32 {
+    if capacity > 32 || size != MEMORY * capacity || links < LINKS * capacity {
         return false;
     }
-    (size == MEMORY * capacity) & (LINKS * capacity <= links) & room::fits(head, capacity)
+    room::fits(head, capacity)
 }

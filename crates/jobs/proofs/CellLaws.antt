@@ -1,6 +1,8 @@
 -- The cells of a job in memory: rows with their number in front, edges, and the front of a memory whose rest was lent.
-use Rattle.lists.proofs.Prelude.{◌≡◌, refl, ap, ◌∙◌, sym, List, [], ◌∷◌, ◌++◌, map, append_assoc, append-nil, ℕ, zero, suc, ◌+◌, ◌-◌, ◌*◌, ◌<◌, ◌≤◌, arith, zero-mul, suc-mul, add-mul, mul-le-mul, eqb-true, not-false, lt-ltb, length, take, drop, length-append, length-map, length-take, length-drop, take-add, take-take, length-take-le, get_or-take, bytes, nth, Limits, found, line, lines, run_rule, delay_rule, edge_line, edge_rule, job_head_of}
+use Rattle.lists.proofs.Prelude.{◌≡◌, refl, ap, ◌∙◌, sym, List, [], ◌∷◌, ◌++◌, map, append-nil, ℕ, zero, suc, ◌+◌, ◌-◌, ◌*◌, ◌<◌, ◌≤◌, arith, zero-mul, suc-mul, add-mul, mul-le-mul, eqb-true, not-false, lt-ltb, length, take, drop, length-append, length-map, length-take, length-drop, take-add, take-take, length-take-le, get_or-take, bytes, nth, Limits, found, line, lines, run_rule, delay_rule, edge_line, edge_rule, job_head_of}
 use borrow.Rule.Slice.PartMut.{mid_of, put_mid, take_put, mid_len, same_len_mid}
+use Rattle.std.specs.List.{concat}
+use Rattle.std.proofs.lemmas.List.Folds.{concat-append}
 use Rattle.definitions.proofs.Lists.{passed}
 use Rattle.definitions.proofs.Reading.{Ruled, lines_found, line_found}
 use Rattle.orders.specs.Edges.{edge_cell, edge_in}
@@ -24,22 +26,12 @@ cells_of (c ∷ cs) = rw (cell_of_edge c, cells_of cs)
 
 -- Rows ----------------------------------------------------------------------------------------------------------
 
--- Rows one after another.
-unfoldable joined : List (List ℕ) → List ℕ
-joined [] = []
-joined (r ∷ rs) = r ++ joined rs
-
-joined_append : (xs ys : List (List ℕ)) → joined (xs ++ ys) ≡ joined xs ++ joined ys
-unfolding joined
-joined_append [] ys = refl
-joined_append (x ∷ xs) ys = rw (joined_append xs ys) (sym (append_assoc x (joined xs) (joined ys)))
-
-rows_joined : (k n : ℕ) (mem : List ℕ) → joined (rows k n mem) ≡ take (n * k) mem
-unfolding joined rows
-rows_joined k zero mem = rw zero-mul
-rows_joined k (suc n) mem =
-    joined_append (rows k n mem) (take k (drop (n * k) mem) ∷ [])
-    ∙ rw (rows_joined k n mem, append-nil, suc-mul) (sym (take-add (n * k) k mem))
+rows_concat : (k n : ℕ) (mem : List ℕ) → concat (rows k n mem) ≡ take (n * k) mem
+unfolding rows
+rows_concat k zero mem = rw zero-mul
+rows_concat k (suc n) mem =
+    concat-append (rows k n mem) (take k (drop (n * k) mem) ∷ [])
+    ∙ rw (rows_concat k n mem, append-nil, suc-mul) (sym (take-add (n * k) k mem))
 
 -- The first number of a row by its rule.
 turn : (l : Limits) (kind : Kind) (seen : List (List ℕ)) (vs : List ℕ) → rule_of l kind seen vs ≡ 0 → nth vs 0 ≡ length seen
@@ -54,8 +46,8 @@ front n (v ∷ vs) h e = rw e
 module _ (l : Limits) (kind : Kind) (opening : List ℕ) (m : ℕ) where
   -- Rows that were read after those in `seen`.
   ruled_numbered : (seen xs : List (List ℕ)) → Ruled (line l opening (1 + m)) (rule_of l kind) seen xs
-      → numbered (length seen) (map (drop 1) xs) ≡ joined xs
-  unfolding numbered joined
+      → numbered (length seen) (map (drop 1) xs) ≡ concat xs
+  unfolding numbered
   ruled_numbered seen [] w = refl
   ruled_numbered seen (x ∷ xs) ((s, r, f), z, w) =
       let k : length x ≡ 1 + m = line_found l opening (1 + m) s x r f in
@@ -70,26 +62,42 @@ module _ (l : Limits) (kind : Kind) (opening : List ℕ) (m : ℕ) where
       → numbered 0 (map (drop 1) (rows (1 + m) n mem)) ≡ take (n * (1 + m)) mem
   rows_numbered n mem s r f =
       let (ys, q, _, w) = lines_found (line l opening (1 + m)) (rule_of l kind) n [] s (rows (1 + m) n mem) r f in
-      ap (λ (xs : List (List ℕ)). numbered 0 (map (drop 1) xs)) q ∙ ruled_numbered [] ys w ∙ ap joined (sym q) ∙ rows_joined (1 + m) n mem
+      ap (λ (xs : List (List ℕ)). numbered 0 (map (drop 1) xs)) q ∙ ruled_numbered [] ys w ∙ ap concat (sym q) ∙ rows_concat (1 + m) n mem
 
 -- The rest of a memory was lent -----------------------------------------------------------------------------------
 
--- d from a on was lent and came back as ys; x is the memory then.
-module _ (d x ys : List ℕ) (a : ℕ) (e : x ≡ put_mid a (length d - a) d ys) (h : a ≤ length d) where
-  lent_front : take a x ≡ take a d
-  lent_front = rw e (take_put a (length d - a) d ys h)
+-- The memory d from a on was lent, `&mut d[a..]`, and holds ys now.
+module _ (d ys : List ℕ) (a : ℕ) (h : a ≤ length d) where
+  abbrev new : List ℕ
+  new = put_mid a (length d - a) d ys
 
-  lent_cells : (n : ℕ) → take (a + n) x ≡ take a d ++ take n ys
-  lent_cells n = let q : drop a x ≡ ys = rw e (drop_lent a d ys h) in take-add a n x ∙ rw (lent_front, q)
+  lent_cells : (n : ℕ) → take (a + n) new ≡ take a d ++ take n ys
+  lent_cells n = take-add a n new ∙ rw (take_put a (length d - a) d ys h, drop_lent a d ys h)
 
-  lent_take : (n : ℕ) → n ≤ a → take n x ≡ take n d
-  lent_take n g = sym (take-take n a x g) ∙ ap (take n) lent_front ∙ take-take n a d g
+  lent_take : (n : ℕ) → n ≤ a → take n new ≡ take n d
+  lent_take n g = sym (take-take n a new g) ∙ ap (take n) (take_put a (length d - a) d ys h) ∙ take-take n a d g
 
-  lent_nth : (i : ℕ) → i < a → nth x i ≡ nth d i
-  lent_nth i g = sym (get_or-take a x i 0 g) ∙ ap (λ (l : List ℕ). nth l i) lent_front ∙ get_or-take a d i 0 g
+  lent_nth : (i : ℕ) → i < a → nth new i ≡ nth d i
+  lent_nth i g = sym (get_or-take a new i 0 g) ∙ ap (λ (l : List ℕ). nth l i) (take_put a (length d - a) d ys h) ∙ get_or-take a d i 0 g
 
-  pub lent_head : 4 ≤ a → job_head_of x ≡ job_head_of d
-  lent_head g = rw (lent_nth 0 (omega arith), lent_nth 1 (omega arith), lent_nth 2 (omega arith), lent_nth 3 (omega arith))
+  -- The head stays.
+  module _ (g : 4 ≤ a) where
+    pub lent_head : job_head_of new ≡ job_head_of d
+    lent_head = rw (lent_nth 0 (omega arith), lent_nth 1 (omega arith), lent_nth 2 (omega arith), lent_nth 3 (omega arith))
+
+    pub lent_headed : {l : Limits} {size : ℕ} → length ys ≡ length (mid_of a (length d - a) d) → Headed l d size → Headed l new size
+    lent_headed k w =
+        let v = lent_nth 0 (omega arith) in
+        let m = lent_nth 1 (omega arith) in
+        let n = lent_nth 2 (omega arith) in
+        record {
+          some_task = rw v w.some_task;
+          tasks_most = rw v w.tasks_most;
+          processors_most = rw m w.processors_most;
+          edges_most = rw n w.edges_most;
+          room = rw (v, m, n, same_len_mid a (length d - a) d ys k) w.room;
+          links_room = rw (v, n) w.links_room;
+        }
 
 -- A job's cells, stage by stage -------------------------------------------------------------------------------------
 
@@ -99,10 +107,6 @@ module _ {l : Limits} {n : ℕ} {d : List ℕ} (w : Headed l d n) where
 
   delays_most : nth d 1 * (1 + nth d 1) ≤ l.processors * (1 + l.processors)
   delays_most = mul-le-mul {n₁ = nth d 1} {m₁ = 1 + nth d 1} {n₂ = l.processors} {m₂ = 1 + l.processors} w.processors_most (omega arith)
-
-  pub rows_most : edges_at (job_head_of d) ≤ edges_at (largest l)
-  rows_most =
-      omega (arith, mul-le-mul {n₁ = nth d 0 + nth d 1} {m₁ = 1 + nth d 1} {n₂ = l.tasks + l.processors} {m₂ = 1 + l.processors} (omega arith) (omega arith))
 
 -- There is room for the C lines after the head, for the D lines after them, and for the E lines after those.
 module _ {l : Limits} {size : ℕ} (d : List ℕ) (w : Headed l d size) (opening s : List ℕ) where
@@ -130,62 +134,44 @@ head_cells (a ∷ b ∷ []) h = absurd (omega arith)
 head_cells (a ∷ b ∷ c ∷ []) h = absurd (omega arith)
 head_cells (a ∷ b ∷ c ∷ e ∷ d) h = refl
 
--- A head stays while the cells after it are lent.
-pub lent_headed : {l : Limits} {size : ℕ} (d x ys : List ℕ) (a : ℕ) → x ≡ put_mid a (length d - a) d ys → length ys ≡ length (mid_of a (length d - a) d) → 4 ≤ a → a ≤ length d
-    → Headed l d size → Headed l x size
-lent_headed d x ys a e k g h w =
-    let same = lent_nth d x ys a e h in
-    let v = same 0 (omega arith) in
-    let m = same 1 (omega arith) in
-    let n = same 2 (omega arith) in
-    let size : length x ≡ length d = rw (e, same_len_mid a (length d - a) d ys k) in
-    record {
-      some_task = rw v w.some_task;
-      tasks_most = rw v w.tasks_most;
-      processors_most = rw m w.processors_most;
-      edges_most = rw n w.edges_most;
-      room = rw (v, m, n, size) w.room;
-      links_room = rw (v, n) w.links_room;
-    }
-
--- The memory d, with a head: its cells from a stage on were lent and came back as ys, and x is the memory then.
-module _ {l : Limits} {size : ℕ} (d x ys : List ℕ) (w : Headed l d size) where
+-- The memory d, with a head: its cells from a stage on were lent and hold ys now.
+module _ {l : Limits} {size : ℕ} (d ys : List ℕ) (w : Headed l d size) where
   -- The C lines were read.
-  pub runs_in : x ≡ put_mid 4 (length d - 4) d ys → (s r : List ℕ)
-      → lines (line l (bytes "C,") (1 + nth d 1)) (rule_of l Runs) (nth d 0) [] s ≡ found (rows (1 + nth d 1) (nth d 0) ys) r
-      → RunsIn x (map (drop 1) (rows (1 + nth d 1) (nth d 0) ys))
-  runs_in e s r f =
-      let h : 4 ≤ length d = omega arith in
-      let same = lent_nth d x ys 4 e h in
+  pub runs_in : (s r : List ℕ) → lines (line l (bytes "C,") (1 + nth d 1)) (rule_of l Runs) (nth d 0) [] s ≡ found (rows (1 + nth d 1) (nth d 0) ys) r
+      → RunsIn (put_mid 4 (length d - 4) d ys) (map (drop 1) (rows (1 + nth d 1) (nth d 0) ys))
+  runs_in s r f =
+      let h : 4 ≤ length d = omega (arith, w.room) in
+      let same = lent_nth d ys 4 h in
       let numbers = rows_numbered l Runs (bytes "C,") (nth d 1) (nth d 0) ys s r f in
-      rw (same 0 (omega arith), same 1 (omega arith), lent_take d x ys 4 e h 4 (omega arith), numbers) (lent_cells d x ys 4 e h (nth d 0 * (1 + nth d 1)))
+      rw (same 0 (omega arith), same 1 (omega arith), lent_take d ys 4 h 4 (omega arith), numbers) (lent_cells d ys 4 h (nth d 0 * (1 + nth d 1)))
 
   -- The D lines were read.
-  pub delays_in : {a : ℕ} → a ≡ delays_at (job_head_of d) → (runs : List (List ℕ)) → RunsIn d runs → x ≡ put_mid a (length d - a) d ys → (s r : List ℕ)
+  pub delays_in : {a : ℕ} → a ≡ delays_at (job_head_of d) → (runs : List (List ℕ)) → RunsIn d runs → (s r : List ℕ)
       → lines (line l (bytes "D,") (1 + nth d 1)) (rule_of l Delays) (nth d 1) [] s ≡ found (rows (1 + nth d 1) (nth d 1) ys) r
-      → DelaysIn x runs (map (drop 1) (rows (1 + nth d 1) (nth d 1) ys))
-  delays_in {a} p runs q e s r f =
+      → DelaysIn (put_mid a (length d - a) d ys) runs (map (drop 1) (rows (1 + nth d 1) (nth d 1) ys))
+  delays_in {a} p runs q s r f =
       let h : a ≤ length d = omega (arith, p, runs_most w) in
       let u : edges_at (job_head_of d) ≡ a + nth d 1 * (1 + nth d 1) = omega (arith, p, add-mul (nth d 0) (nth d 1) (1 + nth d 1)) in
-      let same = lent_nth d x ys a e h in
+      let same = lent_nth d ys a h in
       let numbers = rows_numbered l Delays (bytes "D,") (nth d 1) (nth d 1) ys s r f in
-      rw (same 0 (omega arith), same 1 (omega arith), lent_take d x ys a e h 4 (omega arith), numbers, u, ← q, ← p) (lent_cells d x ys a e h (nth d 1 * (1 + nth d 1)))
+      rw (same 0 (omega arith), same 1 (omega arith), lent_take d ys a h 4 (omega arith), numbers, u, ← q, ← p) (lent_cells d ys a h (nth d 1 * (1 + nth d 1)))
 
   -- The E lines were read.
-  module _ {a : ℕ} (p : a ≡ edges_at (job_head_of d)) (e : x ≡ put_mid a (length d - a) d ys) (k : length ys ≡ length (mid_of a (length d - a) d)) where
-    pub edges_fit_lem : a + nth d 2 ≤ length x
-    edges_fit_lem = rw e (omega (arith, p, rows_most w, same_len_mid a (length d - a) d ys k))
+  module _ {a : ℕ} (p : a ≡ edges_at (job_head_of d)) where
+    edges_place : a ≤ length d
+    edges_place = omega (arith, p, w.room)
 
-    pub edges_part : take (a + nth d 2 - a) (drop a x) ≡ take (nth d 2) ys
-    edges_part =
-        let m : a + nth d 2 - a ≡ nth d 2 = omega arith in
-        rw (m, e, drop_lent a d ys (omega (arith, p, rows_most w)))
+    pub edges_part : take (a + nth d 2 - a) (drop a (put_mid a (length d - a) d ys)) ≡ take (nth d 2) ys
+    edges_part = let m : a + nth d 2 - a ≡ nth d 2 = omega arith in rw (m, drop_lent a d ys edges_place)
 
-    pub edges_in : (runs delays : List (List ℕ)) → DelaysIn d runs delays
-        → take (a + nth d 2) x ≡ job_cells (job_of (job_head_of d) runs delays (map edge_in (take (nth d 2) ys)))
-    unfolding job_cells
-    edges_in runs delays q =
-        let r = rows_most w in
-        let g : nth d 2 ≤ length ys = omega (arith, mid_len a (length d) d (omega arith)) in
-        let n : length (map edge_in (take (nth d 2) ys)) ≡ nth d 2 = length-map (take (nth d 2) ys) edge_in ∙ length-take-le (nth d 2) ys g in
-        lent_cells d x ys a e (omega arith) (nth d 2) ∙ rw (p, q, head_cells d (omega arith), n, cells_of)
+    module _ (k : length ys ≡ length (mid_of a (length d - a) d)) where
+      pub edges_fit_lem : a + nth d 2 ≤ length (put_mid a (length d - a) d ys)
+      edges_fit_lem = omega (arith, p, w.room, same_len_mid a (length d - a) d ys k)
+
+      pub edges_in : (runs delays : List (List ℕ)) → DelaysIn d runs delays
+          → take (a + nth d 2) (put_mid a (length d - a) d ys) ≡ job_cells (job_of (job_head_of d) runs delays (map edge_in (take (nth d 2) ys)))
+      unfolding job_cells
+      edges_in runs delays q =
+          let g : nth d 2 ≤ length ys = omega (arith, p, w.room, mid_len a (length d) d (omega arith)) in
+          let n : length (map edge_in (take (nth d 2) ys)) ≡ nth d 2 = length-map (take (nth d 2) ys) edge_in ∙ length-take-le (nth d 2) ys g in
+          lent_cells d ys a edges_place (nth d 2) ∙ rw (p, q, head_cells d (omega (arith, w.room)), n, cells_of)

@@ -2,7 +2,7 @@
 use Rattle.lists.proofs.Prelude.{◌≡◌, refl, ap, ◌∙◌, sym, inl, inr, List, [], ◌∷◌, ◌++◌, map, append_assoc, append-nil, ℕ, zero, suc, ◌+◌, ◌*◌, ◌-◌, ◌<◌, ◌≤◌, arith, add-mul, suc-mul, zero-mul, length, get_or, take, length-append, length-take, length-map, List·getD-append, List·getD-map, get_or-take, ext_get_or, nth, In, below, Limits, good, Edge, Job, JobHead, job_head_rule, outgoing, incoming, JobFacts}
 use lib.Seq.{get_or-append-add}
 use Rattle.definitions.proofs.Lists.{length_count}
-use Rattle.text.specs.declared.Step.TheVariants.{Next}
+use Rattle.std.specs.Prelude.{Ok}
 use Rattle.orders.specs.Edges.{edge_cell, edge_in}
 use Rattle.orders.specs.Links.{Linked}
 use Rattle.orders.proofs.RunLaws.{run_same}
@@ -198,7 +198,7 @@ module _ (j : Job) (mem : List ℕ) (w : JobShape j) (e : take (length (job_cell
       edge_cell_lem a i l = let z : edges_at heading + a + i ≡ edges_at heading + (a + i) = omega arith in rw z (edge_at (a + i) l)
 
 -- After a good answer of the reader the memory holds the job of the head and the text, and the links are its links.
-pub loaded_in : {l : Limits} → Suited l → (h : JobHead) (s mem links : List ℕ) (n : ℕ) → job_head_rule l h ≡ 0 → Loaded (closed (from_runs l h s)) mem links (Next n)
+pub loaded_in : {l : Limits} → Suited l → (h : JobHead) (s mem links : List ℕ) (n : ℕ) → job_head_rule l h ≡ 0 → Loaded (closed (from_runs l h s)) mem links (Ok n)
     → (closed (from_runs l h s) ≡ good (job_in mem)) × JobFacts l (job_in mem) × LinksHeld mem links
 loaded_in {l} u h s mem links n z a =
     let (j, g, k, c, r) = loaded_next (closed (from_runs l h s)) mem links n a in

@@ -1,84 +1,67 @@
 // A job's text, read into lent cells by way of a memory on the stack.
-ghost use Rattle.std.specs.Prelude.{◌≡◌, ◌≤◌, length, take};
+ghost use Rattle.std.specs.Prelude.{◌≡◌, ◌≤◌, length};
 ghost use Rattle.definitions.specs.Limits.{document01};
-ghost use Rattle.lists.specs.Over.{over};
-ghost use Rattle.orders.specs.Links.{links_size};
-ghost use Rattle.heads.specs.Heads.{head_of, HeadRead};
-ghost use Rattle.heads.specs.Layout.{cells_for, FitsIn};
-ghost use Rattle.heads.specs.declared.Opening.TheVariants.{Opened};
-ghost use Rattle.jobs.specs.Answers.{Answered, job_answer};
+ghost use Rattle.definitions.specs.Job.{job_head_rule};
+ghost use Rattle.heads.specs.Heads.{head_of};
+ghost use Rattle.heads.specs.Layout.{job_size, links_room};
+ghost use Rattle.jobs.specs.Answers.{Answered, cells_answer};
+ghost use Rattle.jobs.specs.Stages.{Admitted, rest_of};
 
-use crate::{Answer, job};
-use heads::Head;
-use text::Step;
+use crate::job;
+use heads::{Opened, layout};
+use text::refusal::Refusal;
 
-// The first n cells of `from`, copied to the front of `cells`.
-fn copy_cells(cells: &mut [u64], from: &[u64], n: usize)
-    requires { (n ≤ length cells.old) × (n ≤ length from.now) }
-    ensures { cells.new ≡ over cells.old 0 (take n from.now) }
-{
-    let mut i = 0;
-    while i < n {
-        cells[i] = from[i];
-        i += 1;
-    }
-}
+// The cells of a job, and of its links, in a memory of capacity 8 and in one of capacity 32.
+const SMALL_JOB: usize = 8 * layout::JOB;
+
+const SMALL_LINKS: usize = 8 * layout::LINKS;
+
+const LARGE_JOB: usize = 32 * layout::JOB;
+
+const LARGE_LINKS: usize = 32 * layout::LINKS;
 
 // A job whose head was read, by way of a memory with room for it.
 fn read_through(
-    text: &[u8],
-    at: usize,
-    head: Head,
+    job: Opened,
     mem: &mut [u64],
     links: &mut [u64],
     cells: &mut [u64],
-) -> Answer
-    requires { HeadRead document01 text.now (Opened head at) × (cells_for (head_of head) ≤ length mem.old) × (links_size head.tasks head.edges ≤ length links.old) }
-    ensures { Answered (job_answer document01 text.now (length cells.old)) cells.old cells.new result }
+) -> Result<usize, Refusal>
+    requires { Admitted job.head (length mem.old) (length links.old) }
+    ensures { Answered (cells_answer (rest_of job.entry) (length cells.old)) cells.old cells.new result }
 {
-    match job::load_rest(text, at, head, mem, links) {
-        Step::Next(n) => {
-            if cells.len() < n {
-                return Answer::Refusal(8);
-            }
-            copy_cells(cells, mem, n);
-            Answer::Done(n)
-        }
-        Step::Refused(x) => Answer::Refusal(x),
+    let n = job::load_rest(job, mem, links)?;
+    if cells.len() < n {
+        return Err(Refusal::NoRoom);
     }
+    cells[..n].copy_from_slice(&mem[..n]);
+    Ok(n)
 }
 
-// The same by way of a memory of capacity 8.
-fn in_small(text: &[u8], at: usize, head: Head, cells: &mut [u64]) -> Answer
-    requires { HeadRead document01 text.now (Opened head at) × FitsIn 8 (head_of head) }
-    ensures { Answered (job_answer document01 text.now (length cells.old)) cells.old cells.new result }
+// The same by way of a memory of so many cells and links, in a frame of its own.
+#[inline(never)]
+fn in_frame<const CELLS: usize, const LINKS: usize>(
+    job: Opened,
+    cells: &mut [u64],
+) -> Result<usize, Refusal>
+    requires admitted { Admitted job.head CELLS LINKS }
+    requires small { (CELLS ≤ job_size 32) × (LINKS ≤ links_room 32) }
+    ensures { Answered (cells_answer (rest_of job.entry) (length cells.old)) cells.old cells.new result }
 {
-    let mut mem = [0u64; 1416];
-    let mut links = [0u64; 544];
-    read_through(text, at, head, &mut mem, &mut links, cells)
+    let mut mem = [0u64; CELLS];
+    let mut links = [0u64; LINKS];
+    read_through(job, &mut mem, &mut links, cells)
 }
 
-// The same by way of a memory of capacity 32, which every job fits.
-fn in_large(text: &[u8], at: usize, head: Head, cells: &mut [u64]) -> Answer
-    requires { HeadRead document01 text.now (Opened head at) × FitsIn 32 (head_of head) }
-    ensures { Answered (job_answer document01 text.now (length cells.old)) cells.old cells.new result }
+// The same by way of a memory of capacity 8, if the job fits it, else of one of capacity 32, which every job fits. Each memory stands in a
+// frame of its own, so that a call takes the stack of the memory that it uses.
+pub fn in_memory(job: Opened, cells: &mut [u64]) -> Result<usize, Refusal>
+    requires { job_head_rule document01 (head_of job.head) ≡ 0 }
+    ensures { Answered (cells_answer (rest_of job.entry) (length cells.old)) cells.old cells.new result }
 {
-    let mut mem = [0u64; 5664];
-    let mut links = [0u64; 2176];
-    read_through(text, at, head, &mut mem, &mut links, cells)
-}
-
-// The same by way of the smaller memory, if it has this capacity, else of the larger one. It calls itself, so the compiler leaves each
-// memory in a frame of its own: a call takes the stack of the memory that it uses.
-pub fn in_memory(capacity: usize, text: &[u8], at: usize, head: Head, cells: &mut [u64]) -> Answer
-    requires { HeadRead document01 text.now (Opened head at) × FitsIn capacity (head_of head) }
-    ensures { Answered (job_answer document01 text.now (length cells.old)) cells.old cells.new result }
-{
-    if capacity <= 8 {
-        return in_small(text, at, head, cells);
+    if heads::capacity_for(job.head) <= 8 {
+        in_frame::<SMALL_JOB, SMALL_LINKS>(job, cells)
+    } else {
+        in_frame::<LARGE_JOB, LARGE_LINKS>(job, cells)
     }
-    if capacity >= 32 {
-        return in_large(text, at, head, cells);
-    }
-    in_memory(capacity + 1, text, at, head, cells)
 }

@@ -1,56 +1,41 @@
 // A job's text, read into a memory, and the links between its edges, into another.
 #![tactic(auto)]
 
-ghost use Rattle.std.specs.Prelude.{length, drop};
+ghost use Rattle.std.specs.Prelude.{length};
 ghost use Rattle.definitions.specs.Limits.{document01};
 ghost use Rattle.heads.specs.Heads.{head_of};
 ghost use Rattle.jobs.specs.Answers.{Answered, job_answer};
 ghost use Rattle.jobs.specs.Loading.{job_from, JobLoaded};
 
-use heads::{Head, Opening};
-use text::Step;
+use heads::Opened;
+use text::refusal::Refusal;
 
 mod cells;
 mod job;
 
-// How many cells or bytes were written, or the number of the refusal.
-#[derive(Clone, Copy)]
-pub enum Answer {
-    Done(usize),
-    Refusal(u64),
-}
-
-// The rest of a job's text, from `at` on, after its head, into a memory of this capacity, and the links between its edges.
+// Kept: memory, links and capacity side by side, as rounds' House says of a memory that is written.
+// The rest of a job's text, after its head, into a memory of this capacity, and the links between its edges.
 pub fn load_job(
-    s: &[u8],
-    at: usize,
-    head: Head,
+    job: Opened,
     mem: &mut [u64],
     links: &mut [u64],
     capacity: usize,
-) -> Step
-    ensures { JobLoaded document01 capacity (job_from document01 capacity (length mem.old) (length links.old) (head_of head) (drop at s.now))
+) -> Result<(), Refusal>
+    ensures { JobLoaded document01 capacity (job_from document01 capacity (length mem.old) (length links.old) (head_of job.entry.head) job.entry.rest)
         mem.new links.new result }
 {
-    let x = heads::head_rule(head);
-    if x > 0 {
-        return Step::Refused(x);
+    heads::head_rule(job.head)?;
+    if !heads::roomy(job.head, mem.len(), links.len(), capacity) {
+        return Err(Refusal::NoRoom);
     }
-    if heads::roomy(head, mem.len(), links.len(), capacity) {
-        return job::load_rest(s, at, head, mem, links);
-    }
-    Step::Refused(8)
+    job::load_rest(job, mem, links)?;
+    Ok(())
 }
 
-// Reads a job's text into the lent cells.
-pub fn read_job(text: &[u8], cells: &mut [u64]) -> Answer
+// Reads a job's text into the lent cells. The answer is how many were written.
+pub fn read_job(text: &[u8], cells: &mut [u64]) -> Result<usize, Refusal>
     ensures { Answered (job_answer document01 text.now (length cells.old)) cells.old cells.new result }
 {
-    match heads::read_head(text) {
-        Opening::Opened(head, at) => {
-            let capacity = heads::capacity_for(head);
-            cells::in_memory(capacity, text, at, head, cells)
-        }
-        Opening::Refused(x) => Answer::Refusal(x),
-    }
+    let job = heads::read_head(text)?;
+    cells::in_memory(job, cells)
 }

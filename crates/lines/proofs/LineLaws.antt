@@ -1,25 +1,20 @@
 -- The numbers that end a line, and lines, at a place of a text.
-use Rattle.lists.proofs.Prelude.{◌≡◌, refl, ap, sym, ◌∙◌, List, [], ◌∷◌, ◌++◌, append_assoc, append-nil, ℕ, zero, suc, ◌+◌, ◌-◌, ◌<◌, ◌≤◌, arith, add-one, eq-eqb, ne_eqb, lt-ltb, le-ltb, length, get_or, take, drop, set, drop_of_length-le, drop-cons, drop-set-lt, length-set, sub-zero, Limits, Reading, Reader, found, refused, next, due, number, exactly, numbers, line, lines, mark}
+use Rattle.lists.proofs.Prelude.{◌≡◌, refl, ap, sym, ◌∙◌, List, [], ◌∷◌, ◌++◌, append_assoc, append-nil, ℕ, zero, suc, ◌+◌, ◌-◌, ◌<◌, ◌≤◌, arith, add-one, lt-leb, le-leb, lt-ltb, le-ltb, length, take, drop, set, drop-set-lt, length-set, sub-zero, Limits, Reading, Reader, found, refused, next, due, number, exactly, numbers, line, lines, mark}
+use Prim.Native.Nat.compare
 use Rattle.std.proofs.Common.{take-suc-set}
-use Rattle.text.specs.Meaning.{step_reading, after, line_into, ruled, PlacedBy}
-use Rattle.text.specs.declared.Step.{Step}
-use Rattle.text.specs.declared.Step.TheVariants.{Next, Refused}
-use Rattle.text.specs.declared.Num.{Num}
-use Rattle.text.specs.declared.Num.TheVariants.{Value}
+use Rattle.definitions.specs.Lists.{empty}
+use Rattle.std.specs.Prelude.{leb, Option, Some, None, Result, Ok, Err}
+use Rattle.text.specs.Numbers.{number_of}
+use Rattle.text.specs.Meaning.{number_reading, place_reading, reading, due_of, after, line_into, ruled}
+use Rattle.text.proofs.Refusals.{positive}
+use Rattle.text.specs.declared.refusal.Refusal.{Refusal}
 
--- One byte.
-module _ (s : List ℕ) (i b : ℕ) where
-  pub byte_end : length s ≤ i → refused 2 ≡ exactly (b ∷ []) (drop i s)
-  unfolding exactly
-  byte_end h = rw (drop_of_length-le s h)
-
-  pub byte_no : i < length s → (get_or s i 0 ≡ b → ⊥) → refused 2 ≡ exactly (b ∷ []) (drop i s)
-  unfolding exactly
-  byte_no h e = rw (drop-cons s i 0 h, ne_eqb _ _ e)
-
-  pub byte_yes : i < length s → get_or s i 0 ≡ b → found tt (drop (i + 1) s) ≡ exactly (b ∷ []) (drop i s)
-  unfolding exactly
-  byte_yes h e = rw (drop-cons s i 0 h, eq-eqb _ _ e, add-one)
+-- No byte is left from the place i on.
+pub at_end : (s : List ℕ) (i : ℕ) → leb (length s) i ≡ empty (drop i s)
+at_end [] zero = refl
+at_end [] (suc i) = le-leb 0 (suc i) (omega arith)
+at_end (b ∷ s) zero = lt-leb (suc (length s)) 0 (omega arith)
+at_end (b ∷ s) (suc i) = rw compare.suc-suc (at_end s i)
 
 -- A reading of a list with no members before it.
 pub after_none : {A : Type 0} (r : Reading (List A)) → after [] r ≡ r
@@ -49,34 +44,38 @@ module _ {l : Limits} {s : List ℕ} {k : ℕ} {old : List ℕ} {G : Reading (Li
       let e : k - i ≡ 0 = omega arith in
       (rw (f, ← append-nil (take i vals)) (rw e at u.rest), u.kept)
 
-  -- The next number.
-  module _ (h : i < k) where
-    pub numbers_bad : number l (drop p s) ≡ refused 2 → (refused 2 ≡ G) × (drop k vals ≡ drop k old)
+  -- The next number was read, with the answer r.
+  module _ (h : i < k) (r : Option (ℕ × ℕ)) (e : number_reading s r ≡ number l (drop p s)) where
+    pub numbers_bad : r ≡ None → (refused 2 ≡ G) × (drop k vals ≡ drop k old)
     unfolding numbers
-    numbers_bad e = (rw (left k i h, e) at u.rest, u.kept)
+    numbers_bad f =
+        let g : number l (drop p s) ≡ refused 2 = sym e ∙ ap (number_reading s) f in
+        (rw (left k i h, g) at u.rest, u.kept)
 
-    module _ (v n : ℕ) (e : number l (drop p s) ≡ found v (drop n s)) where
-      pub numbers_no : (x : ℕ) → exactly (mark (k - (i + 1)) ∷ []) (drop n s) ≡ refused x → (refused x ≡ G) × (drop k (set vals i v) ≡ drop k old)
-      unfolding numbers
-      numbers_no x f = (rw (left k i h, e, f) at u.rest, drop-set-lt k vals i v h ∙ u.kept)
+    module _ (v n : ℕ) (f : r ≡ Some (v, n)) where
+      number_at : number l (drop p s) ≡ found v (drop n s)
+      number_at = sym e ∙ ap (number_reading s) f
 
-      pub numbers_next : (q : ℕ) → exactly (mark (k - (i + 1)) ∷ []) (drop n s) ≡ found tt (drop q s) → k ≤ length old
-          → NumbersUpTo l s k old G (i + 1) (set vals i v) q
-      unfolding numbers
-      numbers_next q f g =
-          let m : take (i + 1) (set vals i v) ≡ take i vals ++ v ∷ [] = rw add-one (take-suc-set vals i v (omega (arith, u.size))) in
-          let r = rw (left k i h, e, f) at u.rest in
-          record {
-            count = omega arith;
-            size = length-set vals i v ∙ u.size;
-            rest = rw m (after_more (take i vals) v (numbers l (k - (i + 1)) (drop q s)) ∙ r);
-            kept = drop-set-lt k vals i v h ∙ u.kept;
-          }
+      -- The byte b after it was read, with the answer x.
+      module _ (x : Result ℕ Refusal) (b : ℕ) (g : place_reading s tt x ≡ exactly (b ∷ []) (drop n s)) (j : b ≡ mark (k - (i + 1))) where
+        pub numbers_no : (y : Refusal) → x ≡ Err y → (refused (number_of y) ≡ G) × (drop k (set vals i v) ≡ drop k old)
+        unfolding numbers
+        numbers_no y m =
+            let a : exactly (b ∷ []) (drop n s) ≡ refused (number_of y) = sym g ∙ ap (place_reading s tt) m in
+            (rw (left k i h, number_at, ← j, a) at u.rest, drop-set-lt k vals i v h ∙ u.kept)
 
--- The place after a number well inside a text is in it.
-pub inner_place : (most : ℕ) (s : List ℕ) (p end : ℕ) (r : Num) (v n : ℕ) → end ≡ length s - (most + 1) → p < end → PlacedBy (p + most) r → r ≡ Value v n
-    → n < length s
-inner_place most s p end r v n e l h f = omega (arith, e, l, rw f at h)
+        pub numbers_next : (q : ℕ) → x ≡ Ok q → k ≤ length old → NumbersUpTo l s k old G (i + 1) (set vals i v) q
+        unfolding numbers
+        numbers_next q m o =
+            let a : exactly (b ∷ []) (drop n s) ≡ found tt (drop q s) = sym g ∙ ap (place_reading s tt) m in
+            let t : take (i + 1) (set vals i v) ≡ take i vals ++ v ∷ [] = rw add-one (take-suc-set vals i v (omega (arith, u.size))) in
+            let c = rw (left k i h, number_at, ← j, a) at u.rest in
+            record {
+              count = omega arith;
+              size = length-set vals i v ∙ u.size;
+              rest = rw t (after_more (take i vals) v (numbers l (k - (i + 1)) (drop q s)) ∙ c);
+              kept = drop-set-lt k vals i v h ∙ u.kept;
+            }
 
 module _ (l : Limits) (opening : List ℕ) (k : ℕ) (s : List ℕ) where
   pub line_open : (r : List ℕ) → exactly opening s ≡ found tt r → numbers l k r ≡ line l opening k s
@@ -93,8 +92,9 @@ module _ (l : Limits) (room : ℕ) (opening : List ℕ) (k : ℕ) (s : List ℕ)
   line_fits h = rw (le-ltb room k h)
 
   -- What is said of a line that was read into it, with the answer x.
-  pub line_reading : (t ys : List ℕ) (r x : Step) → step_reading t (take k ys) r ≡ line_into l room opening k s → k ≤ room → r ≡ x → line l opening k s ≡ step_reading t (take k ys) x
-  line_reading t ys r x e h f = sym (e ∙ line_fits h) ∙ ap (step_reading t (take k ys)) f
+  pub line_reading : (t ys : List ℕ) (r x : Result (Unit {0}) Refusal) → reading t (take k ys) r ≡ line_into l room opening k s → k ≤ room → r ≡ x
+      → line l opening k s ≡ reading t (take k ys) x
+  line_reading t ys r x e h f = sym (e ∙ line_fits h) ∙ ap (reading t (take k ys)) f
 
   pub line_unfit : room < k → line_into l room opening k s ≡ refused 8
   line_unfit h = rw (lt-ltb room k h)
@@ -115,6 +115,11 @@ module _ {A : Type 0} (form : Reader A) (rule : List A → A → ℕ) (seen : Li
 
     pub ruled_yes : x ≤ 0 → found a r ≡ ruled form rule seen s
     ruled_yes g = let z : rule seen a ≡ 0 = omega arith in rw (e, z)
+
+  -- It was found, and its rule gave the answer x.
+  pub line_judged : (a : A) (r : List ℕ) → form s ≡ found a r → (x : Result (Unit {0}) Refusal) → due_of x ≡ rule seen a → reading r a x ≡ ruled form rule seen s
+  line_judged a r e (Ok done) f = ruled_yes a r e 0 f (omega arith)
+  line_judged a r e (Err n) f = ruled_no a r e (number_of n) f (positive n)
 
   -- It, and what is read after it.
   pub ruled_then : {B : Type 0} (k : A → Reader B) → next (form s) (λ a r. next (due (rule seen a) r) (λ _. k a)) ≡ next (ruled form rule seen s) k
@@ -146,23 +151,22 @@ module _ {A : Type 0} (form : Reader A) (rule : List A → A → ℕ) (n i : ℕ
     pub lines_next : (a : A) (r : List ℕ) → ruled form rule seen s ≡ found a r → lines form rule (n - (i + 1)) (seen ++ a ∷ []) r ≡ lines form rule (n - i) seen s
     lines_next a r e = sym (one_line ∙ rw e)
 
--- Of n lines of one kind in the text s, from `at` on, i were read up to the place p: `seen`.
-pub record LinesUpTo {A : Type 0} (form : Reader A) (rule : List A → A → ℕ) (s : List ℕ) (at n i : ℕ) (seen : List A) (p : ℕ) : Type 0 where
-  pub count : i ≤ n
-  pub rest : lines form rule (n - i) seen (drop p s) ≡ lines form rule n [] (drop at s)
+-- Of n lines of one kind at the front of the text `start`, i were read: `seen`; the text s is left.
+pub record LinesUpTo {A : Type 0} (form : Reader A) (rule : List A → A → ℕ) (start : List ℕ) (n i : ℕ) (seen : List A) (s : List ℕ) : Type 0 where
+  pub rest : lines form rule (n - i) seen s ≡ lines form rule n [] start
 
-module _ {A : Type 0} {form : Reader A} {rule : List A → A → ℕ} {s : List ℕ} {at n : ℕ} where
-  pub lines_none : LinesUpTo form rule s at n 0 [] at
-  lines_none = record { count = omega arith; rest = rw sub-zero }
+module _ {A : Type 0} {form : Reader A} {rule : List A → A → ℕ} {start : List ℕ} {n : ℕ} where
+  pub lines_none : LinesUpTo form rule start n 0 [] start
+  lines_none = record { rest = rw sub-zero }
 
-  module _ {i : ℕ} {seen : List A} {p : ℕ} (u : LinesUpTo form rule s at n i seen p) where
-    pub lines_read : n ≤ i → found seen (drop p s) ≡ lines form rule n [] (drop at s)
-    lines_read h = lines_end form rule n i seen (drop p s) h ∙ u.rest
+  module _ {i : ℕ} {seen : List A} {s : List ℕ} (u : LinesUpTo form rule start n i seen s) where
+    pub lines_read : n ≤ i → found seen s ≡ lines form rule n [] start
+    lines_read h = lines_end form rule n i seen s h ∙ u.rest
 
-    -- The next line was read, with the answer r.
-    module _ (h : i < n) (a : A) {r : Step} (e : step_reading s a r ≡ ruled form rule seen (drop p s)) where
-      pub lines_refused : {x : ℕ} → r ≡ Refused x → refused x ≡ lines form rule n [] (drop at s)
-      lines_refused f = lines_no form rule n i seen (drop p s) h _ (sym e ∙ ap (step_reading s a) f) ∙ u.rest
+    -- The next line was read, with the answer r; the text q is left.
+    module _ (h : i < n) (a : A) (q : List ℕ) {r : Result (Unit {0}) Refusal} (e : reading q a r ≡ ruled form rule seen s) where
+      pub lines_refused : {x : Refusal} → r ≡ Err x → refused (number_of x) ≡ lines form rule n [] start
+      lines_refused f = lines_no form rule n i seen s h _ (sym e ∙ ap (reading q a) f) ∙ u.rest
 
-      pub lines_more : {q : ℕ} → r ≡ Next q → LinesUpTo form rule s at n (i + 1) (seen ++ a ∷ []) q
-      lines_more f = record { count = omega arith; rest = lines_next form rule n i seen (drop p s) h a _ (sym e ∙ ap (step_reading s a) f) ∙ u.rest }
+      pub lines_more : {x : Unit {0}} → r ≡ Ok x → LinesUpTo form rule start n (i + 1) (seen ++ a ∷ []) q
+      lines_more f = record { rest = lines_next form rule n i seen s h a _ (sym e ∙ ap (reading q a) f) ∙ u.rest }

@@ -1,33 +1,55 @@
-// A text and a place in it, held together.
-ghost use Rattle.std.specs.Prelude.{◌≡◌, ◌≤◌, length, take, drop};
+// A text and the place up to which it was read. A contract sees the bytes that are left.
+ghost use Rattle.std.specs.Prelude.{◌≡◌, ◌<◌, length, take, drop};
+ghost use Rattle.definitions.specs.Lists.{empty};
 ghost use Rattle.definitions.specs.Limits.{document01};
-ghost use Rattle.definitions.specs.Text.{line};
-ghost use Rattle.text.specs.Meaning.{step_reading};
+ghost use Rattle.text.specs.Meaning.{reading, line_into};
 
-use crate::lines;
-use text::Step;
+use crate::numbers;
+use std::marker::Model;
+use text::refusal::Refusal;
 
-// A text and a place in it.
-#[derive(Clone, Copy)]
+#[derive(Drop)]
 pub struct Reader<'a> {
-    pub text: &'a [u8],
-    pub at: usize,
+    text: &'a [u8],
+    at: usize,
 }
 
-// The line at the reader's place: its opening and k numbers, kept at the front of `vals`.
-pub fn line<'a, 'b, 'c>(r: Reader<'a>, opening: &'b [u8], k: usize, vals: &'c mut [u64]) -> Step
-    requires { k ≤ length vals.old }
-    ensures { (step_reading r.entry.text.now (take k vals.new) result ≡ line document01 opening.now k (drop r.entry.at r.entry.text.now))
-        × (drop k vals.new ≡ drop k vals.old) }
-{
-    lines::line_at(r.text, r.at, opening, k, vals)
+impl<'a> Model for Reader<'a> {
+    ghost use Rattle.std.specs.Prelude.{List, ℕ, drop};
+
+    ghost Value = { List ℕ };
+
+    ghost view = { λ r. drop r.at r.text.now };
 }
 
-// The line at a place of a text, read by a reader that holds both.
-pub fn line_of(s: &[u8], at: usize, opening: &[u8], k: usize, vals: &mut [u64]) -> Step
-    requires { k ≤ length vals.old }
-    ensures { (step_reading s.now (take k vals.new) result ≡ line document01 opening.now k (drop at s.now))
-        × (drop k vals.new ≡ drop k vals.old) }
-{
-    line(Reader { text: s, at }, opening, k, vals)
+impl<'a> Reader<'a> {
+    // A text, from its front on.
+    pub fn new(text: &'a [u8]) -> Reader<'a>
+        ensures { result ≡ text.now }
+    {
+        Reader { text, at: 0 }
+    }
+
+    // No byte is left.
+    #[tactic(auto, using(crate::proofs::LineLaws::at_end))]
+    pub fn is_at_end(&self) -> bool
+        ensures { result ≡ empty self.now }
+    {
+        self.text.len() <= self.at
+    }
+
+    // The next line: its opening and k numbers, kept at the front of `vals`.
+    #[tactic(auto, using(crate::proofs::LineLaws::line_open, crate::proofs::LineLaws::line_no, crate::proofs::LineLaws::line_unfit))]
+    // Kept: `k` beside `vals`: the clauses and the edit cell_too_few tell of a slice that has fewer cells.
+    pub fn line(&mut self, opening: &[u8], k: usize, vals: &mut [u64]) -> Result<(), Refusal>
+        ensures read { reading self.new (take k vals.new) result ≡ line_into document01 (length vals.old) opening.now k self.old }
+        ensures rest { (drop k vals.new ≡ drop k vals.old) × (length vals.old < k → vals.new ≡ vals.old) }
+    {
+        if vals.len() < k {
+            return Err(Refusal::NoRoom);
+        }
+        let p = text::read_fixed(self.text, self.at, opening)?;
+        self.at = numbers::read_numbers(self.text, p, k, vals)?;
+        Ok(())
+    }
 }

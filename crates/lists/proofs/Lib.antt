@@ -1,3 +1,5 @@
+pub mod Chains
+pub mod Chunks
 pub mod Counting
 pub mod Kept
 pub mod ListLaws

@@ -1,223 +1,133 @@
 // The working memory for a job, chosen in one place for the three tools.
-ghost use Rattle.std.specs.Prelude.{◌≡◌, ◌≤◌, length};
+ghost use Rattle.std.specs.Prelude.{◌≡◌, ◌≤◌, List, ℕ, length};
 ghost use Rattle.definitions.specs.Limits.{document01};
-ghost use Rattle.definitions.specs.Job.{read_job};
-ghost use Rattle.heads.specs.Heads.{head_of, HeadRead};
+ghost use Rattle.definitions.specs.Text as Text;
+ghost use Rattle.definitions.specs.Job.{Job, job_head_rule};
+ghost use Rattle.heads.specs.Heads.{head_of};
 ghost use Rattle.heads.specs.Layout.{memory_size, links_room, FitsIn};
-ghost use Rattle.heads.specs.declared.Opening.TheVariants.{Opened};
-ghost use Rattle.jobs.specs.Answers.{result_of};
-ghost use Rattle.rounds.specs.Verdicts.{refusal_of};
-ghost use Rattle.mirguneth.specs.Said.{done_of, numbers_of, Answers};
+ghost use Rattle.heads.specs.Reading.{from_runs, closed};
+ghost use Rattle.jobs.specs.Answers.{Answered};
+ghost use Rattle.jobs.specs.Loading.{job_from};
+ghost use Rattle.plans.specs.Loading.{with_plan};
+ghost use Rattle.rounds.specs.Tools.{plan_of, verdict_both, replay_both};
+ghost use Rattle.rounds.specs.Verdicts.{Judged};
 
-use heads::{Head, Opening};
-use jobs::Answer;
-use rounds::Checked;
+use heads::Opened;
+use rounds::Fault;
+use text::refusal::Refusal;
 
-// The planner, the checker or the replay.
+// The planner, the checker or the replay, with the texts that it takes beside the job's.
+pub trait Tool {
+    type Answer;
+
+    // What its answer to a job, read or refused, says, and what the output holds before it and after.
+    ghost says: { Self → Text.Result Job → List ℕ → List ℕ → Self.Answer → Type 0 };
+
+    // Its answer to a job whose head was read, in a working memory of this capacity.
+    // Kept: memory, links and capacity side by side, as rounds' House says of a memory that is written.
+    fn run(
+        self,
+        job: Opened,
+        mem: &mut [u64],
+        links: &mut [u64],
+        capacity: usize,
+        out: &mut [u8],
+    ) -> Self::Answer
+        ensures { says self (job_from document01 capacity (length mem.old) (length links.old) (head_of job.entry.head) job.entry.rest) out.old out.new result };
+}
+
 #[derive(Clone, Copy)]
-pub enum Tool {
-    Plan,
-    Check,
-    Replay,
-}
+pub struct Planner;
 
-// A tool's answer: so many bytes were written, by the checker none if it accepts the plan; or 12 with a task that has two replicas on
-// one processor; or another number.
 #[derive(Clone, Copy)]
-pub enum Said {
-    Done(usize),
-    Doubled(u8),
-    Refused(u64),
+pub struct Checker<'a> {
+    pub plan: &'a [u8],
 }
 
-// The answer of the planner or the replay, as that of a tool.
-fn written(answer: Answer) -> Said
-    ensures { done_of result ≡ result_of answer }
-{
-    match answer {
-        Answer::Done(n) => Said::Done(n),
-        Answer::Refusal(x) => Said::Refused(x),
+#[derive(Clone, Copy)]
+pub struct Replay<'a> {
+    pub plan: &'a [u8],
+    pub stops: &'a [u8],
+}
+
+impl Tool for Planner {
+    type Answer = Result<usize, Refusal>;
+
+    ghost says = { λ tool x d e r. Answered (plan_of document01 x (length d)) d e r };
+
+    fn run(
+        self,
+        job: Opened,
+        mem: &mut [u64],
+        links: &mut [u64],
+        capacity: usize,
+        out: &mut [u8],
+    ) -> Result<usize, Refusal> {
+        rounds::plan_in(job, mem, links, capacity, out)
     }
 }
 
-// The same as `plan` and `replay` give it.
-pub fn answer_of(said: Said) -> Answer
-    ensures { result_of result ≡ done_of said }
-{
-    match said {
-        Said::Done(n) => Answer::Done(n),
-        Said::Doubled(_) => Answer::Refusal(12),
-        Said::Refused(x) => Answer::Refusal(x),
+impl<'a> Tool for Checker<'a> {
+    type Answer = Result<(), Fault>;
+
+    ghost says = { λ tool x d e r. Judged (verdict_both document01 (with_plan document01 x tool.plan.now)) r };
+
+    fn run(
+        self,
+        job: Opened,
+        mem: &mut [u64],
+        links: &mut [u64],
+        capacity: usize,
+        _out: &mut [u8],
+    ) -> Result<(), Fault> {
+        rounds::check_in(job, self.plan, mem, links, capacity)
     }
 }
 
-// The checker's answer, as that of a tool.
-fn judged(answer: Checked) -> Said
-    ensures { numbers_of result ≡ refusal_of answer }
-{
-    match answer {
-        Checked::Accepted => Said::Done(0),
-        Checked::Doubled(t) => Said::Doubled(t),
-        Checked::Refused(x) => Said::Refused(x),
+impl<'a> Tool for Replay<'a> {
+    type Answer = Result<usize, Refusal>;
+
+    ghost says = { λ tool x d e r. Answered (replay_both document01 (with_plan document01 x tool.plan.now) tool.stops.now (length d)) d e r };
+
+    fn run(
+        self,
+        job: Opened,
+        mem: &mut [u64],
+        links: &mut [u64],
+        capacity: usize,
+        out: &mut [u8],
+    ) -> Result<usize, Refusal> {
+        rounds::replay_in(job, self.plan, self.stops, mem, links, capacity, out)
     }
 }
 
-// The same as `check` gives it.
-pub fn checked_of(said: Said) -> Checked
-    ensures { refusal_of result ≡ numbers_of said }
-{
-    match said {
-        Said::Done(_) => Checked::Accepted,
-        Said::Doubled(t) => Checked::Doubled(t),
-        Said::Refused(x) => Checked::Refused(x),
-    }
-}
-
-// A tool's answer to texts, the head of the job's being read up to `at`, in a working memory that the job fits.
-fn run(
-    tool: Tool,
-    job: &[u8],
-    at: usize,
-    head: Head,
-    plan: &[u8],
-    stops: &[u8],
-    mem: &mut [u64],
-    links: &mut [u64],
+// A tool's answer in a working memory of so many cells and links, in a frame of its own.
+#[inline(never)]
+fn in_frame<T: Tool, const CELLS: usize, const LINKS: usize>(
+    tool: T,
+    job: Opened,
     capacity: usize,
     out: &mut [u8],
-) -> Said
-    requires { HeadRead document01 job.now (Opened head at) × (capacity ≤ 32) × FitsIn capacity (head_of head) × (length mem.old ≡ memory_size capacity)
-        × (links_room capacity ≤ length links.old) }
-    ensures { Answers tool (read_job document01 job.now) plan.now stops.now out.old out.new result }
+) -> T::Answer
+    requires { (job_head_rule document01 (head_of job.head) ≡ 0) × (capacity ≤ 32) × FitsIn capacity (head_of job.head)
+        × (CELLS ≡ memory_size capacity) × (LINKS ≡ links_room capacity) }
+    ensures { T.says tool (closed (from_runs document01 (head_of job.entry.head) job.entry.rest)) out.old out.new result }
 {
-    match tool {
-        Tool::Plan => written(rounds::plan_in(job, at, head, mem, links, capacity, out)),
-        Tool::Check => judged(rounds::check_in(job, at, head, plan, mem, links, capacity)),
-        Tool::Replay => written(rounds::replay_in(
-            job, at, head, plan, stops, mem, links, capacity, out,
-        )),
-    }
+    let mut mem = [0u64; CELLS];
+    let mut links = [0u64; LINKS];
+    tool.run(job, &mut mem, &mut links, capacity, out)
 }
 
-// The same in a memory of capacity 1.
-fn in_one(
-    tool: Tool,
-    job: &[u8],
-    at: usize,
-    head: Head,
-    plan: &[u8],
-    stops: &[u8],
-    out: &mut [u8],
-) -> Said
-    requires { HeadRead document01 job.now (Opened head at) × FitsIn 1 (head_of head) }
-    ensures { Answers tool (read_job document01 job.now) plan.now stops.now out.old out.new result }
+// A tool's answer in the smallest working memory that the job fits: of capacity 1, 2, 8 or 32, with 425 cells and 68 for links times that.
+// Each stands in a frame of its own, so that a call takes the stack of the memory that it uses.
+pub fn answer<T: Tool>(tool: T, job: Opened, out: &mut [u8]) -> T::Answer
+    requires { job_head_rule document01 (head_of job.head) ≡ 0 }
+    ensures { T.says tool (closed (from_runs document01 (head_of job.entry.head) job.entry.rest)) out.old out.new result }
 {
-    let mut mem = [0u64; 425];
-    let mut links = [0u64; 68];
-    run(
-        tool, job, at, head, plan, stops, &mut mem, &mut links, 1, out,
-    )
-}
-
-// The same in a memory of capacity 2.
-fn in_two(
-    tool: Tool,
-    job: &[u8],
-    at: usize,
-    head: Head,
-    plan: &[u8],
-    stops: &[u8],
-    out: &mut [u8],
-) -> Said
-    requires { HeadRead document01 job.now (Opened head at) × FitsIn 2 (head_of head) }
-    ensures { Answers tool (read_job document01 job.now) plan.now stops.now out.old out.new result }
-{
-    let mut mem = [0u64; 850];
-    let mut links = [0u64; 136];
-    run(
-        tool, job, at, head, plan, stops, &mut mem, &mut links, 2, out,
-    )
-}
-
-// The same in a memory of capacity 8.
-fn in_eight(
-    tool: Tool,
-    job: &[u8],
-    at: usize,
-    head: Head,
-    plan: &[u8],
-    stops: &[u8],
-    out: &mut [u8],
-) -> Said
-    requires { HeadRead document01 job.now (Opened head at) × FitsIn 8 (head_of head) }
-    ensures { Answers tool (read_job document01 job.now) plan.now stops.now out.old out.new result }
-{
-    let mut mem = [0u64; 3400];
-    let mut links = [0u64; 544];
-    run(
-        tool, job, at, head, plan, stops, &mut mem, &mut links, 8, out,
-    )
-}
-
-// The same in a memory of capacity 32, which every job fits.
-fn in_all(
-    tool: Tool,
-    job: &[u8],
-    at: usize,
-    head: Head,
-    plan: &[u8],
-    stops: &[u8],
-    out: &mut [u8],
-) -> Said
-    requires { HeadRead document01 job.now (Opened head at) × FitsIn 32 (head_of head) }
-    ensures { Answers tool (read_job document01 job.now) plan.now stops.now out.old out.new result }
-{
-    let mut mem = [0u64; 13600];
-    let mut links = [0u64; 2176];
-    run(
-        tool, job, at, head, plan, stops, &mut mem, &mut links, 32, out,
-    )
-}
-
-// The same in the smallest memory of at least this capacity. It calls itself, so the compiler leaves the four memories in the frames of
-// the four functions above: a call takes the stack of the memory that it uses.
-fn in_memory(
-    capacity: usize,
-    tool: Tool,
-    job: &[u8],
-    at: usize,
-    head: Head,
-    plan: &[u8],
-    stops: &[u8],
-    out: &mut [u8],
-) -> Said
-    requires { HeadRead document01 job.now (Opened head at) × FitsIn capacity (head_of head) }
-    ensures { Answers tool (read_job document01 job.now) plan.now stops.now out.old out.new result }
-{
-    if capacity <= 1 {
-        return in_one(tool, job, at, head, plan, stops, out);
-    }
-    if capacity <= 2 {
-        return in_two(tool, job, at, head, plan, stops, out);
-    }
-    if capacity <= 8 {
-        return in_eight(tool, job, at, head, plan, stops, out);
-    }
-    if capacity >= 32 {
-        return in_all(tool, job, at, head, plan, stops, out);
-    }
-    in_memory(capacity + 1, tool, job, at, head, plan, stops, out)
-}
-
-// A tool's answer to texts, in the smallest working memory that the job fits: of capacity 1, 2, 8 or 32, with 425 cells and 68 for links times that.
-pub fn answer(tool: Tool, job: &[u8], plan: &[u8], stops: &[u8], out: &mut [u8]) -> Said
-    ensures { Answers tool (read_job document01 job.now) plan.now stops.now out.old out.new result }
-{
-    match heads::read_head(job) {
-        Opening::Opened(head, at) => {
-            let capacity = heads::capacity_for(head);
-            in_memory(capacity, tool, job, at, head, plan, stops, out)
-        }
-        Opening::Refused(x) => Said::Refused(x),
+    match heads::capacity_for(job.head) {
+        1 => in_frame::<T, 425, 68>(tool, job, 1, out),
+        2 => in_frame::<T, 850, 136>(tool, job, 2, out),
+        8 => in_frame::<T, 3400, 544>(tool, job, 8, out),
+        _ => in_frame::<T, 13600, 2176>(tool, job, 32, out),
     }
 }

@@ -1,10 +1,11 @@
 -- The edges form a circle exactly if an order lacks a task.
-use Rattle.lists.proofs.Prelude.{◌≡◌, refl, sym, ◌∙◌, List, [], map, Bool, true, false, true≢false, ℕ, ◌≤◌, arith, ltb, drop, le-ltb, ltb-false, Edge, Job, circular, nth, distinct, inl, zero, suc, ◌+◌, ◌<◌, length, get_or-drop, lt-ltb}
+use Rattle.std.specs.Prelude.{Ok, Err}
+use Rattle.lists.proofs.Prelude.{◌≡◌, refl, sym, ◌∙◌, List, [], map, Bool, true, false, ℕ, ◌≤◌, arith, ltb, drop, le-ltb, ltb-false, Edge, Job, circular, nth, distinct, inl, zero, suc, ◌+◌, ◌<◌, length, get_or-drop, lt-ltb}
 use Rattle.definitions.proofs.Lists.{head_apart}
 use Rattle.orders.specs.Edges.{edge_in}
 use Rattle.orders.specs.Order.{Within, Rising, listed, Arranged}
 use Rattle.orders.specs.Links.{order_at, links_size, circles, ascending, Runs, Linked, LinkedFrom}
-use Rattle.orders.specs.declared.Linking.TheVariants.{Joined, Circle}
+use Rattle.orders.specs.declared.Unlinked.TheVariants.{Circle}
 use Rattle.orders.proofs.PairLaws.{ascending_parts, linkable_rest}
 use Rattle.orders.proofs.OrderLaws.{listed_place, place_listed, arranged_most, arranged_all, arranged_none}
 
@@ -19,7 +20,7 @@ order_short v es w {order} {n} a = by (circular (job_with v es)) refl (ltb n v) 
   where
     by : (b : Bool) → circular (job_with v es) ≡ b → (s : Bool) → ltb n v ≡ s → s ≡ b
     by true e true l = refl
-    by true e false l = absurd (true≢false (sym e ∙ arranged_none (job_with v es) a (ltb-false n v l) (λ d i. (w d i).1)))
+    by true e false l = let z = arranged_none (job_with v es) a (ltb-false n v l) (λ d i. (w d i).1) in cc
     by false e s l =
         let every : n ≡ v = arranged_all (job_with v es) e a (λ d i. (w d i).0) in
         sym l ∙ le-ltb n v (omega arith)
@@ -58,12 +59,12 @@ numbered {v} {edges} {links} runs r o = record {
 
 -- What is answered, if the edges can be linked: that all tasks have an order, or that it lacks one.
 module _ (v : ℕ) (edges before after : List ℕ) (s : links_size v (length edges) ≤ length before) (o : ascending v 0 edges ≡ true) where
-  pub link_joined : Linked v edges after → LinkedFrom v edges before after Joined
+  pub link_joined : Linked v edges after → LinkedFrom v edges before after (Ok tt)
   link_joined k =
       let z : circles v (map edge_in edges) ≡ false = sym (order_short v (map edge_in edges) (ascending_parts v 0 edges o).0 k.order) ∙ le-ltb v v (omega arith) in
       rw (linkable_rest v edges (length before) s ∙ o, z) (refl, k)
 
-  pub link_circle : {n : ℕ} → Arranged v (map edge_in edges) (drop (order_at v 0) after) n → n < v → LinkedFrom v edges before after Circle
+  pub link_circle : {n : ℕ} → Arranged v (map edge_in edges) (drop (order_at v 0) after) n → n < v → LinkedFrom v edges before after (Err Circle)
   link_circle {n} a h =
       let z : circles v (map edge_in edges) ≡ true = sym (order_short v (map edge_in edges) (ascending_parts v 0 edges o).0 a) ∙ lt-ltb n v h in
       rw (linkable_rest v edges (length before) s ∙ o, z)

@@ -1,34 +1,17 @@
 -- Pairs of tasks as numbers, and edges whose pairs ascend.
-use Rattle.lists.proofs.Prelude.{◌≡◌, refl, sym, ◌∙◌, inl, inr, ⊎_elim, List, [], ◌∷◌, map, Bool, true, false, ◌&&◌, ◌||◌, ℕ, ◌+◌, ◌/◌, ◌%◌, ◌<◌, ◌≤◌, arith, leb, eqb, ltb, add-one, length, drop, drop-cons, eqb-true, eqb-false, eq-eqb, lt-ltb, le-ltb, ltb-true, ltb-false, leb-true, le-leb, lt-leb, nth, In, Edge, same_pair, smaller, Ascends}
-use Rattle.definitions.proofs.Lists.{both, both_true, refuted, in_map, map_in}
+use Rattle.std.proofs.lemmas.Bool.Decides.{nat_tests}
+use Rattle.lists.proofs.Prelude.{◌≡◌, refl, sym, ◌∙◌, inl, inr, ⊎_elim, List, [], ◌∷◌, map, true, false, ◌&&◌, ℕ, ◌+◌, ◌<◌, ◌≤◌, arith, leb, eqb, ltb, add-one, length, drop, drop-cons, lt-ltb, ltb-true, leb-true, le-leb, lt-leb, nth, In, Edge, same_pair, smaller, Ascends}
+use Rattle.definitions.proofs.Lists.{both, both_true, in_map, map_in}
 use Rattle.orders.specs.Edges.{edge_in, pair_in}
 use Rattle.orders.specs.Order.{Within, inner}
 use Rattle.orders.specs.Links.{ascending, linkable, links_size}
 
 -- A test of numbers is one of pairs.
 pub pair_same : (c d : ℕ) → eqb (pair_in c) (pair_in d) ≡ same_pair (edge_in c) (edge_in d)
-pair_same c d = by (eqb (pair_in c) (pair_in d)) refl
-  where
-    by : (b : Bool) → eqb (pair_in c) (pair_in d) ≡ b → b ≡ same_pair (edge_in c) (edge_in d)
-    by true q =
-        let h : pair_in c ≡ pair_in d = eqb-true _ _ q in
-        sym (both_true (eq-eqb (c % 256) (d % 256) (omega arith)) (eq-eqb (c / 256 % 256) (d / 256 % 256) (omega arith)))
-    by false q =
-        sym (refuted (same_pair (edge_in c) (edge_in d)) λ r.
-        let (f, t) = both (eqb (c % 256) (d % 256)) (eqb (c / 256 % 256) (d / 256 % 256)) r in
-        eqb-false (pair_in c) (pair_in d) q (omega (arith, eqb-true (c % 256) (d % 256) f, eqb-true (c / 256 % 256) (d / 256 % 256) t)))
+pair_same c d = grind (arith, nat_tests)
 
 pub pair_smaller : (c d : ℕ) → ltb (pair_in c) (pair_in d) ≡ smaller (edge_in c) (edge_in d)
-pair_smaller c d = by (ltb (c % 256) (d % 256)) refl (eqb (c % 256) (d % 256)) refl (ltb (c / 256 % 256) (d / 256 % 256)) refl
-  where
-    by : (a : Bool) → ltb (c % 256) (d % 256) ≡ a → (b : Bool) → eqb (c % 256) (d % 256) ≡ b → (t : Bool) → ltb (c / 256 % 256) (d / 256 % 256) ≡ t
-        → ltb (pair_in c) (pair_in d) ≡ (a || (b && t))
-    by true p b q t r = lt-ltb (pair_in c) (pair_in d) (omega (arith, ltb-true (c % 256) (d % 256) p))
-    by false p true q true r = lt-ltb (pair_in c) (pair_in d) (omega (arith, eqb-true (c % 256) (d % 256) q, ltb-true (c / 256 % 256) (d / 256 % 256) r))
-    by false p true q false r = le-ltb (pair_in c) (pair_in d) (omega (arith, eqb-true (c % 256) (d % 256) q, ltb-false (c / 256 % 256) (d / 256 % 256) r))
-    by false p false q t r =
-        let n : c % 256 ≡ d % 256 → ⊥ = eqb-false (c % 256) (d % 256) q in
-        le-ltb (pair_in c) (pair_in d) (omega (arith, ltb-false (c % 256) (d % 256) p, n))
+pair_smaller c d = grind (arith, nat_tests)
 
 -- Edges in order -----------------------------------------------------------------------------------------------------
 
@@ -70,10 +53,26 @@ module _ (v : ℕ) where
       (λ d i. omega (arith, ltb-true (pair_in c) (pair_in d) (pair_smaller c d ∙ a.0 (edge_in d) (map_in edge_in d cells i))))))
 
   -- The test of edge i, then of those behind it.
-  pub ascending_next : (least : ℕ) (cells : List ℕ) (i : ℕ) → i < length cells
+  ascending_next : (least : ℕ) (cells : List ℕ) (i : ℕ) → i < length cells
       → ascending v least (drop i cells) ≡ (inner v (nth cells i) && (leb least (pair_in (nth cells i)) && ascending v (pair_in (nth cells i) + 1) (drop (i + 1) cells)))
   unfolding ascending
   ascending_next least cells i h = rw (drop-cons cells i 0 h, add-one i)
+
+  -- What it says of edge i; and where that holds, those behind it are left to test.
+  pub ascending_here : (least : ℕ) (cells : List ℕ) (i : ℕ) → i < length cells → ascending v least (drop i cells) ≡ true
+      → ((edge_in (nth cells i)).from < v) × ((edge_in (nth cells i)).to < v) × (least ≤ pair_in (nth cells i))
+  ascending_here least cells i h e =
+      let c = nth cells i in
+      let (p, q) = both (inner v c) _ (rw (ascending_next least cells i h) at e) in
+      let (f, t) = both (ltb (edge_in c).from v) (ltb (edge_in c).to v) p in
+      (ltb-true (edge_in c).from v f, ltb-true (edge_in c).to v t, leb-true least (pair_in c) (both (leb least (pair_in c)) _ q).0)
+
+  pub ascending_behind : (least : ℕ) (cells : List ℕ) (i : ℕ) → i < length cells
+      → (edge_in (nth cells i)).from < v → (edge_in (nth cells i)).to < v → least ≤ pair_in (nth cells i)
+      → ascending v (pair_in (nth cells i) + 1) (drop (i + 1) cells) ≡ ascending v least (drop i cells)
+  ascending_behind least cells i h f t p =
+      let c = nth cells i in
+      rw (ascending_next least cells i h, lt-ltb (edge_in c).from v f, lt-ltb (edge_in c).to v t, le-leb least (pair_in c) p)
 
 -- What can be linked -------------------------------------------------------------------------------------------------
 

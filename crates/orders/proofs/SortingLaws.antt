@@ -1,13 +1,16 @@
 -- How the order of the tasks is made among the links: counts of the edges that block a task, the tasks listed.
+use Rattle.std.proofs.lemmas.Bool.Decides.{nat_tests}
 use Rattle.std.specs.Prelude.{if◌then◌else◌}
+use Rattle.std.proofs.lemmas.Grind.{common_steps}
 use Rattle.lists.proofs.Prelude.{◌≡◌, refl, ap, ◌∙◌, sym, ◌⊎◌, inl, inr, ⊎_elim, List, [], ◌∷◌, map, reverse_aux, Bool, true, false, not, ◌&&◌, ℕ, zero, suc, ◌+◌, ◌-◌, ◌<◌, ◌≤◌, arith, add-one, eqb, length, drop, set, length-set, length-drop, get_or-set_same, get_or-set_other, get_or-drop, eqb-true, eqb-false, eq-eqb, ne_eqb, not-true, nth, In, any, has, keep, distinct, below, Edge}
 use lib.Seq.{drop-set-add}
-use Rattle.definitions.proofs.Lists.{in_keep, keep_in, keep_every, has_in, has_not, not_has, head_apart, fits, below_in, length_count, map_in, nth_in}
+use Rattle.definitions.proofs.Lists.{in_keep, keep_in, keep_every, has_in, has_not, not_has, head_apart, fits, below_in, length_count}
 use Rattle.lists.proofs.Counting.{last_or_before, equal_or_not}
 use Rattle.lists.proofs.ListLaws.{keep_keep, keep_same}
 use Rattle.orders.proofs.LinkIn.{link_in_lem}
-use Rattle.orders.proofs.RunLaws.{run_other}
+use Rattle.orders.proofs.RunLaws.{run_other, task_of}
 use Rattle.orders.proofs.OrderLaws.{listed_length, listed_place, place_listed, places_apart}
+use Rattle.orders.proofs.Walk.{pass_more}
 use Rattle.orders.specs.Edges.{edge_in}
 use Rattle.orders.specs.Order.{Within, listed, Arranged}
 use Rattle.orders.specs.Links.{run, Run, leaving, entering, out_start_at, in_start_at, order_at, pending_at, in_edge_at, link_in, Runs, Counted}
@@ -18,22 +21,13 @@ use Rattle.orders.specs.Sorting.{ordered, pending, released, joined, joined_coun
 module _ {A : Type 0} (f : A → Bool) where
   count_first : (x : A) (xs : List A) → length (keep f (x ∷ xs)) ≡ (if f x then 1 else 0) + length (keep f xs)
   unfolding keep
-  count_first x xs = by (f x)
-    where
-      by : (b : Bool) → length (if b then x ∷ keep f xs else keep f xs) ≡ (if b then 1 else 0) + length (keep f xs)
-      by true = omega arith
-      by false = omega arith
+  count_first x xs = grind (arith, common_steps)
 
   -- Those that f is true of, by whether g is.
   count_split : (g : A → Bool) (xs : List A) → length (keep f xs) ≡ length (keep f (keep (λ x. not (g x)) xs)) + length (keep f (keep g xs))
   unfolding keep
   count_split g [] = refl
-  count_split g (x ∷ xs) = by (g x) (count_split g xs)
-    where
-      by : (b : Bool) → length (keep f xs) ≡ length (keep f (keep (λ x. not (g x)) xs)) + length (keep f (keep g xs)) → length (keep f (x ∷ xs))
-          ≡ length (keep f (if not b then x ∷ keep (λ x. not (g x)) xs else keep (λ x. not (g x)) xs)) + length (keep f (if b then x ∷ keep g xs else keep g xs))
-      by true r = omega (arith, r, count_first x xs, count_first x (keep g xs))
-      by false r = omega (arith, r, count_first x xs, count_first x (keep (λ x. not (g x)) xs))
+  count_split g (x ∷ xs) = grind (arith, common_steps, count_split g xs)
 
   -- Backwards they are as many.
   count_reverse : (xs ys : List A) → length (keep f (reverse_aux xs ys)) ≡ length (keep f xs) + length (keep f ys)
@@ -58,14 +52,7 @@ module _ (x t : ℕ) (ts : List ℕ) (n : In t ts → ⊥) where
   -- A task is not among ts and t, or is t.
   beside : ((not (has x ts) && not (eqb x t)) ≡ not (has x (t ∷ ts))) × ((not (has x ts) && eqb x t) ≡ eqb x t)
   unfolding any
-  beside = ⊎_elim
-      (λ (e : x ≡ t). rw (e, has_not t ts n, eq-eqb t t refl) (refl, refl))
-      (λ d. rw (ne_eqb x t d, ne_eqb t x (λ e. d (sym e))) (by (has x ts)))
-      (equal_or_not x t)
-    where
-      by : (b : Bool) → ((not b && true) ≡ not b) × ((not b && false) ≡ false)
-      by true = (refl, refl)
-      by false = (refl, refl)
+  beside = grind (arith, common_steps, has_not t ts n)
 
 -- With t the edges that leave t block no more.
 blocking_less : (t : ℕ) (ts : List ℕ) (u : ℕ) (es : List Edge) → (In t ts → ⊥)
@@ -77,11 +64,8 @@ blocking_less t ts u es n =
 
 -- Where none of these edges enters u, every edge to u leaves a task of ts.
 blocking_none : (ts : List ℕ) (u : ℕ) (es : List Edge) → length (entering u (blocking ts es)) ≡ 0 → (e : Edge) → In e es → e.to ≡ u → In e.from ts
-blocking_none ts u es z e i q = by (has e.from ts) refl
-  where
-    by : (b : Bool) → has e.from ts ≡ b → In e.from ts
-    by true h = has_in e.from ts h
-    by false h = absurd (count_none (λ e. eqb e.to u) (blocking ts es) z e (keep_in (λ e. not (has e.from ts)) e es i (ap not h)) (eq-eqb e.to u q))
+blocking_none ts u es z e i q =
+    grind (arith, nat_tests, has_in e.from ts, count_none (λ e. eqb e.to u) (blocking ts es) z e, keep_in (λ e. not (has e.from ts)) e es i)
 
 -- The queue ---------------------------------------------------------------------------------------------------
 
@@ -121,7 +105,7 @@ module _ {es : List Edge} {v : ℕ} {ts : List ℕ} {waits : ℕ → ℕ} (q : Q
 listed_set : (order : List ℕ) (i x n : ℕ) → n ≤ i → listed (set order i x) n ≡ listed order n
 unfolding listed
 listed_set order i x zero h = refl
-listed_set order i x (suc n) h = rw (get_or-set_other order i n x 0 (omega arith), listed_set order i x n (omega arith))
+listed_set order i x (suc n) h = grind (arith, common_steps, listed_set order i x n)
 
 -- More tasks are listed.
 listed_more : (order : List ℕ) (k n t : ℕ) → k ≤ n → In t (listed order k) → In t (listed order n)
@@ -246,18 +230,10 @@ module _ {v : ℕ} {edges links : List ℕ} {i n : ℕ} where
         },
       )
 
-  -- The last of them, which enters a task below v; none is left.
-  pub sorting_last : (a k : ℕ) → Within v (map edge_in edges) → a < k → k ≤ length edges → Sorting v edges links v i n (run a (k - a) edges)
-      → ((edge_in (nth edges (k - 1))).to < v) × Sorting v edges links v i n (edge_in (nth edges (k - 1)) ∷ run a (k - 1 - a) edges)
-  unfolding run
-  sorting_last a k w h l s =
-      let e : k - a ≡ suc (k - 1 - a) = omega arith in
-      let q : a + (k - 1 - a) ≡ k - 1 = omega arith in
-      ((w (edge_in (nth edges (k - 1))) (map_in edge_in (nth edges (k - 1)) edges (nth_in edges (k - 1) (omega arith)))).1, rw (e, q) at s)
-
-  pub sorting_end : (a k : ℕ) → k ≤ a → Sorting v edges links v i n (run a (k - a) edges) → Sorting v edges links v i n []
-  unfolding run
-  sorting_end a k h s = let e : k - a ≡ 0 = omega arith in rw e at s
+  -- The last of them, in cell k, which enters a task below v.
+  pub sorting_last : (a b k : ℕ) → Within v (map edge_in edges) → b ≡ k + 1 → a ≤ k → b ≤ length edges → Sorting v edges links v i n (run a (b - a) edges)
+      → ((edge_in (nth edges k)).to < v) × Sorting v edges links v i n (edge_in (nth edges k) ∷ run a (k - a) edges)
+  sorting_last a b k w e h l s = (task_of edges k w (omega arith), rw (pass_more a edges k b h e) at s)
 
 module _ {v : ℕ} {edges links : List ℕ} {i n : ℕ} {e : Edge} {some : List Edge} (h : e.to < v) (s : Sorting v edges links v i n (e ∷ some)) where
   -- An edge that still blocks is counted at the task that it enters, and not elsewhere.

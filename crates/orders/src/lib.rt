@@ -1,43 +1,44 @@
 // Edges, one in a cell, and their links: the runs of the edges that leave and enter each task, and an order of the tasks.
 #![tactic(auto)]
 
-ghost use Rattle.std.specs.Prelude.{◌≡◌, ◌+◌, ◌<◌};
+ghost use Rattle.std.specs.Prelude.{◌≡◌, ◌+◌, ◌*◌, ◌<◌};
 ghost use Rattle.orders.specs.Edges.{edge_in, pair_in};
 ghost use Rattle.orders.specs.Links.{out_start_at, in_start_at, order_at, link_in, LinkedFrom};
+
+use std::ops::Range;
 
 mod runs;
 mod sorting;
 mod tables;
 
-// The edges were linked; or they form a circle; or they do not ascend or are not between the tasks, or the links have no room.
-#[derive(Clone, Copy)]
-pub enum Linking {
-    Joined,
+// Why edges are not linked: they form a circle; or they do not ascend or are not between the tasks, or the links have no room.
+#[derive(Clone, Copy, Debug, PartialEq, Eq)]
+pub enum Unlinked {
     Circle,
     Misfit,
 }
 
 // Links the edges between v tasks: the runs of the edges that leave and enter each task, and an order of the tasks.
-pub fn link(edges: &[u64], v: usize, links: &mut [u64]) -> Linking
+pub fn link(edges: &[u64], v: usize, links: &mut [u64]) -> Result<(), Unlinked>
     ensures { LinkedFrom v edges.now links.old links.new result }
 {
     if v >= links.len() / 4 {
-        return Linking::Misfit;
+        return Err(Unlinked::Misfit);
     }
     if edges.len() > links.len() - 4 * (v + 1) {
-        return Linking::Misfit;
+        return Err(Unlinked::Misfit);
     }
-    if runs::ascending(edges, v) {
-        if runs::make_runs(edges, v, links) {
-            sorting::number(edges, v, links);
-            return Linking::Joined;
-        }
-        if sorting::arrange(edges, v, links) < v {
-            return Linking::Circle;
-        }
-        return Linking::Joined;
+    if !runs::ascending(edges, v) {
+        return Err(Unlinked::Misfit);
     }
-    Linking::Misfit
+    if runs::make_runs(edges, v, links) {
+        sorting::number(edges, v, links);
+        return Ok(());
+    }
+    if sorting::arrange(edges, v, links) < v {
+        return Err(Unlinked::Circle);
+    }
+    Ok(())
 }
 
 // The task that the edge in a cell leaves.
@@ -68,51 +69,38 @@ pub fn edge_volume(cell: u64) -> u64
     cell / 65536
 }
 
-// The cells of a run: from `start` to below `end`.
-#[derive(Clone, Copy)]
-pub struct Span {
-    pub start: usize,
-    pub end: usize,
+// The cells of the run that table 0 or 1 of the links has for task t of v; none, if the links have no such task.
+fn run_of<const TABLE: usize>(links: &[u64], v: usize, t: usize) -> Range<usize>
+    requires { TABLE < 2 }
+    ensures { (result.start ≡ link_in v t (TABLE * (v + 1) + t) links.now) × (result.end ≡ link_in v t (TABLE * (v + 1) + (t + 1)) links.now) }
+{
+    if t < v && v < links.len() / 4 {
+        let at = TABLE * (v + 1) + t;
+        return links[at] as usize..links[at + 1] as usize;
+    }
+    0..0
 }
 
 // The run of the edges that leave task t of v, among the edges; an empty one, if the links have no such task.
-pub fn leaving(links: &[u64], v: usize, t: usize) -> Span
+pub fn leaving(links: &[u64], v: usize, t: usize) -> Range<usize>
     ensures { (result.start ≡ link_in v t (out_start_at v t) links.now) × (result.end ≡ link_in v t (out_start_at v (t + 1)) links.now) }
 {
-    if t < v {
-        if v < links.len() / 4 {
-            return Span {
-                start: links[t] as usize,
-                end: links[t + 1] as usize,
-            };
-        }
-    }
-    Span { start: 0, end: 0 }
+    run_of::<0>(links, v, t)
 }
 
 // The run of the edges that enter task t of v, among the links.
-pub fn entering(links: &[u64], v: usize, t: usize) -> Span
+pub fn entering(links: &[u64], v: usize, t: usize) -> Range<usize>
     ensures { (result.start ≡ link_in v t (in_start_at v t) links.now) × (result.end ≡ link_in v t (in_start_at v (t + 1)) links.now) }
 {
-    if t < v {
-        if v < links.len() / 4 {
-            return Span {
-                start: links[v + 1 + t] as usize,
-                end: links[v + 1 + (t + 1)] as usize,
-            };
-        }
-    }
-    Span { start: 0, end: 0 }
+    run_of::<1>(links, v, t)
 }
 
 // Task i of the order of v tasks.
 pub fn task_at(links: &[u64], v: usize, i: usize) -> usize
     ensures { result ≡ link_in v i (order_at v i) links.now }
 {
-    if i < v {
-        if v < links.len() / 4 {
-            return links[2 * (v + 1) + i] as usize;
-        }
+    if i < v && v < links.len() / 4 {
+        return links[tables::order_at(v, i)] as usize;
     }
     0
 }

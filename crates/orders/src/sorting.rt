@@ -35,10 +35,8 @@ fn list_entries(edges: &[u64], v: usize, links: &mut [u64]) -> usize
     ensures { Sorting v edges.now links.new v 0 result [] }
 {
     let mut n = 0;
-    let mut t = 0;
-    while t < v {
+    for t in 0..v {
         n = join(v, links, t, n);
-        t += 1;
     }
     n
 }
@@ -49,13 +47,9 @@ fn unblock(edges: &[u64], v: usize, links: &mut [u64], i: usize, n: usize) -> us
     requires { Within v (map edge_in edges.now) × Sorting v edges.now links.old v i n [] × (i < n) }
     ensures { Sorting v edges.now links.new v (i + 1) result [] }
 {
-    let t = task_at(&links[..], v, i);
-    let run = leaving(&links[..], v, t);
-    let start = run.start;
+    let t = task_at(links, v, i);
     let mut count = n;
-    let mut k = run.end;
-    while k > start {
-        k -= 1;
+    for k in leaving(links, v, t).rev() {
         count = release(v, links, edge_to(edges[k]), count);
     }
     count
@@ -68,6 +62,7 @@ pub fn arrange(edges: &[u64], v: usize, links: &mut [u64]) -> usize
 {
     let mut n = list_entries(edges, v, links);
     let mut i = 0;
+    // Kept: the new form is no plainer: n grows in the loop, and a `for` sets its bound before it.
     while i < n {
         n = unblock(edges, v, links, i, n);
         i += 1;
@@ -80,9 +75,7 @@ pub fn number(edges: &[u64], v: usize, links: &mut [u64])
     requires { Runs v edges.now links.old × Rising (map edge_in edges.now) }
     ensures { Linked v edges.now links.new }
 {
-    let mut t = 0;
-    while t < v {
+    for t in 0..v {
         links[order_at(v, t)] = t as u64;
-        t += 1;
     }
 }

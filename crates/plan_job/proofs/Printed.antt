@@ -1,5 +1,6 @@
 -- What the plan program prints is no longer than a text.
-use Rattle.lists.proofs.Prelude.{◌≡◌, refl, List, [], ◌∷◌, ℕ, ◌≤◌, arith, le-ltb, length, document01, Result, good, bad, and_then, Job, read_job, fitting, planned, plan_answer, printed, plan_printed}
+use Rattle.lists.proofs.Prelude.{◌≡◌, refl, List, [], ◌∷◌, ℕ, ◌≤◌, arith, le-ltb, length, document01, Result, good, bad, and_then}
+use Rattle.lists.proofs.Prelude.{Job, read_job, fitting, planned, plan_answer, printed, plan_printed}
 use Rattle.definitions.proofs.Reading.{job_facts}
 use Rattle.definitions.proofs.Claims.{own_fits, roomy01}
 use Rattle.console.proofs.Shown.{refusal_most}

@@ -6,7 +6,6 @@ ghost use Rattle.definitions.specs.Tools.{plan_printed};
 ghost use Rattle.io.specs.Counts.{IsPrefixLen};
 ghost use Rattle.lists.specs.Over.{over};
 
-use mirguneth::Answer;
 use std::io::Write;
 
 // What is printed for the job's text, at the front of `out`, which has room for the longest plan. The answer is its length.
@@ -17,8 +16,8 @@ fn answer(job: &[u8], out: &mut [u8]) -> usize
     ensures counted { IsPrefixLen result out.new }
 {
     match mirguneth::plan(job, out) {
-        Answer::Done(k) => k,
-        Answer::Refusal(x) => console::write_refusal(out, x),
+        Ok(k) => k,
+        Err(x) => console::write_refusal(out, u64::from(x)),
     }
 }
 

@@ -2,8 +2,10 @@
 use Rattle.lists.proofs.Prelude.{◌≡◌, refl, ap, List, ℕ, arith, nth, Limits, Result, good, bad, and_then, Job, Plan, read_plan}
 use Rattle.definitions.specs.Facts.{PlanFacts}
 use Rattle.definitions.proofs.Reading.{and_then_good, plan_facts}
-use Rattle.text.specs.declared.Step.{Step}
-use Rattle.text.specs.declared.Step.TheVariants.{Next, Refused}
+use Rattle.std.specs.Prelude.{Ok, Err}
+use Rattle.std.specs.Prelude as Rust
+use Rattle.text.specs.Numbers.{number_of}
+use Rattle.text.specs.declared.refusal.Refusal.{Refusal}
 use Rattle.heads.specs.Layout.{line_at, largest_delay_at}
 use Rattle.jobs.specs.Held.{job_in, JobHeld, LinksHeld}
 use Rattle.jobs.specs.Loading.{JobLoaded}
@@ -20,37 +22,37 @@ pub none_read : (l : Limits) (x : Result Job) (plan : List ℕ) (n : ℕ) → x 
 unfolding with_plan
 none_read l x plan n h = rw h
 
-module _ (l : Limits) (capacity : ℕ) (x : Result Job) (plan d links : List ℕ) (n : ℕ) where
-  pub no_job : JobLoaded l capacity x d links (Refused n) → BothLoaded l capacity (with_plan l x plan) d links (Refused n)
-  no_job h = rw (none_read l x plan n (refused_job l capacity x d links n h)) refl
+module _ (l : Limits) (capacity : ℕ) (x : Result Job) (plan d links : List ℕ) where
+  pub no_job : (e : Refusal) → JobLoaded l capacity x d links (Err e) → BothLoaded l capacity (with_plan l x plan) d links (Err e)
+  no_job e h = rw (none_read l x plan (number_of e) (refused_job l capacity x d links e h)) refl
 
   -- The job was read, and its edges were linked.
-  module _ (h : JobLoaded l capacity x d links (Next n)) where
+  module _ (u : Unit {0}) (h : JobLoaded l capacity x d links (Ok u)) where
     pub job_standing : JobHeld l capacity d × LinksHeld d links
-    job_standing = let (_, j, i) = loaded_job l capacity x d links n h in (j, i)
+    job_standing = let (_, j, i) = loaded_job l capacity x d links u h in (j, i)
 
     -- So was the plan.
-    pub both_loaded : (f : List ℕ) (r : Step) → KeptOutside (line_at capacity) (largest_delay_at capacity) d f → PlanLoaded l capacity (read_plan l (job_in d) plan) f r
+    pub both_loaded : (f : List ℕ) (r : Rust.Result (Unit {0}) Refusal) → KeptOutside (line_at capacity) (largest_delay_at capacity) d f → PlanLoaded l capacity (read_plan l (job_in d) plan) f r
         → BothLoaded l capacity (with_plan l x plan) f links r
     unfolding with_plan
-    both_loaded f r c g = rw (loaded_job l capacity x d links n h).0 (by (read_plan l (job_in d) plan) g)
+    both_loaded f r c g = rw (loaded_job l capacity x d links u h).0 (by (read_plan l (job_in d) plan) g)
       where
         by : (y : Result Plan) → PlanLoaded l capacity y f r → BothLoaded l capacity (and_then y (λ p. good (job_in d, p))) f links r
         by (good p) (a, b, s) =
-            let (_, j, i) = loaded_job l capacity x d links n h in
+            let (_, j, i) = loaded_job l capacity x d links u h in
             (a, job_kept j c (omega arith), b, s, links_kept j c (omega arith) i)
         by (bad k) g = g
 
 -- What was read -------------------------------------------------------------------------------------------------------
 
-module _ (l : Limits) (capacity : ℕ) (mem links : List ℕ) (n : ℕ) where
-  pub both_no : (x : Result (Job × Plan)) → BothLoaded l capacity x mem links (Refused n) → x ≡ bad n
-  both_no (good (j, p)) ((k, e), _, _, _, _) = absurd (let z : ◌≡◌ {A = ℕ} 0 1 = cc in omega arith)
-  both_no (bad k) e = cc
+module _ (l : Limits) (capacity : ℕ) (mem links : List ℕ) where
+  pub both_no : (x : Result (Job × Plan)) (r : Refusal) → BothLoaded l capacity x mem links (Err r) → x ≡ bad (number_of r)
+  both_no (good (j, p)) r (e, _, _, _, _) = absurd (let z : ◌≡◌ {A = ℕ} 0 1 = cc in omega arith)
+  both_no (bad k) r e = cc
 
-  pub both_next : (x : Result (Job × Plan)) → BothLoaded l capacity x mem links (Next n) → (x ≡ good (job_in mem, plan_in capacity mem)) × LinesHeld l capacity (nth mem 0) mem × LinksHeld mem links
-  both_next (good (j, p)) (_, e, f, s, i) = (rw (e, f), s, i)
-  both_next (bad k) e = absurd (let z : ◌≡◌ {A = ℕ} 0 1 = cc in omega arith)
+  pub both_next : (x : Result (Job × Plan)) (u : Unit {0}) → BothLoaded l capacity x mem links (Ok u) → (x ≡ good (job_in mem, plan_in capacity mem)) × LinesHeld l capacity (nth mem 0) mem × LinksHeld mem links
+  both_next (good (j, p)) u (_, e, f, s, i) = (rw (e, f), s, i)
+  both_next (bad k) u e = absurd (let z : ◌≡◌ {A = ℕ} 0 1 = cc in omega arith)
 
 both_facts : (l : Limits) (x : Result Job) (plan : List ℕ) (j : Job) (p : Plan) → with_plan l x plan ≡ good (j, p) → PlanFacts l j p
 unfolding with_plan
@@ -64,8 +66,8 @@ both_facts l x plan j p h =
     by i q g a b = plan_facts l j plan p (rw (a, b) at g)
 
 -- Both stand in the memory.
-pub both_held : (l : Limits) (capacity : ℕ) (x : Result Job) (plan mem links : List ℕ) (n : ℕ) → BothLoaded l capacity (with_plan l x plan) mem links (Next n)
+pub both_held : (l : Limits) (capacity : ℕ) (x : Result Job) (plan mem links : List ℕ) (u : Unit {0}) → BothLoaded l capacity (with_plan l x plan) mem links (Ok u)
     → PlanHeld l capacity mem × LinksHeld mem links
-both_held l capacity x plan mem links n h =
-    let (e, s, i) = both_next l capacity mem links n (with_plan l x plan) h in
+both_held l capacity x plan mem links u h =
+    let (e, s, i) = both_next l capacity mem links (with_plan l x plan) u h in
     (record { standing = s; facts = both_facts l x plan (job_in mem) (plan_in capacity mem) e }, i)

@@ -1,5 +1,7 @@
 -- The lines of a plan in a memory, after a change elsewhere.
-use Rattle.lists.proofs.Prelude.{◌≡◌, refl, ap, sym, ◌∙◌, ◌⊎◌, inl, inr, ⊎_elim, List, map, map-map, count_from, below, add-one, Replica, Line, Bool, true, false, ℕ, zero, suc, ◌+◌, ◌*◌, ◌%◌, ◌<◌, ◌≤◌, arith, length, Limits, length-map, set, length-set, get_or-set_same, get_or-set_other, nth, In}
+use Rattle.lists.proofs.Prelude.{◌≡◌, refl, ap, sym, ◌∙◌, ◌⊎◌, inl, inr, ⊎_elim, List, map, map-map, count_from, below, add-one, Replica, Line, Bool}
+use Rattle.lists.proofs.Prelude.{true, false, ℕ, zero, suc, ◌+◌, ◌*◌, ◌%◌, ◌<◌, ◌≤◌, arith, length, Limits, length-map, set, length-set}
+use Rattle.lists.proofs.Prelude.{get_or-set_same, get_or-set_other, nth, In}
 use Rattle.definitions.proofs.Lists.{in_map, map_in, in_below, below_in, nth_below, length_count}
 use Rattle.heads.specs.Layout.{job_size, level_at, line_at, blocked_at, replicas_most, row_at, processor_at, early_at, late_at, time_at}
 use Rattle.plans.specs.Lines.{row_end, row_outcomes, placed_in, replica_in, row_replicas, lines_in, RowHeld, LinesHeld}

@@ -1,7 +1,11 @@
--- The rules of a plan's head and of its lines, with the job and the lines before in a memory.
-use Rattle.lists.proofs.Prelude.{◌≡◌, refl, ap, sym, ◌∙◌, inr, ⊎_elim, List, [], ◌∷◌, map, map-map, reverse, Bool, true, false, not, ◌&&◌, ◌||◌, true≢false, ℕ, zero, suc, ◌+◌, ◌<◌, ◌≤◌, arith, ltb-true, lt-ltb, le-ltb, eq-eqb, ne_eqb, not-false, eqb, ltb, length, nth, below, In, any, all, has, Limits, first_of, Edge, incoming, outside, Replica, Line, processors_of, descends, plan_head_rule, plan_line_rule}
-use Rattle.definitions.specs.Plan.{PlanHead, strays}
-use Rattle.definitions.proofs.Lists.{neither, neither_false, refuted, inside, in_any, none_in, none_any, all_in, in_all, reverse_left, in_map, map_in, in_below, below_in, nth_in, in_has, has_not}
+-- The rules of a plan's lines, with the job and the lines before in a memory.
+use Rattle.lists.proofs.Prelude.{◌≡◌, refl, ap, subst, sym, ◌∙◌, inr, ⊎_elim, List, [], ◌∷◌, map, map-map, reverse, Bool, true, false, not, ◌||◌}
+use Rattle.lists.proofs.Prelude.{true≢false, ℕ, zero, suc, ◌+◌, ◌<◌, ◌≤◌, arith, add-one, ltb-true, lt-ltb, le-ltb, eq-eqb, ne_eqb, not-false, eqb}
+use Rattle.lists.proofs.Prelude.{ltb, length, nth, below, In, any, all, has, Limits, first_of, Edge, incoming, outside, Replica, Line, processors_of}
+use Rattle.lists.proofs.Prelude.{descends, plan_line_rule}
+use Rattle.definitions.specs.Plan.{strays}
+use Rattle.definitions.proofs.Lists.{neither, neither_false, refuted, inside, in_any, none_in, none_any, all_in, in_all, reverse_left, in_map, map_in}
+use Rattle.definitions.proofs.Lists.{in_below, below_in, nth_in, in_has, has_not}
 use Rattle.definitions.proofs.Tasks.{in_incoming}
 use Rattle.definitions.proofs.Doubled.{rising}
 use Rattle.heads.specs.Layout.{line_at, row_at, processor_at, early_at, late_at}
@@ -11,35 +15,28 @@ use Rattle.orders.specs.Edges.{edge_in}
 use Rattle.orders.specs.Links.{Run}
 use Rattle.orders.proofs.Walk.{passed, Passed, pass_none, pass_first, pass_at, pass_on, pass_more, pass_done}
 use Rattle.plans.specs.Loading.{line_in}
+use Rattle.std.proofs.Common.{zero-add}
+use Rattle.std.specs.Bool.{MatchBool}
+use Rattle.std.specs.List.{range_with_len, AllWithin, HoldsAt}
+use Rattle.std.proofs.lemmas.List.FromFn.{length-range_with_len, get_or-range_with_len}
 use Rattle.lists.proofs.ListLaws.{all_same}
 use Rattle.jobs.proofs.Held.{sizes, tasks_in_lem}
 use Rattle.plans.proofs.Lines.{line_with, lines_below, replica_of, in_replicas, processors_length, processor_at_lem}
 
 -- The head --------------------------------------------------------------------------------------------------------
 
--- The tests of a head's numbers, in their order.
-abbrev pub outside_head : Limits → PlanHead → Bool
-outside_head l h =
-    outside 1 l.tasks h.tasks || outside 1 l.processors h.processors || outside 0 l.losses h.losses || outside 0 l.tick h.lower || outside 0 l.tick h.upper
-
--- The job in a memory has the head's sizes.
-abbrev pub same_sizes : List ℕ → PlanHead → Bool
-same_sizes mem h = eqb h.tasks (nth mem 0) && eqb h.processors (nth mem 1) && eqb h.losses (nth mem 3)
-
-module _ (l : Limits) (mem : List ℕ) (h : PlanHead) where
-  pub head_range : outside_head l h ≡ true → 3 ≡ plan_head_rule l (job_in mem) h
-  unfolding plan_head_rule first_of
-  head_range e = rw e
-
-  pub head_sizes : outside_head l h ≡ false → not (same_sizes mem h) ≡ true → 9 ≡ plan_head_rule l (job_in mem) h
-  unfolding plan_head_rule first_of job_in
-  head_sizes e f = rw (e, f)
-
-  pub head_good : outside_head l h ≡ false → not (same_sizes mem h) ≡ false → 0 ≡ plan_head_rule l (job_in mem) h
-  unfolding plan_head_rule first_of job_in
-  head_good e f = rw (e, f)
-
 -- The processors and ticks of a line --------------------------------------------------------------------------------
+
+-- Some number below n has P, or each has Q.
+abbrev pub AnyBelow : (ℕ → Type 0) → (ℕ → Type 0) → ℕ → Bool → Type 0
+AnyBelow P Q n true = (c : ℕ) × (c < n) × P c
+AnyBelow P Q n false = (c : ℕ) → c < n → Q c
+
+-- What `(0..n).any(..)` says of the numbers, where `cases_from_any` said it of their list.
+pub any_below : (P Q : ℕ → Type 0) (n : ℕ) (r : Bool) → MatchBool r ((i : ℕ) × (i < length (range_with_len 0 n)) × HoldsAt P (range_with_len 0 n) i)
+    (AllWithin Q (range_with_len 0 n) 0 (length (range_with_len 0 n))) → AnyBelow P Q n r
+any_below P Q n true (i, g, e) = let h : i < n = omega (arith, length-range_with_len 0 n) in (i, h, subst P (get_or-range_with_len 0 n i 0 h ∙ zero-add i) (e 0))
+any_below P Q n false e = λ c h. subst Q (get_or-range_with_len 0 n c 0 h ∙ zero-add c) (e c 0 (omega arith) (omega (arith, length-range_with_len 0 n)))
 
 abbrev strayed : Limits → List ℕ → Replica → Bool
 strayed l mem r = not (ltb r.processor (nth mem 1)) || outside 0 l.tick r.early || outside 0 l.tick r.late
@@ -50,16 +47,21 @@ module _ (l : Limits) (mem : List ℕ) (a : ℕ) where
   strays_task h = rw (le-ltb (nth mem a) (nth mem 0) h)
 
   module _ (h : nth mem a < nth mem 0) where
-    pub strays_here : (c : ℕ) → c < nth mem 3 + 1 → replica_strays l a c mem ≡ true → true ≡ strays l (job_in mem) (line_in a mem)
+    strays_here : (c : ℕ) → c < nth mem 3 + 1 → replica_strays l a c mem ≡ true → true ≡ strays l (job_in mem) (line_in a mem)
     unfolding strays job_in
     strays_here c g e =
         rw (lt-ltb (nth mem a) (nth mem 0) h) (sym (in_any (strayed l mem) (replica_in a c mem) (row_replicas a (nth mem 3 + 1) mem) (in_replicas a (nth mem 3 + 1) c mem g) e))
 
-    pub strays_none : ((c : ℕ) → c < nth mem 3 + 1 → replica_strays l a c mem ≡ false) → false ≡ strays l (job_in mem) (line_in a mem)
+    strays_none : ((c : ℕ) → c < nth mem 3 + 1 → replica_strays l a c mem ≡ false) → false ≡ strays l (job_in mem) (line_in a mem)
     unfolding strays job_in
     strays_none f =
         rw (lt-ltb (nth mem a) (nth mem 0) h)
         (sym (none_any (strayed l mem) (row_replicas a (nth mem 3 + 1) mem) (λ r i. let (c, g, e) = replica_of mem a (nth mem 3 + 1) r i in rw (← e) (f c g))))
+
+    -- It was asked of each replica.
+    pub strays_by : (r : Bool) → AnyBelow (λ c. replica_strays l a c mem ≡ true) (λ c. replica_strays l a c mem ≡ false) (nth mem 3 + 1) r → r ≡ strays l (job_in mem) (line_in a mem)
+    strays_by true (c, g, e) = strays_here c g e
+    strays_by false e = strays_none e
 
   -- A line that does not stray.
   pub strays_not : strays l (job_in mem) (line_in a mem) ≡ false → (nth mem a < nth mem 0) × RowHeld l a mem
@@ -101,16 +103,23 @@ module _ (mem : List ℕ) (a : ℕ) where
     omega (arith, processors_length mem a (nth mem 3 + 1)),
   )
 
-  pub descends_here : (c : ℕ) → c < nth mem 3 → nth mem (processor_at a (suc c)) < nth mem (processor_at a c) → true ≡ descends (processors_of (line_in a mem))
+  descends_here : (c : ℕ) → c < nth mem 3 → nth mem (processor_at a (suc c)) < nth mem (processor_at a c) → true ≡ descends (processors_of (line_in a mem))
   descends_here c l h = by (descends processors) refl
     where
       by : (b : Bool) → descends processors ≡ b → true ≡ b
       by true d = refl
       by false d = let (e, f, g) = neighbours c l in absurd (omega (arith, ascends_at processors c d g, e, f, h))
 
-  pub descends_none : ((c : ℕ) → c < nth mem 3 → nth mem (processor_at a c) ≤ nth mem (processor_at a (suc c))) → false ≡ descends (processors_of (line_in a mem))
+  descends_none : ((c : ℕ) → c < nth mem 3 → nth mem (processor_at a c) ≤ nth mem (processor_at a (suc c))) → false ≡ descends (processors_of (line_in a mem))
   descends_none h =
       sym (ascend_each processors (λ i g. let l : i < nth mem 3 = omega (arith, g, processors_length mem a (nth mem 3 + 1)) in let (e, f, _) = neighbours i l in omega (arith, e, f, h i l)))
+
+  -- It was asked of each two neighbours.
+  pub descends_by : (r : Bool)
+      → AnyBelow (λ c. nth mem (processor_at a (c + 1)) < nth mem (processor_at a c)) (λ c. nth mem (processor_at a c) ≤ nth mem (processor_at a (c + 1))) (nth mem 3) r
+      → r ≡ descends (processors_of (line_in a mem))
+  descends_by true (c, l, h) = descends_here c l (rw add-one at h)
+  descends_by false h = descends_none (λ c l. rw add-one at (h c l))
 
 -- Lines of predecessors -----------------------------------------------------------------------------------------------
 

@@ -1,16 +1,21 @@
 -- A plan's lines, read into rows.
-use Rattle.lists.proofs.Prelude.{◌≡◌, refl, ap, sym, ◌∙◌, List, [], ◌∷◌, ◌++◌, map, count_from, ℕ, zero, suc, ◌+◌, ◌-◌, ◌*◌, ◌<◌, ◌≤◌, arith, add-zero, sub-zero, add-one, length, set, take, drop, length-drop, List·getD-append, drop_at, length-take-le, take_all, get_or-take, get_or-drop, bytes, nth, Limits, Reading, Reader, found, refused, line, lines, Job, Replica, Line, plan_line_rule}
+use Rattle.lists.proofs.Prelude.{◌≡◌, refl, ap, sym, ◌∙◌, List, [], ◌∷◌, ◌++◌, map, count_from, ℕ, zero, suc, ◌+◌, ◌-◌, ◌*◌, ◌<◌, ◌≤◌, arith}
+use Rattle.lists.proofs.Prelude.{add-zero, add-one, length, set, take, drop, length-drop, List·getD-append, drop_at, length-take-le, take_all}
+use Rattle.lists.proofs.Prelude.{get_or-take, get_or-drop, bytes, nth, Limits, Reading, Reader, found, refused, line, lines, Job, Replica, Line}
+use Rattle.lists.proofs.Prelude.{plan_line_rule}
 use borrow.Rule.Slice.PartMut.{mid_of, post_of, put_mid, take_put, drop_put, same_len_mid, mid_len}
 use Rattle.definitions.specs.Plan.{triples, line_of, plan_line}
 use Rattle.heads.specs.Layout.{line_at, blocked_at, row_at, largest_delay_at, processor_at, early_at, late_at}
 use Rattle.jobs.specs.Held.{job_in, JobHeld, LinksHeld}
 use Rattle.plans.specs.Lines.{line_cells, row_end, replica_in, lines_in, RowHeld, LinesHeld}
 use Rattle.lists.specs.Kept.{KeptOutside}
-use Rattle.text.specs.declared.Step.{Step}
-use Rattle.text.specs.declared.Step.TheVariants.{Next, Refused}
-use Rattle.text.specs.Meaning.{step_reading, ruled, line_into}
+use Rattle.std.specs.Prelude.{Result, Ok, Err}
+use Rattle.text.specs.Numbers.{number_of}
+use Rattle.text.specs.declared.refusal.Refusal.{Refusal}
+use Rattle.text.specs.Meaning.{reading, ruled, line_into}
+use Rattle.text.proofs.Refusals.{positive}
 use Rattle.plans.specs.Loading.{line_in, RowFilled, LineRead}
-use Rattle.lines.proofs.LineLaws.{line_fits, ruled_bad, ruled_no, ruled_yes, lines_end, lines_no, lines_next}
+use Rattle.lines.proofs.LineLaws.{line_fits, ruled_no, ruled_yes, LinesUpTo, lines_none, lines_read, lines_refused, lines_more}
 use Rattle.lists.proofs.Kept.{same_before, same_behind, kept_all, kept_then, kept_wider, kept_set}
 use Rattle.jobs.proofs.Held.{Sizes, sizes, job_kept, links_kept, losses_in}
 use Rattle.plans.proofs.Lines.{replicas_below, lines_same, standing_behind, standing_more}
@@ -90,18 +95,18 @@ module _ {l : Limits} {capacity k : ℕ} {d : List ℕ} (u : LinesHeld l capacit
       rw (take_all n ys (omega (arith, width)), ← z)
       (row_line lent_row a ys (lent_cell a (a + n) d ys (omega arith) within (omega (arith, width))) (omega (arith, row_kept.before 3 (omega (arith, z)), width, q)))
 
-  pub row_filled : (s : List ℕ) (at : ℕ) (r : Step)
-      → step_reading s (take n ys) r ≡ line_into l (length (mid_of a (a + n - a) d)) (bytes "T,") n (drop at s) → RowFilled l capacity k s at d lent_row r
+  pub row_filled : (s t : List ℕ) (r : Result (Unit {0}) Refusal)
+      → reading t (take n ys) r ≡ line_into l (length (mid_of a (a + n - a) d)) (bytes "T,") n s → RowFilled l capacity k s t d lent_row r
   unfolding plan_line
-  row_filled s at r e =
+  row_filled s t r e =
       record {
         kept = kept_wider (row_at capacity k) (row_end (row_at capacity k)) row_kept (omega (arith, z)) (omega (arith, z, q, row_numbers u));
-        answer = by r (e ∙ line_fits l (length (mid_of a (a + n - a) d)) (bytes "T,") n (drop at s) (omega (arith, o, width)));
+        answer = by r (e ∙ line_fits l (length (mid_of a (a + n - a) d)) (bytes "T,") n s (omega (arith, o, width)));
       }
     where
-      by : (r : Step) → step_reading s (take n ys) r ≡ line l (bytes "T,") n (drop at s) → step_reading s (line_in (row_at capacity k) lent_row) r ≡ plan_line l (job_in d) (drop at s)
-      by (Next p) e = let m : 1 + 3 * (1 + (job_in d).losses) ≡ n = omega (arith, losses_in d, q) in rw (m, ← e, line_filled)
-      by (Refused x) e = let m : 1 + 3 * (1 + (job_in d).losses) ≡ n = omega (arith, losses_in d, q) in rw (m, ← e)
+      by : (r : Result (Unit {0}) Refusal) → reading t (take n ys) r ≡ line l (bytes "T,") n s → reading t (line_in (row_at capacity k) lent_row) r ≡ plan_line l (job_in d) s
+      by (Ok x) e = let m : 1 + 3 * (1 + (job_in d).losses) ≡ n = omega (arith, losses_in d, q) in rw (m, ← e, line_filled)
+      by (Err x) e = let m : 1 + 3 * (1 + (job_in d).losses) ≡ n = omega (arith, losses_in d, q) in rw (m, ← e)
 
 -- One line ----------------------------------------------------------------------------------------------------------------
 
@@ -112,18 +117,14 @@ form_of l d = plan_line l (job_in d)
 abbrev rule_of : Limits → List ℕ → List Line → Line → ℕ
 rule_of l d = plan_line_rule l (job_in d)
 
--- A refusal is no place.
-refused_no : {A : Type 0} (x n : ℕ) → Refused x ≡ Next n → A
-refused_no x n e = let z : ◌≡◌ {A = ℕ} 0 1 = cc in absurd (omega (arith, z))
-
 -- One line more, after the lines in `seen`.
-lines_more : (capacity : ℕ) (d mem : List ℕ) (k : ℕ) (seen : List Line) → lines_in capacity (nth d 3 + 1) k mem ≡ seen → nth mem 3 ≡ nth d 3
+one_more : (capacity : ℕ) (d mem : List ℕ) (k : ℕ) (seen : List Line) → lines_in capacity (nth d 3 + 1) k mem ≡ seen → nth mem 3 ≡ nth d 3
     → lines_in capacity (nth d 3 + 1) (suc k) mem ≡ seen ++ line_in (row_at capacity k) mem ∷ []
 unfolding lines_in
-lines_more capacity d mem k seen e l = rw (e, l)
+one_more capacity d mem k seen e l = rw (e, l)
 
 -- k lines stand in d, and one more was read into its row, with the answer r.
-module _ {l : Limits} {capacity k at : ℕ} {d s mem : List ℕ} {r : Step} (u : LinesHeld l capacity k d) (h : k < nth d 0) (f : RowFilled l capacity k s at d mem r) where
+module _ {l : Limits} {capacity k : ℕ} {d s q mem : List ℕ} {r : Result (Unit {0}) Refusal} (u : LinesHeld l capacity k d) (h : k < nth d 0) (f : RowFilled l capacity k s q d mem r) where
   abbrev seen : List Line
   seen = lines_in capacity (nth d 3 + 1) k d
 
@@ -142,39 +143,39 @@ module _ {l : Limits} {capacity k at : ℕ} {d s mem : List ℕ} {r : Step} (u :
   pub filled_asked : {links : List ℕ} → LinksHeld d links → JobHeld l capacity mem × LinksHeld mem links × (row_end (row_at capacity k) ≤ length mem)
   filled_asked i = (filled_standing.job, links_kept u.job f.kept (omega arith) i, omega (arith, row_within u h, f.kept.size))
 
-  -- Its task, if the job has it, has its place in the table.
-  pub line_place : nth mem (row_at capacity k) < nth mem 0 → line_at capacity + nth mem (row_at capacity k) < length mem
-  line_place t = omega (arith, sizes filled_standing.job, t)
-
   losses_filled : nth mem 3 ≡ nth d 3
   losses_filled = all_kept.before 3 (omega arith)
 
   lines_filled : lines_in capacity (nth d 3 + 1) k mem ≡ seen
   lines_filled = lines_same d mem capacity (nth d 3 + 1) k (omega (arith, limits)) (same_before (row_at capacity 0) (row_at capacity k) f.kept (omega arith))
 
-  refused_line : (x : ℕ) → refused x ≡ ruled (form_of l d) (rule_of l d) seen (drop at s) → LineRead l capacity k s at d mem (Refused x)
-  refused_line x e = record { kept = all_kept; latest = latest; answer = e; standing = λ m f. refused_no x m f; more = λ m f. refused_no x m f }
+  -- It was read; x is what its rule says.
+  module _ (i : Unit {0}) (e : r ≡ Ok i) (x : ℕ) (g : x ≡ plan_line_rule l (job_in mem) (lines_in capacity (nth mem 3 + 1) k mem) latest) where
+    line_found : form_of l d s ≡ found latest q
+    line_found = sym f.answer ∙ ap (reading q latest) e
 
-  pub read_bad : (x : ℕ) → r ≡ Refused x → LineRead l capacity k s at d mem (Refused x)
-  read_bad x e = refused_line x (ruled_bad (form_of l d) (rule_of l d) seen (drop at s) x (sym f.answer ∙ ap (step_reading s latest) e))
-
-  -- The place after it is p; x is what its rule says.
-  module _ (p : ℕ) (e : r ≡ Next p) (x : ℕ) (g : x ≡ plan_line_rule l (job_in mem) (lines_in capacity (nth mem 3 + 1) k mem) latest) where
     by_rule : x ≡ rule_of l d seen latest
     by_rule =
         g ∙ ap (λ (j : Job). plan_line_rule l j (lines_in capacity (nth mem 3 + 1) k mem) latest) (job_kept u.job all_kept (omega arith))
         ∙ ap (λ (z : ℕ). rule_of l d (lines_in capacity (z + 1) k mem) latest) losses_filled
         ∙ ap (λ (ns : List Line). rule_of l d ns latest) lines_filled
 
-    pub read_no : 0 < x → LineRead l capacity k s at d mem (Refused x)
-    read_no o = refused_line x (ruled_no (form_of l d) (rule_of l d) seen (drop at s) latest (drop p s) (sym f.answer ∙ ap (step_reading s latest) e) x by_rule o)
+    pub read_no : (y : Refusal) → x ≡ number_of y → LineRead l capacity k s q d mem (Err y)
+    read_no y o =
+        record {
+          kept = all_kept;
+          latest = latest;
+          answer = ruled_no (form_of l d) (rule_of l d) seen s latest q line_found (number_of y) (sym o ∙ by_rule) (positive y);
+          standing = λ e. absurd cc;
+          more = λ e. absurd cc;
+        }
 
     -- It gets its place in the table.
     module _ (t : (nth mem (row_at capacity k) < nth mem 0) × (nth mem (line_at capacity + nth mem (row_at capacity k)) ≡ 0) × RowHeld l (row_at capacity k) mem) where
       abbrev last : List ℕ
       last = set mem (line_at capacity + nth mem (row_at capacity k)) (suc k)
 
-      pub read_yes : x ≤ 0 → LineRead l capacity k s at d (set mem (line_at capacity + nth mem (row_at capacity k)) (k + 1)) (Next p)
+      pub read_yes : x ≡ 0 → LineRead l capacity k s q d (set mem (line_at capacity + nth mem (row_at capacity k)) (k + 1)) (Ok i)
       read_yes o =
           let c : KeptOutside (line_at capacity) (blocked_at capacity) mem last =
           kept_set (line_at capacity + nth mem (row_at capacity k)) (suc k) kept_all (omega arith) (omega (arith, sizes filled_standing.job, t.0)) in
@@ -182,31 +183,31 @@ module _ {l : Limits} {capacity k at : ℕ} {d s mem : List ℕ} {r : Step} (u :
           (record {
             kept = kept_then all_kept (kept_wider (line_at capacity) (largest_delay_at capacity) c (omega arith) (omega arith));
             latest = latest;
-            answer = ruled_yes (form_of l d) (rule_of l d) seen (drop at s) latest (drop p s) (sym f.answer ∙ ap (step_reading s latest) e) x by_rule o;
-            standing = λ m f. standing_more filled_standing (omega (arith, all_kept.before 0 (omega arith), h)) t.0 t.1 refl t.2;
-            more = λ m f.
+            answer = ruled_yes (form_of l d) (rule_of l d) seen s latest q line_found x by_rule (omega arith);
+            standing = λ f. standing_more filled_standing (omega (arith, all_kept.before 0 (omega arith), h)) t.0 t.1 refl t.2;
+            more = λ f.
                 lines_same mem last capacity (nth d 3 + 1) (suc k) (omega (arith, limits)) (same_behind (row_at capacity 0) (row_at capacity (suc k)) c (omega arith))
-                ∙ lines_more capacity d mem k seen lines_filled losses_filled;
+                ∙ one_more capacity d mem k seen lines_filled losses_filled;
           })
 
 -- Line by line ----------------------------------------------------------------------------------------------------------
 
--- All T lines of the job in d, from a place of the text on.
-abbrev pub all_lines : Limits → List ℕ → List ℕ → ℕ → Reading (List Line)
-all_lines l d s at = lines (plan_line l (job_in d)) (plan_line_rule l (job_in d)) (nth d 0) [] (drop at s)
+-- All T lines of the job in d, from the front of a text on.
+abbrev pub all_lines : Limits → List ℕ → List ℕ → Reading (List Line)
+all_lines l d s = lines (plan_line l (job_in d)) (plan_line_rule l (job_in d)) (nth d 0) [] s
 
--- k lines were read, up to the place p of the text s, into the memory d.
-pub record LinesUpTo (l : Limits) (capacity : ℕ) (s : List ℕ) (at : ℕ) (d : List ℕ) (k p : ℕ) (mem : List ℕ) : Type 0 where
+-- Of the lines at the front of the text `start`, k were read, into the memory d; the text s is left.
+pub record PlanUpTo (l : Limits) (capacity : ℕ) (start d : List ℕ) (k : ℕ) (s mem : List ℕ) : Type 0 where
   pub job : JobHeld l capacity d
   pub kept : KeptOutside (line_at capacity) (largest_delay_at capacity) d mem
   pub standing : LinesHeld l capacity k mem
-  pub rest : lines (plan_line l (job_in d)) (plan_line_rule l (job_in d)) (nth d 0 - k) (lines_in capacity (nth d 3 + 1) k mem) (drop p s) ≡ all_lines l d s at
+  pub read : LinesUpTo (plan_line l (job_in d)) (plan_line_rule l (job_in d)) start (nth d 0) k (lines_in capacity (nth d 3 + 1) k mem) s
 
-pub upto_none : {l : Limits} {capacity : ℕ} (s : List ℕ) (at : ℕ) (d : List ℕ) → LinesHeld l capacity 0 d → LinesUpTo l capacity s at d 0 at d
+pub upto_none : {l : Limits} {capacity : ℕ} (s d : List ℕ) → LinesHeld l capacity 0 d → PlanUpTo l capacity s d 0 s d
 unfolding lines_in
-upto_none s at d h = record { job = h.job; kept = kept_all; standing = h; rest = rw sub-zero }
+upto_none s d h = record { job = h.job; kept = kept_all; standing = h; read = lines_none }
 
-module _ {l : Limits} {capacity : ℕ} {s : List ℕ} {at : ℕ} {d : List ℕ} {k p : ℕ} {mem : List ℕ} (u : LinesUpTo l capacity s at d k p mem) where
+module _ {l : Limits} {capacity : ℕ} {start d : List ℕ} {k : ℕ} {s mem : List ℕ} (u : PlanUpTo l capacity start d k s mem) where
   pub tasks_kept : nth mem 0 ≡ nth d 0
   tasks_kept = u.kept.before 0 (omega arith)
 
@@ -214,34 +215,25 @@ module _ {l : Limits} {capacity : ℕ} {s : List ℕ} {at : ℕ} {d : List ℕ} 
   losses_kept = u.kept.before 3 (omega arith)
 
   -- All lines were read.
-  pub upto_end : nth d 0 ≤ k → (found (lines_in capacity (nth mem 3 + 1) (nth mem 0) mem) (drop p s) ≡ all_lines l d s at) × LinesHeld l capacity (nth mem 0) mem
-  upto_end h =
-      let e : nth mem 0 ≡ k = omega (arith, u.standing.count, tasks_kept, h) in
-      (rw (e, losses_kept) (lines_end (form_of l d) (rule_of l d) (nth d 0) k (lines_in capacity (nth d 3 + 1) k mem) (drop p s) h ∙ u.rest), rw e u.standing)
+  pub upto_end : nth d 0 ≤ k → (found (lines_in capacity (nth mem 3 + 1) (nth mem 0) mem) s ≡ all_lines l d start) × LinesHeld l capacity (nth mem 0) mem
+  upto_end h = let e : nth mem 0 ≡ k = omega (arith, u.standing.count, tasks_kept, h) in (rw (e, losses_kept) (lines_read u.read h), rw e u.standing)
 
   -- One line more was read, with the answer r.
-  module _ (h : k < nth d 0) (new : List ℕ) (r : Step) (v : LineRead l capacity k s p mem new r) where
-    answer_is : step_reading s v.latest r ≡ ruled (form_of l d) (rule_of l d) (lines_in capacity (nth d 3 + 1) k mem) (drop p s)
+  module _ (h : k < nth d 0) {q new : List ℕ} {r : Result (Unit {0}) Refusal} (v : LineRead l capacity k s q mem new r) where
+    answer_is : reading q v.latest r ≡ ruled (form_of l d) (rule_of l d) (lines_in capacity (nth d 3 + 1) k mem) s
     answer_is =
         v.answer
-        ∙ ap (λ (j : Job). ruled (plan_line l j) (plan_line_rule l j) (lines_in capacity (nth mem 3 + 1) k mem) (drop p s)) (job_kept u.job u.kept (omega arith))
-        ∙ ap (λ (z : ℕ). ruled (form_of l d) (rule_of l d) (lines_in capacity (z + 1) k mem) (drop p s)) losses_kept
+        ∙ ap (λ (j : Job). ruled (plan_line l j) (plan_line_rule l j) (lines_in capacity (nth mem 3 + 1) k mem) s) (job_kept u.job u.kept (omega arith))
+        ∙ ap (λ (z : ℕ). ruled (form_of l d) (rule_of l d) (lines_in capacity (z + 1) k mem) s) losses_kept
 
     pub upto_kept : KeptOutside (line_at capacity) (largest_delay_at capacity) d new
     upto_kept = kept_then u.kept v.kept
 
-    pub upto_no : (x : ℕ) → r ≡ Refused x → refused x ≡ all_lines l d s at
-    upto_no x e = lines_no (form_of l d) (rule_of l d) (nth d 0) k (lines_in capacity (nth d 3 + 1) k mem) (drop p s) h x (sym answer_is ∙ ap (step_reading s v.latest) e) ∙ u.rest
+    pub upto_no : (x : Refusal) → r ≡ Err x → refused (number_of x) ≡ all_lines l d start
+    upto_no x e = lines_refused u.read h v.latest q answer_is e
 
-    pub upto_next : (n : ℕ) → r ≡ Next n → LinesUpTo l capacity s at d (k + 1) n new
-    upto_next n e =
+    pub upto_next : (i : Unit {0}) → r ≡ Ok i → PlanUpTo l capacity start d (k + 1) q new
+    upto_next i e =
         let more : lines_in capacity (nth d 3 + 1) (k + 1) new ≡ lines_in capacity (nth d 3 + 1) k mem ++ v.latest ∷ [] =
-        rw (add-one k, ← losses_kept) (v.more n e) in
-        record {
-          job = u.job;
-          kept = upto_kept;
-          standing = rw (add-one k) (v.standing n e);
-          rest = rw more
-              (lines_next (form_of l d) (rule_of l d) (nth d 0) k (lines_in capacity (nth d 3 + 1) k mem) (drop p s) h v.latest (drop n s) (sym answer_is ∙ ap (step_reading s v.latest) e)
-              ∙ u.rest);
-        }
+        rw (add-one k, ← losses_kept) (v.more e) in
+        record { job = u.job; kept = upto_kept; standing = rw (add-one k) (v.standing e); read = rw more (lines_more u.read h v.latest q answer_is e) }

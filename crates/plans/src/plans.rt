@@ -1,13 +1,12 @@
 // A plan's text, read into a memory that holds its job.
-ghost use Rattle.std.specs.Prelude.{◌≡◌, [], not, ℕ, ◌+◌, ◌*◌, ◌≤◌, ◌<◌, eqb, length, drop};
+ghost use Rattle.std.specs.Prelude.{◌≡◌, [], not, ℕ, ◌+◌, ◌*◌, ◌≤◌, ◌<◌, eqb, length, Ok};
 ghost use Rattle.definitions.specs.Lists.{nth, all};
 ghost use Rattle.definitions.specs.Limits.{document01};
 ghost use Rattle.definitions.specs.Text.{lines};
 ghost use Rattle.definitions.specs.Job.{incoming};
 ghost use Rattle.definitions.specs.Plan.{strays, processors_of, plan_head_of, plan_head_rule, plan_line, plan_line_rule, read_plan};
 ghost use Rattle.definitions.specs.Plan as Plan;
-ghost use Rattle.text.specs.Meaning.{step_reading};
-ghost use Rattle.text.specs.declared.Step.TheVariants.{Next};
+ghost use Rattle.text.specs.Meaning.{reading, due_of};
 ghost use Rattle.heads.specs.Layout.{memory_size, line_at, blocked_at, largest_delay_at, replica_end};
 ghost use Rattle.jobs.specs.Held.{job_in, JobHeld, SomeJobHeld, LinksHeld};
 ghost use Rattle.plans.specs.Lines.{row_end, replica_strays, lines_in, RowHeld, LinesHeld};
@@ -16,26 +15,27 @@ ghost use Rattle.plans.specs.Loading.{line_in, RowFilled, LineRead, plan_from, P
 
 use crate::row;
 use heads::layout::{LINE, LOWER, UPPER};
-use text::Step;
+use lines::reader::Reader;
 use text::limits::{LOSSES, PROCESSORS, TASKS, TEXT_LENGTH, TICK};
+use text::refusal::Refusal;
 
-// The number of the refusal of a plan's head, or 0. Its five numbers stand at the front of `head`.
-fn head_refusal(mem: &[u64], head: &[u64]) -> u64
-    requires { (4 ≤ length mem.now) × (5 ≤ length head.now) }
-    ensures { result ≡ plan_head_rule document01 (job_in mem.now) (plan_head_of head.now) }
+// Whether a plan's head is refused.
+fn check_head(mem: &[u64], head: &[u64; 5]) -> Result<(), Refusal>
+    requires { 4 ≤ length mem.now }
+    ensures { due_of result ≡ plan_head_rule document01 (job_in mem.now) (plan_head_of head.now) }
 {
     let tasks = text::outside(1, TASKS, head[0]);
     let processors = text::outside(1, PROCESSORS, head[1]);
     let losses = text::outside(0, LOSSES, head[2]);
     let lower = text::outside(0, TICK, head[3]);
     let upper = text::outside(0, TICK, head[4]);
-    if tasks | processors | losses | lower | upper {
-        return 3;
+    if tasks || processors || losses || lower || upper {
+        return Err(Refusal::OutOfRange);
     }
-    if !((head[0] == mem[0]) & (head[1] == mem[1]) & (head[2] == mem[3])) {
-        return 9;
+    if head[0] != mem[0] || head[1] != mem[1] || head[2] != mem[3] {
+        return Err(Refusal::OtherJob);
     }
-    0
+    Ok(())
 }
 
 // Replica c of the line at `a` is on no processor of the job, or has a tick outside its range.
@@ -46,7 +46,7 @@ fn replica_outside(mem: &[u64], a: usize, c: usize) -> bool
     let x = row::replica_at(mem, a, c);
     let early = text::outside(0, TICK, x.early);
     let late = text::outside(0, TICK, x.late);
-    !(x.processor < mem[1]) | early | late
+    x.processor >= mem[1] || early || late
 }
 
 // The task, a processor or a tick of the line at `a` is outside its range.
@@ -57,14 +57,8 @@ fn outside_ranges(mem: &[u64], a: usize) -> bool
     if mem[a] >= mem[0] {
         return true;
     }
-    let mut c = mem[3] as usize + 1;
-    while c > 0 {
-        c -= 1;
-        if replica_outside(mem, a, c) {
-            return true;
-        }
-    }
-    false
+    let w = mem[3] as usize + 1;
+    (0..w).any(|c| replica_outside(mem, a, c))
 }
 
 // In the line at `a` a processor is less than the one before.
@@ -72,16 +66,8 @@ fn descends(mem: &[u64], a: usize) -> bool
     requires { SomeJobHeld document01 mem.now × (row_end a ≤ length mem.now) }
     ensures { result ≡ Plan.descends (processors_of (line_in a mem.now)) }
 {
-    let mut c = mem[3] as usize;
-    while c > 0 {
-        let last = row::replica_at(mem, a, c);
-        let before = row::replica_at(mem, a, c - 1);
-        if last.processor < before.processor {
-            return true;
-        }
-        c -= 1;
-    }
-    false
+    let n = mem[3] as usize;
+    (0..n).any(|c| row::replica_at(mem, a, c + 1).processor < row::replica_at(mem, a, c).processor)
 }
 
 // Every predecessor of t has a line.
@@ -90,40 +76,37 @@ fn predecessors_placed(mem: &[u64], links: &[u64], capacity: usize, t: usize) ->
     ensures { result ≡ all (λ e. not (eqb (nth mem.now (line_at capacity + e.from)) 0)) (incoming (job_in mem.now) t) }
 {
     let run = orders::entering(links, mem[0] as usize, t);
-    let end = run.end;
-    let mut k = run.start;
-    while k < end {
+    for k in run.start..run.end {
         let from = orders::edge_from(links[k]);
         if row::line_of(mem, capacity, from) == 0 {
             return false;
         }
-        k += 1;
     }
     true
 }
 
-// The number of the refusal of the line at `a`, after the lines that have a place in the table, or 0.
-fn check_line(mem: &[u64], links: &[u64], capacity: usize, a: usize) -> u64
+// Whether the line at `a` is refused, after the lines that have a place in the table.
+fn check_line(mem: &[u64], links: &[u64], capacity: usize, a: usize) -> Result<(), Refusal>
     requires { JobHeld document01 capacity mem.now × LinksHeld mem.now links.now × (row_end a ≤ length mem.now) }
-    ensures { ((k : ℕ) → LinesHeld document01 capacity k mem.now → result ≡ plan_line_rule document01 (job_in mem.now)
+    ensures { ((k : ℕ) → LinesHeld document01 capacity k mem.now → due_of result ≡ plan_line_rule document01 (job_in mem.now)
         (lines_in capacity (nth mem.now 3 + 1) k mem.now) (line_in a mem.now))
-        × (result ≡ 0 → (nth mem.now a < nth mem.now 0) × (nth mem.now (line_at capacity + nth mem.now a) ≡ 0)
+        × (due_of result ≡ 0 → (nth mem.now a < nth mem.now 0) × (nth mem.now (line_at capacity + nth mem.now a) ≡ 0)
         × RowHeld document01 a mem.now) }
 {
     if outside_ranges(mem, a) {
-        return 3;
+        return Err(Refusal::OutOfRange);
     }
     if descends(mem, a) {
-        return 11;
+        return Err(Refusal::ProcessorsDescend);
     }
     let t = mem[a] as usize;
     if row::line_of(mem, capacity, t) != 0 {
-        return 10;
+        return Err(Refusal::TaskOutOfTurn);
     }
-    if predecessors_placed(mem, links, capacity, t) {
-        return 0;
+    if !predecessors_placed(mem, links, capacity, t) {
+        return Err(Refusal::TaskOutOfTurn);
     }
-    10
+    Ok(())
 }
 
 // No task has a line.
@@ -132,119 +115,93 @@ fn clear_lines(mem: &mut [u64], capacity: usize)
     ensures { KeptOutside (line_at capacity) (blocked_at capacity) mem.old mem.new × ((t : ℕ) → t < 8 * capacity → nth mem.new (line_at capacity + t) ≡ 0) }
 {
     let line = LINE * capacity;
-    let n = 8 * capacity;
-    let mut t = 0;
-    while t < n {
-        mem[line + t] = 0;
-        t += 1;
-    }
+    mem[line..line + 8 * capacity].fill(0);
 }
 
-// The T line at `at`, read into row k.
-fn fill_row(s: &[u8], at: usize, mem: &mut [u64], capacity: usize, k: usize) -> Step
+// The next T line, read into row k.
+fn fill_row(reader: &mut Reader, mem: &mut [u64], capacity: usize, k: usize) -> Result<(), Refusal>
     requires { LinesHeld document01 capacity k mem.old × (k < nth mem.old 0) }
-    ensures { RowFilled document01 capacity k s.now at mem.old mem.new result }
+    ensures { RowFilled document01 capacity k reader.old reader.new mem.old mem.new result }
 {
     let n = row::line_cells(&mem[..]);
     let a = row::row_at(capacity, k);
-    let b = a + n;
-    lines::read_line(s, at, b"T,", n, &mut mem[a..b])
+    reader.line(b"T,", n, &mut mem[a..a + n])
 }
 
-// The T line at `at`, kept as row k, after the k lines before it.
+// The next T line, kept as row k, after the k lines before it.
 fn read_plan_line(
-    s: &[u8],
-    at: usize,
+    reader: &mut Reader,
     mem: &mut [u64],
     links: &[u64],
     capacity: usize,
     k: usize,
-) -> Step
+) -> Result<(), Refusal>
     requires { LinesHeld document01 capacity k mem.old × LinksHeld mem.old links.now × (k < nth mem.old 0) }
-    ensures { LineRead document01 capacity k s.now at mem.old mem.new result }
+    ensures { LineRead document01 capacity k reader.old reader.new mem.old mem.new result }
 {
-    match fill_row(s, at, mem, capacity, k) {
-        Step::Next(p) => {
-            let a = row::row_at(capacity, k);
-            let x = check_line(&mem[..], links, capacity, a);
-            if x > 0 {
-                return Step::Refused(x);
-            }
-            let t = mem[a] as usize;
-            row::put_line(mem, capacity, t, k);
-            Step::Next(p)
-        }
-        Step::Refused(x) => Step::Refused(x),
-    }
+    fill_row(reader, mem, capacity, k)?;
+    let a = row::row_at(capacity, k);
+    check_line(&mem[..], links, capacity, a)?;
+    let t = mem[a] as usize;
+    row::put_line(mem, capacity, t, k);
+    Ok(())
 }
 
 // The T lines, kept as rows.
-fn read_plan_lines(s: &[u8], at: usize, mem: &mut [u64], links: &[u64], capacity: usize) -> Step
+fn read_plan_lines(
+    reader: &mut Reader,
+    mem: &mut [u64],
+    links: &[u64],
+    capacity: usize,
+) -> Result<(), Refusal>
     requires { LinesHeld document01 capacity 0 mem.old × LinksHeld mem.old links.now }
     ensures { KeptOutside (line_at capacity) (largest_delay_at capacity) mem.old mem.new
-        × (step_reading s.now (lines_in capacity (nth mem.new 3 + 1) (nth mem.new 0) mem.new) result ≡ lines
-        (plan_line document01 (job_in mem.old)) (plan_line_rule document01 (job_in mem.old)) (nth mem.old 0) [] (drop at s.now))
-        × ((n : ℕ) → result ≡ Next n → LinesHeld document01 capacity (nth mem.new 0) mem.new) }
+        × (reading reader.new (lines_in capacity (nth mem.new 3 + 1) (nth mem.new 0) mem.new) result ≡ lines
+        (plan_line document01 (job_in mem.old)) (plan_line_rule document01 (job_in mem.old)) (nth mem.old 0) [] reader.old)
+        × (result ≡ Ok tt → LinesHeld document01 capacity (nth mem.new 0) mem.new) }
 {
     let v = mem[0] as usize;
-    let mut p = at;
-    let mut k = 0;
-    while k < v {
-        match read_plan_line(s, p, mem, links, capacity, k) {
-            Step::Next(next) => p = next,
-            Step::Refused(x) => return Step::Refused(x),
-        }
-        k += 1;
+    for k in 0..v {
+        read_plan_line(reader, mem, links, capacity, k)?;
     }
-    Step::Next(p)
+    Ok(())
 }
 
 // The T lines, and then M* and M, which the head has.
 fn load_lines(
-    s: &[u8],
-    at: usize,
+    mut reader: Reader,
     lower: u64,
     upper: u64,
     mem: &mut [u64],
     links: &[u64],
     capacity: usize,
-) -> Step
+) -> Result<(), Refusal>
     requires { JobHeld document01 capacity mem.old × LinksHeld mem.old links.now }
     ensures { KeptOutside (line_at capacity) (largest_delay_at capacity) mem.old mem.new
-        × PlanLoaded document01 capacity (plan_from document01 (job_in mem.old) lower upper (drop at s.now)) mem.new result }
+        × PlanLoaded document01 capacity (plan_from document01 (job_in mem.old) lower upper reader.entry) mem.new result }
 {
     clear_lines(mem, capacity);
-    match read_plan_lines(s, at, mem, links, capacity) {
-        Step::Next(p) => {
-            if p < s.len() {
-                return Step::Refused(2);
-            }
-            mem[LOWER * capacity] = lower;
-            mem[UPPER * capacity] = upper;
-            Step::Next(p)
-        }
-        Step::Refused(x) => Step::Refused(x),
+    read_plan_lines(&mut reader, mem, links, capacity)?;
+    if !reader.is_at_end() {
+        return Err(Refusal::BadLine);
     }
+    mem[LOWER * capacity] = lower;
+    mem[UPPER * capacity] = upper;
+    Ok(())
 }
 
 // A plan's text for the job in memory, whose links are in theirs.
-pub fn load_plan(s: &[u8], mem: &mut [u64], links: &[u64], capacity: usize) -> Step
+pub fn load_plan(s: &[u8], mem: &mut [u64], links: &[u64], capacity: usize) -> Result<(), Refusal>
     requires { JobHeld document01 capacity mem.old × LinksHeld mem.old links.now }
     ensures { KeptOutside (line_at capacity) (largest_delay_at capacity) mem.old mem.new
         × PlanLoaded document01 capacity (read_plan document01 (job_in mem.old) s.now) mem.new result }
 {
     if s.len() > TEXT_LENGTH {
-        return Step::Refused(1);
+        return Err(Refusal::TooLong);
     }
+    let mut reader = Reader::new(s);
     let mut head = [0u64; 5];
-    match lines::read_line(s, 0, b"PLAN,", 5, &mut head) {
-        Step::Next(p) => {
-            let x = head_refusal(&mem[..], &head);
-            if x > 0 {
-                return Step::Refused(x);
-            }
-            load_lines(s, p, head[3], head[4], mem, links, capacity)
-        }
-        Step::Refused(x) => Step::Refused(x),
-    }
+    reader.line(b"PLAN,", 5, &mut head)?;
+    check_head(&mem[..], &head)?;
+    load_lines(reader, head[3], head[4], mem, links, capacity)
 }

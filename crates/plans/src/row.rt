@@ -8,6 +8,7 @@ ghost use Rattle.plans.specs.Lines.{line_cells};
 use heads::layout::{LINE, ROW, ROWS};
 
 // A replica of a line.
+// Kept: `row` stands in `plans` and in `rounds`: its functions ask that the cells are there, and such stay in their crate (a rule of the project).
 #[derive(Clone, Copy)]
 pub struct Replica {
     pub processor: u64,

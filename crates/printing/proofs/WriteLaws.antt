@@ -1,6 +1,10 @@
 -- The numbers that end a line, counted, and written one after another.
-use Rattle.lists.proofs.Prelude.{◌≡◌, refl, ap, sym, ◌∙◌, List, [], ◌∷◌, ◌++◌, Bool, true, false, ℕ, suc, ◌+◌, ◌*◌, ◌-◌, ◌%◌, ◌^◌, ◌<◌, ◌≤◌, arith, add-one, le-leb, lt-leb, leb-true, leb-false, leb, length, drop, set, length-append, length-drop, drop_of_length-le, drop-cons, nth, Limits, mark, width, decimal, numbers_text, line_text}
+use Rattle.lists.proofs.Prelude.{◌≡◌, refl, ap, sym, ◌∙◌, List, [], ◌∷◌, ◌++◌, Bool, true, false, ℕ, suc, ◌+◌, ◌*◌, ◌-◌, ◌%◌, ◌^◌, ◌<◌, ◌≤◌, arith, add-one}
+use Rattle.lists.proofs.Prelude.{le-leb, lt-leb, leb-true, leb-false, leb, length, drop, set, length-append, length-drop, drop_of_length-le, drop-cons, nth}
+use Rattle.lists.proofs.Prelude.{Limits, mark, width, decimal, numbers_text, line_text, document01}
 use Rattle.std.proofs.Common.{mul-suc}
+use Rattle.std.specs.List.{sum_by}
+use Rattle.std.proofs.lemmas.Grind.{common_steps}
 use Rattle.definitions.proofs.Decimal.{width_powers, length_none, length_numbers, length_line}
 use Rattle.lists.specs.Over.{over}
 use Rattle.lists.proofs.Over.{over_put, over_over, over_then, length_over}
@@ -13,9 +17,6 @@ module _ (l : Limits) where
     text_next : i < length vals → numbers_text l (drop i vals) ≡ decimal l (nth vals i) ++ mark (length vals - (i + 1)) ∷ numbers_text l (drop (i + 1) vals)
     unfolding numbers_text
     text_next h = rw (drop-cons vals i 0 h, add-one i) (ap (λ (k : ℕ). decimal l (nth vals i) ++ mark k ∷ numbers_text l (drop (suc i) vals)) (length-drop (suc i) vals))
-
-    pub length_next : i < length vals → length (numbers_text l (drop i vals)) ≡ width l (nth vals i) + 1 + length (numbers_text l (drop (i + 1) vals))
-    length_next h = rw (drop-cons vals i 0 h, add-one i) (length_numbers l (nth vals i) (drop (suc i) vals))
 
     pub text_end : length vals ≤ i → numbers_text l (drop i vals) ≡ []
     unfolding numbers_text
@@ -64,8 +65,14 @@ module _ (l : Limits) where
     unfolding line_text
     line_written b q y g k = (
       omega (arith, length_line l opening vals, place_opening, g, h, b),
-      over_then d x y 0 opening (numbers_text l vals) p over_opening k place_opening (omega (arith, length_line l opening vals)) ∙ sym (written_fits d 0 (line_text l opening vals) (omega (arith, h))),
+      over_then d x y 0 opening (numbers_text l vals) p over_opening k place_opening (omega (arith, length_line l opening vals))
+          ∙ sym (written_fits d 0 (line_text l opening vals) (omega (arith, h))),
     )
+
+  -- What the numbers take, summed.
+  pub numbers_summed : (vals : List ℕ) → sum_by (λ x. width l x + 1) vals ≡ length (numbers_text l vals)
+  numbers_summed [] = sym (length_none l)
+  numbers_summed (v ∷ vals) = grind (arith, common_steps, length_numbers l v vals, numbers_summed vals)
 
   -- Numbers are printed with a digit at least, and so take a digit for each power of ten at most, and a mark.
   module _ (least : 1 ≤ l.powers) where
@@ -81,6 +88,9 @@ module _ (l : Limits) where
       pub few_counted : (n r : ℕ) → length opening + (l.powers + 1) * length vals ≤ n → n < 2 ^ 64 → r ≡ length (line_text l opening vals) % 2 ^ 64
           → (r ≡ length (line_text l opening vals)) × (r ≤ n)
       few_counted n r h b e = let f : r ≡ length (line_text l opening vals) = omega (arith, line_most, h, b, e) in (f, omega (arith, line_most, h, f))
+
+pub width_few : (n : ℕ) → width document01 n + 1 ≤ 11
+width_few n = omega (arith, width_powers document01 n (omega arith))
 
 -- Whether a line takes no more than n bytes.
 module _ (l : Limits) (opening vals : List ℕ) (n : ℕ) where

@@ -17,12 +17,12 @@ pub fn line(out: &mut [u8], opening: &[u8], vals: &[u64]) -> usize
         let at = text::write_fixed(out, 0, opening);
         return writer::write_numbers(out, at, vals);
     }
-    std::num::wrapping_add_usize(opening.len(), writer::numbers_length(vals))
+    opening.len().wrapping_add(writer::numbers_length(vals))
 }
 
 // Where the part of an output of `room` bytes begins that is lent to the writer of a line at `at`: there, or at its end.
 pub fn place_in(room: usize, at: usize) -> usize
     ensures { result ≡ min at room }
 {
-    if at < room { at } else { room }
+    at.min(room)
 }

@@ -8,27 +8,17 @@ ghost use Rattle.lists.specs.Over.{over};
 pub fn numbers_length(vals: &[u64]) -> usize
     ensures { result ≡ length (numbers_text document01 vals.now) }
 {
-    let mut n = 0;
-    let mut i = 0;
-    while i < vals.len() {
-        n += text::width_of(vals[i]) + 1;
-        i += 1;
-    }
-    n
+    vals.iter().map(|x| text::width_of(*x) + 1).sum()
 }
 
 // A line takes no more than `room` bytes. A number takes 11 at most, so long lines alone are counted.
 pub fn line_fits(room: usize, opening: &[u8], vals: &[u64]) -> bool
     ensures { result ≡ nat_le (length (line_text document01 opening.now vals.now)) room }
 {
-    if room < opening.len() {
+    let Some(left) = room.checked_sub(opening.len()) else {
         return false;
-    }
-    let left = room - opening.len();
-    if vals.len() <= left / 11 {
-        return true;
-    }
-    numbers_length(vals) <= left
+    };
+    vals.len() <= left / 11 || numbers_length(vals) <= left
 }
 
 // The numbers, written from `at` on. The answer is the place after them.
@@ -36,13 +26,10 @@ pub fn write_numbers(out: &mut [u8], at: usize, vals: &[u64]) -> usize
     requires { at + length (numbers_text document01 vals.now) ≤ length out.old }
     ensures { (result ≡ at + length (numbers_text document01 vals.now)) × (out.new ≡ over out.old at (numbers_text document01 vals.now)) }
 {
-    let n = vals.len();
     let mut p = at;
-    let mut i = 0;
-    while i < n {
-        p = text::write_number(out, p, vals[i]);
-        i += 1;
-        out[p] = text::mark_after(n - i);
+    for (i, &x) in vals.iter().enumerate() {
+        p = text::write_number(out, p, x);
+        out[p] = text::mark_after(vals.len() - (i + 1));
         p += 1;
     }
     p

@@ -1,5 +1,7 @@
 -- The program's output holds the longest answer of the replay.
-use Rattle.lists.proofs.Prelude.{◌≡◌, refl, ap, inl, inr, ⊎_elim, List, [], ◌∷◌, ℕ, ◌<◌, ◌≤◌, arith, le-ltb, length, In, document01, Result, good, bad, and_then, Job, read_job, Line, processors_of, read_plan, Stop, read_stops, least, Placement, Outcome, outcome, finish, walk, placements_of, placements, replay, replay_text, fitting, replayed, replay_answer, printed, replay_printed, Ordered}
+use Rattle.lists.proofs.Prelude.{◌≡◌, refl, ap, inl, inr, ⊎_elim, List, [], ◌∷◌, ℕ, ◌<◌, ◌≤◌, arith, le-ltb, length, In, document01, Result, good, bad, and_then}
+use Rattle.lists.proofs.Prelude.{Job, read_job, Line, processors_of, read_plan, Stop, read_stops, least, Placement, Outcome}
+use Rattle.lists.proofs.Prelude.{outcome, finish, walk, placements_of, placements, replay, replay_text, fitting, replayed, replay_answer, printed, replay_printed, Ordered}
 use Rattle.definitions.proofs.Lists.{in_append, in_map}
 use Rattle.definitions.proofs.Reading.{and_then_good, job_facts, plan_facts}
 use Rattle.console.proofs.Shown.{refusal_most}

@@ -7,7 +7,6 @@ ghost use Rattle.definitions.specs.Tools.{replay_printed};
 ghost use Rattle.io.specs.Counts.{IsPrefixLen};
 ghost use Rattle.lists.specs.Over.{over};
 
-use mirguneth::Answer;
 use std::io::Write;
 
 // What is printed for the three texts, at the front of `out`, which has room for it in any case: 255 R lines have at most 20
@@ -19,8 +18,8 @@ fn answer(job: &[u8], plan: &[u8], stops: &[u8], out: &mut [u8]) -> usize
     ensures counted { IsPrefixLen result out.new }
 {
     match mirguneth::replay(job, plan, stops, out) {
-        Answer::Done(n) => n,
-        Answer::Refusal(x) => console::write_refusal(out, x),
+        Ok(n) => n,
+        Err(x) => console::write_refusal(out, u64::from(x)),
     }
 }
 

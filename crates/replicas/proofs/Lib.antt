@@ -1,2 +1,3 @@
+pub mod ChunkLaws
 pub mod TwiceLaws
 pub mod ResultLaws

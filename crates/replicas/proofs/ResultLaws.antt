@@ -12,16 +12,9 @@ module _ (l : Limits) where
     pub result_tick : (x ≡ never_cell → ⊥) → result_line l t (time_in x) p ≡ line_text l (bytes "R,") (t ∷ p ∷ x ∷ [])
     result_tick n = rw (ne_eqb x never_cell n)
 
-    -- A task that is not.
-    pub result_never : x ≡ never_cell → result_line l t (time_in x) p ≡ result_line l t never 0
-    result_never e = rw e
-
   module _ (x : ℕ) where
     pub end_tick : (x ≡ never_cell → ⊥) → end_line l (time_in x) ≡ line_text l (bytes "L,") (x ∷ [])
     end_tick n = rw (ne_eqb x never_cell n)
-
-    pub end_never : x ≡ never_cell → end_line l (time_in x) ≡ bytes "L,-\n"
-    end_never e = rw e
 
   -- The line of a task that is not done, in three parts.
   module _ (t : ℕ) where

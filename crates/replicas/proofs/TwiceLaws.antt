@@ -1,6 +1,7 @@
 -- Lines with two replicas on one processor, and first finishes, replica by replica.
 use Rattle.std.specs.Prelude.{if◌then◌else◌}
-use Rattle.lists.proofs.Prelude.{◌≡◌, refl, ap, ◌∙◌, sym, ⊎_elim, List, [], ◌∷◌, Bool, true, false, ◌&&◌, true≢false, ℕ, zero, suc, ◌+◌, ◌-◌, ◌<◌, ◌≤◌, arith, add-one, eqb-true, eq-eqb, ne_eqb, lt-ltb, le-ltb, length, take, drop, nth, empty}
+use Rattle.lists.proofs.Prelude.{◌≡◌, refl, ap, ◌∙◌, sym, ⊎_elim, List, [], ◌∷◌, Bool, true, false, ◌&&◌, true≢false, ℕ, zero, suc, ◌+◌, ◌-◌, ◌<◌, ◌≤◌, arith}
+use Rattle.lists.proofs.Prelude.{add-one, eqb-true, eq-eqb, lt-ltb, le-ltb, length, take, drop, nth, empty}
 use Rattle.definitions.proofs.Lists.{either, either_right, refuted}
 use Rattle.lists.proofs.Counting.{last_or_before, goes_on}
 use Rattle.lists.proofs.ListLaws.{part_length, part_nth}
@@ -10,22 +11,9 @@ use Rattle.replicas.specs.Cells.{on_cell, next_cell, early_cell, line_cell, repl
 -- Neighbours --------------------------------------------------------------------------------------------------------
 
 module _ (cells : List ℕ) where
-  pub twins_none : twins 0 cells ≡ false
-  unfolding twins
-  twins_none = refl
-
-  pub twins_next : (c : ℕ) → twins c cells ≡ false → (nth cells (on_cell c) ≡ nth cells (next_cell c) → ⊥) → twins (c + 1) cells ≡ false
-  unfolding twins
-  twins_next c h n = rw (add-one c, h, ne_eqb _ _ n)
-
   twins_more : (c n : ℕ) → c ≤ n → twins c cells ≡ true → twins n cells ≡ true
   unfolding twins
   twins_more = goes_on (λ n. twins n cells ≡ true) (λ n h. rw h)
-
-  -- Two neighbours on one processor, among n replicas.
-  pub twins_here : (c n : ℕ) → c + 1 < n → nth cells (on_cell c) ≡ nth cells (next_cell c) → true ≡ twins (n - 1) cells
-  unfolding twins
-  twins_here c n l e = sym (twins_more (suc c) (n - 1) (omega arith) (either_right (twins c cells) (eq-eqb _ _ e)))
 
   -- Where they are.
   pub twins_place : (n : ℕ) → twins n cells ≡ true → (c : ℕ) × (c < n) × (nth cells (on_cell c) ≡ nth cells (next_cell c))
@@ -43,10 +31,6 @@ module _ (cells : List ℕ) where
 -- Lines -------------------------------------------------------------------------------------------------------------
 
 module _ (w : ℕ) (lines : List ℕ) where
-  -- The part of the lines that is looked at.
-  pub part_cells : (k : ℕ) {b : Bool} → b ≡ twice (take (line_cell k + 1 + on_cell w - (line_cell k + 1)) (drop (line_cell k + 1) lines)) → b ≡ twice (cells_of w k lines)
-  part_cells k h = let e : line_cell k + 1 + on_cell w - (line_cell k + 1) ≡ on_cell w = omega arith in rw e at h
-
   pub first_none : first_twice w 0 lines ≡ []
   unfolding first_twice
   first_none = refl

@@ -1,9 +1,7 @@
 -- What is asked of the replicas of a line, three cells each: processor, early time, late time.
-use Rattle.std.specs.Prelude.{ℕ, zero, suc, ◌+◌, ◌*◌, ◌-◌, ◌/◌, List, [], ◌∷◌, Bool, false, ◌&&◌, ◌||◌, eqb, ltb, length, take, drop, if◌then◌else◌}
+use Rattle.std.specs.Prelude.{ℕ, zero, suc, ◌+◌, ◌*◌, ◌-◌, ◌/◌, List, [], ◌∷◌, Bool, false, ◌&&◌, ◌||◌, eqb, ltb, length, take, drop, if◌then◌else◌, Option, Some, None}
 use Rattle.definitions.specs.Lists.{nth, empty}
 use Rattle.ticks.specs.Cells.{never_cell}
-use Rattle.replicas.specs.declared.Doubling.{Doubling}
-use Rattle.replicas.specs.declared.Doubling.TheVariants.{Single, Twice}
 
 -- In the cells of replicas, the processor of replica c, that of the next one, and its early time.
 abbrev pub on_cell : ℕ → ℕ
@@ -47,9 +45,9 @@ first_twice w (suc k) lines =
     if empty before && twice (cells_of w k lines) then nth lines (line_cell k) ∷ [] else before
 
 -- That task, for each case of the answer.
-abbrev pub doubled_in : Doubling → List ℕ
-doubled_in Single = []
-doubled_in (Twice t) = t ∷ []
+abbrev pub doubled_in : Option ℕ → List ℕ
+doubled_in None = []
+doubled_in (Some t) = t ∷ []
 
 -- The least early time of the first n replicas: a first finish, if early times are those of a replay.
 unfoldable pub least_early : ℕ → List ℕ → ℕ

@@ -14,34 +14,26 @@ use ticks::lanes::NEVER;
 mod twice;
 mod undone;
 
-// The cells of a line, those of a replica, and its early time's place among them.
+// The cells of a line, and those of a replica.
 const ROW: usize = 25;
 
 const REPLICA: usize = 3;
 
-const EARLY: usize = 1;
-
-// Whether some line has two replicas on one processor, and the task of the first that has.
-#[derive(Clone, Copy)]
-pub enum Doubling {
-    Single,
-    Twice(u64),
-}
-
 // A first finish and its processor.
-#[derive(Clone, Copy)]
+// Kept: the memory's cells hold times so, NEVER for none (fixed memory); `result_line` and rounds' FirstIn speak of `time_in first.time`.
+#[derive(Clone, Copy, Debug, PartialEq, Eq)]
 pub struct First {
     pub time: u64,
     pub processor: u64,
 }
 
-// Looks for the first of the lines, 25 cells each, that has neighbouring replicas on one processor, among its first w, which are 8 at
+// The task of the first of the lines, 25 cells each, that has neighbouring replicas on one processor among its first w, which are 8 at
 // most.
-pub fn doubled_task(lines: &[u64], w: usize) -> Doubling
+pub fn doubled_task(lines: &[u64], w: usize) -> Option<u64>
     ensures { doubled_in result ≡ (if leb w 8 then first_twice w (lines_of (length lines.now)) lines.now else []) }
 {
     if w > 8 {
-        return Doubling::Single;
+        return None;
     }
     twice::first_twice(lines, w)
 }
@@ -51,19 +43,16 @@ pub fn first_finish(cells: &[u64]) -> First
     ensures time { result.time ≡ least_early (replicas_of (length cells.now)) cells.now }
     ensures processor { result.processor ≡ least_on (replicas_of (length cells.now)) cells.now }
 {
-    let n = cells.len() / REPLICA;
-    let mut time = NEVER;
-    let mut processor = 0;
-    let mut c = 0;
-    while c < n {
-        let x = cells[REPLICA * c + EARLY];
-        if x < time {
-            time = x;
-            processor = cells[REPLICA * c];
+    let mut first = First {
+        time: NEVER,
+        processor: 0,
+    };
+    for &[processor, time, _] in cells.as_chunks::<REPLICA>().0 {
+        if time < first.time {
+            first = First { time, processor };
         }
-        c += 1;
     }
-    First { time, processor }
+    first
 }
 
 // The R line of t, written at the front of `out`, if it fits. The answer is its length in either case.

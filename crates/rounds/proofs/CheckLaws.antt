@@ -1,5 +1,5 @@
 -- The test for two replicas on one processor, on a plan that was read.
-use Rattle.std.specs.Prelude.{if◌then◌else◌}
+use Rattle.std.specs.Prelude.{if◌then◌else◌, Option, Some, None}
 use Rattle.lists.proofs.Prelude.{◌≡◌, refl, ap, ◌∙◌, sym, List, [], map, Bool, true, false, not, ℕ, suc, ◌+◌, ◌-◌, ◌<◌, arith, add-zero, le-leb, not-false, leb, length, take, drop, nth, below, In, keep, distinct, Limits, Line, processors_of, descends, doubled_tasks}
 use Rattle.definitions.specs.Facts.{Apart}
 use Rattle.definitions.proofs.Lists.{refuted, in_map, in_below, map_in, keep_in, keep_none}
@@ -11,8 +11,6 @@ use Rattle.plans.proofs.Lines.{processors_length, processor_at_lem, lines_below}
 use Rattle.lists.proofs.ListLaws.{part_length, part_nth}
 use Rattle.jobs.proofs.Held.{sizes}
 use Rattle.replicas.specs.Cells.{on_cell, next_cell, replicas_of, line_cell, lines_of, twins, twice, cells_of, first_twice, doubled_in}
-use Rattle.replicas.specs.declared.Doubling.{Doubling}
-use Rattle.replicas.specs.declared.Doubling.TheVariants.{Single, Twice}
 use Rattle.replicas.proofs.TwiceLaws.{twins_place, twins_before, twins_apart, first_all, first_some}
 use Rattle.rounds.specs.Checking.{DoubledBy}
 use Rattle.rounds.proofs.PlanLines.{apart_at, ascend_apart, line_among, line_ascends}
@@ -82,7 +80,7 @@ module _ {lim : Limits} {capacity : ℕ} {mem : List ℕ} (h : PlanHeld lim capa
         ∙ sym (processor_at_lem mem (row_at capacity k) (nth mem 3 + 1) c g))
         (line_ascends h.standing h.facts.ordered k l))
 
-  pub doubled_said : (r : Doubling) → doubled_in r ≡ (if leb (nth mem 3 + 1) 8 then first_twice (nth mem 3 + 1) (lines_of (length lines)) lines else [])
+  pub doubled_said : (r : Option ℕ) → doubled_in r ≡ (if leb (nth mem 3 + 1) 8 then first_twice (nth mem 3 + 1) (lines_of (length lines)) lines else [])
       → DoubledBy (doubled_tasks (plan_in capacity mem).lines) (doubled_in r)
   unfolding plan_in
   doubled_said r e = by r (rw (le-leb (nth mem 3 + 1) 8 (omega (arith, (sizes h.standing.job).row_fits)), n) at e)
@@ -90,14 +88,14 @@ module _ {lim : Limits} {capacity : ℕ} {mem : List ℕ} (h : PlanHeld lim capa
       n : lines_of (length lines) ≡ nth mem 0
       n = omega (arith, lines_length)
 
-      by : (r : Doubling) → doubled_in r ≡ first_twice (nth mem 3 + 1) (nth mem 0) lines → DoubledBy (doubled_tasks (plan_in capacity mem).lines) (doubled_in r)
-      by Single e =
+      by : (r : Option ℕ) → doubled_in r ≡ first_twice (nth mem 3 + 1) (nth mem 0) lines → DoubledBy (doubled_tasks (plan_in capacity mem).lines) (doubled_in r)
+      by None e =
           doubled_none (lines_in capacity (nth mem 3 + 1) (nth mem 0) mem)
           (λ n i.
           let (k, m, q) = in_map (λ i. line_in (row_at capacity i) mem) n (below (nth mem 0)) (rw (lines_below mem capacity (nth mem 3 + 1) (nth mem 0)) at i) in
           let l = in_below (nth mem 0) k m in
           rw (← q) (sym (twice_here k l) ∙ first_all (nth mem 3 + 1) lines (nth mem 0) (sym e) k l))
-      by (Twice t) e =
+      by (Some t) e =
           let (k, l, f, q) = first_some (nth mem 3 + 1) lines t (nth mem 0) (sym e) in
           let s = sizes h.standing.job in
           let g : nth mem (row_at capacity k) ≡ t = sym (task_here k l) ∙ q in

@@ -1,18 +1,18 @@
 -- The first finish of a task, and the lowest processor that has it.
 use Rattle.std.specs.Prelude.{if◌then◌else◌}
-use Rattle.lists.proofs.Prelude.{◌≡◌, never, refl, subst, ap, ◌∙◌, sym, ◌⊎◌, inl, inr, ⊎_elim, List, [], ◌∷◌, map, Bool, true, false, false≢true, ℕ, zero, suc, ◌+◌, ◌-◌, ◌<◌, ◌≤◌, min, arith, add-one, eqb-true, ltb-true, ltb-false, eqb, ltb, nth, In, keep, Time, tick, sooner, same, least, Outcome, times, first_finish, lowest, first_processor, Limits}
+use Rattle.lists.proofs.Prelude.{◌≡◌, never, refl, subst, ap, ◌∙◌, sym, ◌⊎◌, inl, inr, ⊎_elim, List, [], ◌∷◌, map, Bool, true, false, false≢true, ℕ, zero, suc, ◌+◌, ◌-◌, ◌<◌, ◌≤◌, min, arith, add-one, eqb-true, ltb-true, ltb-false, eqb, ltb, length, nth, In, keep, Time, tick, sooner, same, least, Outcome, times, first_finish, lowest, first_processor, Limits}
 use Rattle.definitions.proofs.Lists.{in_map, map_in, in_keep, keep_in}
 use Rattle.definitions.proofs.Guarantee.{time_same}
 use Rattle.heads.specs.Layout.{line_at, processor_at, early_at}
 use Rattle.ticks.specs.Cells.{never_cell, time_in}
-use Rattle.plans.specs.Lines.{row_outcomes, row_of, LinesHeld}
+use Rattle.plans.specs.Lines.{row_outcomes, row_end, row_of, LinesHeld}
 use Rattle.replicas.specs.Cells.{on_cell, early_cell, least_early, least_on}
 use Rattle.replicas.proofs.TwiceLaws.{least_none, least_sooner, least_stays}
 use Rattle.rounds.specs.Replaying.{RisingIn, FirstIn}
 use Rattle.lists.proofs.Counting.{equal_or_not, last_or_before}
 use Rattle.rounds.proofs.TimeLaws.{time_tick, sooner_cells}
 use Rattle.rounds.proofs.Placed.{row_outcome, in_row, row_in, placed_row_of}
-use Rattle.rounds.proofs.MakespanLaws.{all_placed, row_of_task}
+use Rattle.rounds.proofs.MakespanLaws.{all_placed, row_of_task, cells_of_task}
 
 -- Least times ---------------------------------------------------------------------------------------------------------
 
@@ -133,6 +133,11 @@ module _ {mem : List ℕ} {a c x p : ℕ} (f : FirstAt mem a c x p) where
 
 -- The first of a task ---------------------------------------------------------------------------------------------------
 
+-- Where its line is.
+pub task_room : {lim : Limits} {capacity a : ℕ} {mem : List ℕ} → LinesHeld lim capacity (nth mem 0) mem → (t : ℕ) → t < nth mem 0 → a ≡ row_of capacity t mem
+    → (row_end a ≤ length mem) × (nth mem 3 ≤ lim.losses)
+task_room s t h e = let (_, b, d) = cells_of_task s t h in (rw e b, d)
+
 module _ {lim : Limits} {capacity : ℕ} {mem : List ℕ} (s : LinesHeld lim capacity (nth mem 0) mem) (r : RisingIn capacity mem) (t : ℕ) (h : t < nth mem 0) where
   abbrev line : ℕ
   line = nth mem (line_at capacity + t) - 1
@@ -142,6 +147,10 @@ module _ {lim : Limits} {capacity : ℕ} {mem : List ℕ} (s : LinesHeld lim cap
 
   line_below : line < nth mem 0
   line_below = omega (arith, all_placed s t h, (row_of_task s t h).1)
+
+  -- Its early times fit a cell.
+  early_small : (c : ℕ) → c < nth mem 3 + 1 → nth mem (early_at own c) ≤ never_cell
+  early_small c g = ⊎_elim (λ (e : nth mem (early_at own c) ≡ never_cell). omega arith) (λ m. omega (arith, m, s.job.suited.tick_fits)) ((s.row line line_below).early_of c g)
 
   -- A line's processors before a place are not higher than the one at it.
   rising_row : (c i : ℕ) → c < nth mem 3 + 1 → i < c → nth mem (processor_at own i) ≤ nth mem (processor_at own c)
@@ -173,7 +182,7 @@ module _ {lim : Limits} {capacity : ℕ} {mem : List ℕ} (s : LinesHeld lim cap
       }
 
   -- The cells of the task's replicas, and what is seen in them.
-  module _ (small : (i : ℕ) → nth mem i ≤ never_cell) (cells : List ℕ) (on : (c : ℕ) → c < nth mem 3 + 1 → nth cells (on_cell c) ≡ nth mem (processor_at own c))
+  module _ (cells : List ℕ) (on : (c : ℕ) → c < nth mem 3 + 1 → nth cells (on_cell c) ≡ nth mem (processor_at own c))
       (early : (c : ℕ) → c < nth mem 3 + 1 → nth cells (early_cell c) ≡ nth mem (early_at own c)) where
     first_to : (c : ℕ) → c ≤ nth mem 3 + 1 → FirstAt mem own c (least_early c cells) (least_on c cells)
     first_to zero l = let (e, f) = least_none cells in rw (e, f) (first_none mem own 0)
@@ -188,7 +197,7 @@ module _ {lim : Limits} {capacity : ℕ} {mem : List ℕ} (s : LinesHeld lim cap
         by false e f =
             let g = ltb-false _ _ e in
             let (p, q) = least_stays cells c g in
-            rw (← p, ← q) (first_stays f (rw (early c l) at g) (small (early_at own c)) (λ i b. rising_row c i l b))
+            rw (← p, ← q) (first_stays f (rw (early c l) at g) (early_small c (omega arith)) (λ i b. rising_row c i l b))
 
     pub first_seen : (w : ℕ) → w ≡ nth mem 3 + 1 → FirstIn capacity t (least_early w cells) (least_on w cells) mem
     first_seen w e = rw e (first_all (least_early (nth mem 3 + 1) cells) (least_on (nth mem 3 + 1) cells) (first_to (nth mem 3 + 1) (omega arith)))

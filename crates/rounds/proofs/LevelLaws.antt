@@ -13,7 +13,7 @@ use Rattle.rounds.specs.Schedule.{LevelsFilled}
 use Rattle.orders.specs.Order.{listed, Arranged}
 use Rattle.rounds.specs.Levels.{scaled_most, sent_most, level_most, sent}
 use Rattle.lists.proofs.Counting.{equal_or_not}
-use Rattle.lists.proofs.Kept.{kept_all, kept_set}
+use Rattle.lists.proofs.Kept.{kept_set}
 use Rattle.jobs.proofs.Held.{tasks_in_lem, sizes, job_kept, held_kept, links_kept}
 use Rattle.rounds.proofs.RowSums.{total_in, total_most, scaled_most_lem}
 use Rattle.orders.proofs.OrderLaws.{listed_length, listed_place, place_listed, places_apart}
@@ -89,9 +89,6 @@ pub record FillStep (lim : Limits) (capacity : ℕ) (order d mem links : List �
   pub levels : (e : Edge) → In e (outgoing (job_in mem) t) → nth mem (level_at capacity + e.to) ≤ level_most lim
   pub job : job_in mem ≡ job_in d
   pub more : (x y : ℕ) → x ≡ scaled_run (job_in mem) t → y ≡ greatest (map (sent capacity mem) (outgoing (job_in mem) t)) → Filling capacity order d (set mem (level_at capacity + t) (x + y)) (i - 1)
-
-pub filling_none : {capacity i : ℕ} (order d : List ℕ) → i ≡ nth d 0 → Filling capacity order d d i
-filling_none order d e = record { kept = kept_all; filled = λ k h g. absurd (omega arith) }
 
 module _ {lim : Limits} {capacity : ℕ} {d : List ℕ} (held : JobHeld lim capacity d) where
   -- No bottom level passes its bound.

@@ -1,4 +1,5 @@
 pub mod AgreeLaws
+pub mod AnswerLaws
 pub mod Bounds
 pub mod CastLaws
 pub mod CheckLaws

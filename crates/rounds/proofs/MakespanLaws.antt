@@ -1,17 +1,26 @@
 -- The end of a plan, from the lines in memory.
 use Rattle.std.specs.Prelude.{if◌then◌else◌}
-use Rattle.lists.proofs.Prelude.{◌≡◌, refl, ap, ◌∙◌, sym, List, [], ◌∷◌, map, Bool, true, false, ℕ, suc, ◌+◌, ◌-◌, ◌<◌, ◌≤◌, arith, sub-zero, add-one, length, length-map, nth, count_from, below, keep, empty, In, Edge, outgoing, Limits, Time, tick, later, sooner, least, largest, of_task, times, exits, makespan}
+use Rattle.std.specs.Ordering.{nat_cmp, ord_max}
+use Rattle.std.proofs.lemmas.Grind.{common_steps}
+use Rattle.lists.proofs.Prelude.{◌≡◌, refl, ap, ◌∙◌, sym, List, [], ◌∷◌, map, Bool, true, false, ℕ, suc, ◌+◌, ◌-◌, ◌<◌, ◌≤◌, max, arith, sub-zero, add-one, length, length-map, nth, count_from, below, keep, empty, In, Edge, outgoing, Limits, Time, tick, later, sooner, least, largest, of_task, times, exits, makespan}
 use Rattle.orders.specs.Links.{Run}
 use Rattle.orders.proofs.Walk.{pass_length}
 use Rattle.definitions.proofs.Lists.{distinct_map, full, in_map, in_below, distinct_count, length_count}
 use Rattle.jobs.proofs.Held.{sizes}
 use Rattle.heads.specs.Layout.{line_at, row_at, time_at}
 use Rattle.jobs.specs.Held.{job_in}
-use Rattle.ticks.specs.Cells.{time_in}
+use Rattle.ticks.specs.Cells.{never_cell, time_in}
 use Rattle.plans.specs.Lines.{row_end, row_outcomes, placed_in, row_of, RowHeld, LinesHeld}
 use Rattle.rounds.specs.Schedule.{choice_of}
 use Rattle.rounds.proofs.Placed.{placed_row_of, line_in_lem}
+use Rattle.rounds.proofs.TimeLaws.{later_cells}
 use Rattle.definitions.proofs.Later.{later_comm, later_assoc, later_zero}
+
+-- The greater of two cells holds the later of their times.
+later_max : (x y r : ℕ) → r ≤ never_cell → r ≡ ord_max nat_cmp y x → time_in r ≡ later (time_in x) (time_in y)
+later_max x y r b m =
+    let e : r ≡ max x y = grind (arith, common_steps, m) in
+    later_cells never_cell x y r (omega arith) (omega arith) e
 
 -- Exit tasks --------------------------------------------------------------------------------------------------------
 
@@ -116,10 +125,11 @@ module _ (capacity : ℕ) (late : Bool) (mem : List ℕ) where
       ∙ rw (sub-zero (nth mem 0))
       (largest_keep (λ t. choice_of late (times (of_task t (placed_in capacity late (nth mem 3 + 1) (nth mem 0) mem)))) (λ t. empty (outgoing (job_in mem) t)) (below (nth mem 0)))
 
-  pub ending_next : (acc t x r : ℕ) → t < nth mem 0 → time_in x ≡ exit_time capacity late mem t → time_in r ≡ later (time_in x) (time_in acc) → Ending capacity late mem acc t
+  pub ending_next : (acc t x r : ℕ) → t < nth mem 0 → time_in x ≡ exit_time capacity late mem t → r ≤ never_cell → r ≡ ord_max nat_cmp acc x → Ending capacity late mem acc t
       → Ending capacity late mem r (t + 1)
   unfolding count_from largest
-  ending_next acc t x r h e f g =
+  ending_next acc t x r h e b m g =
+      let f = later_max x acc r b m in
       let rest : Time = largest (map (exit_time capacity late mem) (count_from (t + 1) (nth mem 0 - (t + 1)))) in
       let n : nth mem 0 - t ≡ suc (nth mem 0 - suc t) = omega arith in
       let old : later (later (exit_time capacity late mem t) rest) (time_in acc) ≡ makespan (job_in mem) (choice_of late)

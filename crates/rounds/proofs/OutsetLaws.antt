@@ -19,9 +19,6 @@ use Rattle.lists.proofs.Upward.{table_more, table_other}
 
 -- No task is placed -------------------------------------------------------------------------------------------------
 
-pub cleared_none : {capacity : ℕ} (j : Job) (mem : List ℕ) → Cleared capacity 0 j mem
-cleared_none j mem = record { line = λ t h. absurd (omega arith); blocked = λ t h. absurd (omega arith); priority = λ t h. absurd (omega arith) }
-
 module _ (capacity : ℕ) (j : Job) (mem : List ℕ) (t n x : ℕ) (h : t < 8 * capacity) (z : length mem ≡ memory_size capacity) where
   abbrev one : List ℕ
   one = set mem (line_at capacity + t) 0

@@ -1,13 +1,9 @@
 -- The planner's answer: the plan in memory is the one of the definition, and it is written if it fits.
-use Rattle.lists.proofs.Prelude.{◌≡◌, refl, ap, ◌∙◌, sym, ⊎_elim, List, [], Bool, true, false, true≢false, ℕ, ◌+◌, ◌<◌, ◌≤◌, arith, lt-ltb, le-ltb, eqb-true, length, set, length-set, get_or-set_same, get_or-set_other, nth, Limits, Result, good, Job, Plan, plan_text, makespan, doubled_tasks, ticks_agree, bounds_agree, plan_for, fitting, planned}
+use Rattle.lists.proofs.Prelude.{◌≡◌, ap, ◌∙◌, sym, ⊎_elim, List, [], Bool, true, false, true≢false, ℕ, ◌+◌, ◌≤◌, arith, eqb-true, length, set, length-set, get_or-set_same, get_or-set_other, nth, Limits, Plan, plan_text, makespan, doubled_tasks, ticks_agree, bounds_agree, plan_for, planned}
 use Rattle.definitions.proofs.Placing.{placed_apart, placed_agrees, placed_bounds}
 use Rattle.definitions.specs.Claims.{Roomy}
 use Rattle.definitions.proofs.Claims.{own_facts, own_fits}
-use Rattle.lists.specs.Over.{over}
-use Rattle.text.specs.declared.Step.TheVariants.{Next, Refused}
 use Rattle.heads.specs.Layout.{memory_size, level_at, lower_at, upper_at, row_at}
-use Rattle.jobs.specs.Answers.{Answered}
-use Rattle.jobs.specs.Loading.{JobLoaded}
 use Rattle.jobs.specs.Held.{job_in, JobHeld, LinksHeld}
 use Rattle.ticks.specs.Cells.{time_in}
 use Rattle.plans.specs.Lines.{placed_in, lines_in, LinesHeld}
@@ -15,37 +11,13 @@ use Rattle.rounds.specs.Schedule.{choice_of}
 use Rattle.lists.specs.Kept.{KeptOutside}
 use Rattle.rounds.specs.Planning.{Drawn}
 use Rattle.plans.specs.Loading.{plan_in, PlanHeld}
-use Rattle.rounds.specs.Tools.{plan_of}
-use Rattle.jobs.specs.declared.Answer.{Answer}
-use Rattle.jobs.specs.declared.Answer.TheVariants.{Done, Refusal}
 use Rattle.lists.proofs.Counting.{equal_or_not}
 use Rattle.jobs.proofs.Held.{links_kept, sizes, job_kept, held_kept}
 use Rattle.plans.proofs.Lines.{lines_same, standing_choice}
 use Rattle.rounds.proofs.Tables.{placed_kept}
 use Rattle.lists.proofs.Kept.{Same, same_behind, kept_all, kept_set}
-use Rattle.jobs.proofs.Loads.{loaded_job, refused_job}
 use Rattle.rounds.proofs.Drawing.{drawn_lines}
 use Rattle.rounds.proofs.Bounds.{lower_differs, upper_decides}
-
--- What stands in e is the plan of the job in d.
-pub record Drafted (lim : Limits) (capacity : ℕ) (d e : List ℕ) : Type 0 where
-  pub job : JobHeld lim capacity e
-  pub text : plan_text lim (job_in e) (plan_in capacity e) ≡ planned lim (job_in d)
-
--- It fits a text. It does not fit an output, or it was written.
-module _ {lim : Limits} {capacity : ℕ} {d e : List ℕ} (t : Drafted lim capacity d e) where
-  abbrev written : List ℕ
-  written = plan_text lim (job_in e) (plan_in capacity e)
-
-  pub draft_most : Roomy lim → JobHeld lim capacity d → length written ≤ lim.text_length
-  draft_most roomy h = rw t.text (own_fits lim (job_in d) h.facts roomy)
-
-  pub draft_short : (out : List ℕ) → length out < length written → Answered (fitting (length out) (planned lim (job_in d))) out out (Refusal 8)
-  draft_short out l = rw (← t.text, lt-ltb (length out) (length written) l) (refl, refl)
-
-  pub draft_put : (out : List ℕ) → length written ≤ length out → (n : ℕ) (z : List ℕ) → n ≡ length written → z ≡ over out 0 written
-      → Answered (fitting (length out) (planned lim (job_in d))) out z (Done n)
-  draft_put out l n z q o = rw (← t.text, le-ltb (length out) (length written) l) (ap good q, o)
 
 -- The plan of the job in d was drawn up in mem.
 module _ {lim : Limits} {capacity : ℕ} {d mem : List ℕ} (h : JobHeld lim capacity d) (w : KeptOutside (level_at capacity) (memory_size capacity) d mem × Drawn lim capacity (nth d 0) mem) where
@@ -69,6 +41,9 @@ module _ {lim : Limits} {capacity : ℕ} {d mem : List ℕ} (h : JobHeld lim cap
 
     ended_kept : KeptOutside (lower_at capacity) (row_at capacity 0) mem ended
     ended_kept = kept_set (upper_at capacity) y (kept_set (lower_at capacity) x kept_all (omega arith) (omega arith)) (omega arith) (omega arith)
+
+    pub ended_held : JobHeld lim capacity ended
+    ended_held = held_kept all.standing.job ended_kept (omega arith)
 
     ended_job : job_in ended ≡ job_in mem
     ended_job = job_kept all.standing.job ended_kept (omega arith)
@@ -128,16 +103,10 @@ module _ {lim : Limits} {capacity : ℕ} {d mem : List ℕ} (h : JobHeld lim cap
         let upper = eqb-true y (nth whole (upper_at capacity)) (upper_decides (whole_held roomy) one ticks x early lower y late ∙ makespans) in
         (lower ∙ ap (λ (p : Plan). p.lower) whole_plan, upper ∙ ap (λ (p : Plan). p.upper) whole_plan)
 
-    pub drafted : Drafted lim capacity d (ended x y)
+    pub drafted : plan_text lim (job_in (ended x y)) (plan_in capacity (ended x y)) ≡ planned lim (job_in d)
     unfolding planned
-    drafted =
-        let (p, q) = ends_found in
-        record { job = held_kept all.standing.job (ended_kept x y) (omega arith); text = rw (ended_plan x y, ended_job x y, p, q, job_kept h w.0 (omega arith)) }
+    drafted = let (p, q) = ends_found in rw (ended_plan x y, ended_job x y, p, q, job_kept h w.0 (omega arith))
 
--- The job's text was refused, or loaded.
-pub plan_no : (lim : Limits) (capacity : ℕ) (x : Result Job) (mem links d : List ℕ) (n : ℕ) → JobLoaded lim capacity x mem links (Refused n) → Answered (plan_of lim x (length d)) d d (Refusal n)
-plan_no lim capacity x mem links d n h = rw (refused_job lim capacity x mem links n h) (refl, refl)
-
-pub plan_put : (lim : Limits) (capacity : ℕ) (x : Result Job) (mem links d : List ℕ) (n : ℕ) → JobLoaded lim capacity x mem links (Next n) → (e : List ℕ) (r : Answer)
-    → Answered (fitting (length d) (planned lim (job_in mem))) d e r → Answered (plan_of lim x (length d)) d e r
-plan_put lim capacity x mem links d n h e r a = rw (loaded_job lim capacity x mem links n h).0 a
+    -- It fits a text.
+    pub drafted_most : length (plan_text lim (job_in (ended x y)) (plan_in capacity (ended x y))) ≤ lim.text_length
+    drafted_most = rw drafted (own_fits lim (job_in d) h.facts roomy)

@@ -1,8 +1,9 @@
 -- The replay's answer: it does not depend on the order of the outcomes, and what the memory gives is what the texts say.
-use Rattle.lists.proofs.Prelude.{◌≡◌, refl, ap, ap₂, ⊎_elim, List, [], ◌∷◌, ◌++◌, map, reverse, Bool, ℕ, ◌<◌, ◌≤◌, arith, lt-ltb, le-ltb, eqb, length, nth, below, keep, In, Limits, Result, good, bad, Job, Stop, read_stops, Time, same, largest, Outcome, of_task, exits, makespan, replay, first_finish, first_processor, replay_makespan, result_lines, end_line, replay_text}
+use Rattle.std.specs.Prelude.{Result as Answer, Ok, Err}
+use Rattle.lists.proofs.Prelude.{◌≡◌, refl, ap, ap₂, ⊎_elim, List, [], ◌∷◌, ◌++◌, map, reverse, Bool, ℕ, ◌≤◌, arith, le-ltb, eqb, length, nth, below, keep, In, Limits, Result, good, bad, Job, Stop, read_stops, Time, same, largest, Outcome, of_task, exits, makespan, replay, first_finish, first_processor, replay_makespan, result_lines, end_line, replay_text, fitting}
 use Rattle.definitions.proofs.Lists.{map_same, in_map, map_in, in_keep, keep_in, in_reverse, reverse_left}
-use Rattle.lists.specs.Over.{over}
-use Rattle.text.specs.declared.Step.TheVariants.{Next, Refused}
+use Rattle.text.specs.Numbers.{number_of}
+use Rattle.text.specs.declared.refusal.Refusal.{Refusal}
 use Rattle.heads.specs.Layout.{lanes_most}
 use Rattle.jobs.specs.Answers.{Answered}
 use Rattle.jobs.specs.Held.{job_in, JobHeld, LinksHeld}
@@ -11,7 +12,6 @@ use Rattle.stops.specs.Loading.{stops_from, StopsLoaded}
 use Rattle.plans.specs.Loading.{plan_in, PlanHeld}
 use Rattle.rounds.specs.Tools.{replay_of}
 use Rattle.rounds.specs.Replaying.{StopsIn, outcomes_in, RisingIn, RoundRun}
-use Rattle.jobs.specs.declared.Answer.TheVariants.{Done, Refusal}
 use Rattle.jobs.proofs.Held.{processors_in, sizes, job_kept, links_kept}
 use Rattle.rounds.proofs.FirstLaws.{least_same, lowest_same}
 
@@ -76,13 +76,13 @@ few_processors : {lim : Limits} {capacity : ℕ} {mem : List ℕ} → JobHeld li
 few_processors {mem = mem} h = rw (processors_in mem) (sizes h).lanes_fit
 
 -- The stops' text was refused, or gave stops.
-stops_refused : (lim : Limits) (x : Result (List Stop)) (cells : List ℕ) (n : ℕ) → StopsLoaded lim x cells (Refused n) → x ≡ bad n
-stops_refused lim (good ss) cells n ((k, e), _) = absurd (let z : ◌≡◌ {A = ℕ} 0 1 = cc in omega arith)
-stops_refused lim (bad k) cells n e = cc
+stops_refused : (lim : Limits) (x : Result (List Stop)) (cells : List ℕ) (e : Refusal) → StopsLoaded lim x cells (Err e) → x ≡ bad (number_of e)
+stops_refused lim (good ss) cells e (f, _) = absurd (let z : ◌≡◌ {A = ℕ} 0 1 = cc in omega arith)
+stops_refused lim (bad k) cells e f = cc
 
-stops_read : (lim : Limits) (x : Result (List Stop)) (cells : List ℕ) (n : ℕ) → length cells ≡ lanes_most → StopsLoaded lim x cells (Next n) → (ss : List Stop) × (x ≡ good ss) × StopsIn ss cells
-stops_read lim (good ss) cells n z (_, f) = (ss, refl, λ p h. (f p (omega (arith, h, z))).0)
-stops_read lim (bad k) cells n z e = absurd (let z : ◌≡◌ {A = ℕ} 0 1 = cc in omega arith)
+stops_read : (lim : Limits) (x : Result (List Stop)) (cells : List ℕ) (u : Unit {0}) → length cells ≡ lanes_most → StopsLoaded lim x cells (Ok u) → (ss : List Stop) × (x ≡ good ss) × StopsIn ss cells
+stops_read lim (good ss) cells u z (_, f) = (ss, refl, λ p h. (f p (omega (arith, h, z))).0)
+stops_read lim (bad k) cells u z e = absurd (let z : ◌≡◌ {A = ℕ} 0 1 = cc in omega arith)
 
 -- The plan in d has run under the stops in the cells, and e is the memory after it.
 module _ {lim : Limits} {capacity : ℕ} {d e cells : List ℕ} (h : PlanHeld lim capacity d) (r : RoundRun lim capacity cells d e) where
@@ -95,24 +95,14 @@ module _ {lim : Limits} {capacity : ℕ} {d e cells : List ℕ} (h : PlanHeld li
       rw (r.outcomes ss i, job_kept h.standing.job r.outside (omega arith))
       (text_alike (alike_reverse (replay (job_in d) ss (plan_in capacity d).lines)) lim (job_in d))
 
-  -- Its lines do not fit, or they were written.
-  module _ (stops out : List ℕ) (k n : ℕ) (l : length cells ≡ lanes_most) (g : StopsLoaded lim (stops_from lim lanes_most (job_in d) stops) cells (Next k))
-      (q : n ≡ length (replay_text lim (job_in e) (outcomes_in capacity e))) where
-    step_reading : (ss : List Stop) × (read_stops lim (job_in d) stops ≡ good ss) × StopsIn ss cells
-    step_reading = stops_read lim (read_stops lim (job_in d) stops) cells k l (rw (stops_all lim lanes_most (job_in d) stops (few_processors h.standing.job)) at g)
+  -- What is answered by the round's lines is the answer to the stops' text.
+  pub run_answer : (stops out z : List ℕ) (u : Unit {0}) (a : Answer ℕ Refusal) → length cells ≡ lanes_most → StopsLoaded lim (stops_from lim lanes_most (job_in d) stops) cells (Ok u)
+      → Answered (fitting (length out) (replay_text lim (job_in e) (outcomes_in capacity e))) out z a → Answered (replay_of lim stops (length out) (job_in d, plan_in capacity d)) out z a
+  run_answer stops out z u a l g f =
+      let (ss, q, i) = stops_read lim (read_stops lim (job_in d) stops) cells u l (rw (stops_all lim lanes_most (job_in d) stops (few_processors h.standing.job)) at g) in
+      rw (q, ← run_text ss i) f
 
-    pub run_short : length out < n → Answered (replay_of lim stops (length out) (job_in d, plan_in capacity d)) out out (Refusal 8)
-    run_short b =
-        let (ss, f, i) = step_reading in
-        rw (f, ← run_text ss i, lt-ltb (length out) (length (replay_text lim (job_in e) (outcomes_in capacity e))) (omega arith)) (refl, refl)
-
-    pub run_done : n ≤ length out → (m : ℕ) (z : List ℕ) → m ≡ length (replay_text lim (job_in e) (outcomes_in capacity e))
-        → z ≡ over out 0 (replay_text lim (job_in e) (outcomes_in capacity e)) → Answered (replay_of lim stops (length out) (job_in d, plan_in capacity d)) out z (Done m)
-    run_done b m z a o =
-        let (ss, f, i) = step_reading in
-        rw (f, ← run_text ss i, le-ltb (length out) (length (replay_text lim (job_in e) (outcomes_in capacity e))) (omega arith)) (ap good a, o)
-
-pub run_refused : {lim : Limits} (capacity : ℕ) (d cells stops out : List ℕ) (n : ℕ) → JobHeld lim capacity d → StopsLoaded lim (stops_from lim lanes_most (job_in d) stops) cells (Refused n)
-    → Answered (replay_of lim stops (length out) (job_in d, plan_in capacity d)) out out (Refusal n)
-run_refused {lim} capacity d cells stops out n j h =
-    rw (stops_refused lim (read_stops lim (job_in d) stops) cells n (rw (stops_all lim lanes_most (job_in d) stops (few_processors j)) at h)) (refl, refl)
+pub run_refused : {lim : Limits} (capacity : ℕ) (d cells stops : List ℕ) (room : ℕ) (e : Refusal) → JobHeld lim capacity d → StopsLoaded lim (stops_from lim lanes_most (job_in d) stops) cells (Err e)
+    → replay_of lim stops room (job_in d, plan_in capacity d) ≡ bad (number_of e)
+run_refused {lim} capacity d cells stops room e j h =
+    rw (stops_refused lim (read_stops lim (job_in d) stops) cells e (rw (stops_all lim lanes_most (job_in d) stops (few_processors j)) at h)) refl

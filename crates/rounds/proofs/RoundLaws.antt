@@ -4,11 +4,12 @@ use Rattle.definitions.proofs.Ready.{first_ready_lem}
 use Rattle.heads.specs.Layout.{replicas_most, job_size, row_at, largest_delay_at, processor_at, lanes_most}
 use Rattle.jobs.specs.Held.{job_in, JobHeld}
 use Rattle.plans.specs.Lines.{row_outcomes, placed_in, lines_in, LinesHeld}
-use Rattle.rounds.specs.Arrivals.{DelayTable, NoDelayOver}
+use Rattle.rounds.specs.Arrivals.{DelaysHeld}
 use Rattle.plans.specs.Loading.{plan_in}
+use Rattle.rounds.specs.declared.times.Delays.{Delays}
 use Rattle.rounds.specs.Replaying.{StopsIn, ran_in, Running, PredecessorsBefore, Retimed, placements_in, walked, LineRun, RoundRun}
 use Rattle.lists.proofs.Counting.{below_same}
-use Rattle.lists.proofs.Kept.{same_before, kept_wider}
+use Rattle.lists.proofs.Kept.{Same, same_before, kept_wider}
 use Rattle.jobs.proofs.Held.{sizes}
 use Rattle.rounds.proofs.TimeTables.{delays_kept}
 use Rattle.rounds.proofs.EndLaws.{no_delay_kept}
@@ -57,15 +58,14 @@ round_first stops {mem} s =
 module _ {lim : Limits} {capacity : ℕ} (k : ℕ) {stops cells d e : List ℕ} (l : RoundRuns lim capacity k stops cells d e) (s : LinesHeld lim capacity (nth d 0) d)
     (o : Ordered (job_in d) [] (plan_in capacity d).lines) where
   -- What the next line asks for.
-  pub round_asks : {delays : List ℕ} {most : ℕ} → DelayTable lim delays d → NoDelayOver most d → k < nth d 0
-      → DelayTable lim delays e × NoDelayOver most e × (k < nth e 0) × PredecessorsBefore capacity k e
+  pub round_asks : {delays : Delays} → DelaysHeld lim delays d → k < nth d 0 → DelaysHeld lim delays e × (k < nth e 0) × PredecessorsBefore capacity k e
   unfolding plan_in
-  round_asks t n h = (
-    delays_kept s.job (same_before 0 (job_size capacity) l.retimed.outside (omega arith)) t,
-    no_delay_kept s.job (same_before 0 (job_size capacity) l.retimed.outside (omega arith)) n,
-    rw (cell_retimed l.retimed 0 (omega arith)) h,
-    predecessors_retimed l.retimed s.job k (line_predecessors s o k h),
-  )
+  round_asks delays h =
+      let same : Same 0 (job_size capacity) d e = same_before 0 (job_size capacity) l.retimed.outside (omega arith) in (
+        record { table = delays_kept s.job same delays.table; over = no_delay_kept s.job same delays.over; most = delays.most },
+        rw (cell_retimed l.retimed 0 (omega arith)) h,
+        predecessors_retimed l.retimed s.job k (line_predecessors s o k h),
+      )
 
   pub round_next : {after f : List ℕ} → k < nth d 0 → Running lim capacity (suc k) 0 after f → LineRun capacity k stops e f → RoundRuns lim capacity (k + 1) stops after d f
   round_next {after} {f} h r q =

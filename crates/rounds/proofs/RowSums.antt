@@ -99,7 +99,7 @@ module _ {lim : Limits} {capacity : ℕ} (mem : List ℕ) (held : JobHeld lim ca
   unfolding scaled_run
   scaled_more t h n = rw (← run_cells t h, processors_in mem, ne_eqb (nth mem 1) 1 n)
 
-  pub scaled_fits : (t : ℕ) → t < nth mem 0 → (nth mem 1 - 1) * row_sum mem t ≤ scaled_most lim
+  scaled_fits : (t : ℕ) → t < nth mem 0 → (nth mem 1 - 1) * row_sum mem t ≤ scaled_most lim
   scaled_fits t h =
       let s = sizes held in
       omega (arith, mul-le-mul {n₁ = nth mem 1 - 1} {m₁ = row_sum mem t} {n₂ = lim.processors} {m₂ = lim.processors * lim.run_time} (omega (arith, s.processors_most)) (run_sum_most t h))

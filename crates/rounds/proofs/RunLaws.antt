@@ -1,5 +1,5 @@
 -- The replay of a plan in memory, replica by replica and line by line.
-use Rattle.lists.proofs.Prelude.{◌≡◌, refl, ap, ◌∙◌, sym, inl, inr, ⊎_elim, List, [], ◌∷◌, ◌++◌, map, map-append, Bool, true, false, ℕ, suc, ◌+◌, ◌*◌, ◌-◌, ◌<◌, ◌≤◌, mul-le-mul, arith, add-one, eq-eqb, ne_eqb, lt-leb, le-leb, set, length-set, get_or-set_same, get_or-set_other, nth, below, In, Limits, Edge, Job, run_time, incoming, Stop, Time, never, later, after, least, largest, Placement, Outcome, outcome, arrival, data_ready, start, ready, stop_time, finish, walk, placements_of, placement_of, tick_of, trial}
+use Rattle.lists.proofs.Prelude.{◌≡◌, refl, ap, ◌∙◌, sym, inl, inr, ⊎_elim, List, [], ◌∷◌, ◌++◌, map, map-append, Bool, true, false, ℕ, suc, ◌+◌, ◌*◌, ◌-◌, ◌<◌, ◌≤◌, mul-le-mul, arith, add-one, eq-eqb, ne_eqb, lt-leb, le-leb, set, length-set, get_or-set_same, get_or-set_other, length, nth, below, In, Limits, Edge, Job, run_time, incoming, Stop, Time, never, later, after, least, largest, Placement, Outcome, outcome, arrival, data_ready, start, ready, stop_time, finish, walk, placements_of, placement_of, tick_of, trial}
 use lib.Ieee.{Float}
 use Rattle.definitions.specs.Times.{unless_stopped, feeding}
 use Rattle.definitions.specs.Shelf.{NoLater}
@@ -8,12 +8,12 @@ use Rattle.definitions.proofs.Tasks.{in_incoming}
 use Rattle.definitions.proofs.Bounds.{weaker, trial_most}
 use Rattle.definitions.proofs.Later.{later_comm, later_assoc, no_later_self, no_later_then, first_no_later, after_no_later, stopped_no_later}
 use Rattle.definitions.proofs.Shelf.{settled_more}
-use Rattle.heads.specs.Layout.{line_at, replicas_most, row_at, processor_at, early_at, late_at, time_at, lanes_most}
+use Rattle.heads.specs.Layout.{line_at, replicas_most, row_at, processor_at, early_at, late_at, time_at, lanes_most, replica_end}
 use Rattle.orders.proofs.RunLaws.{set_cell}
 use Rattle.jobs.specs.Held.{job_in, JobHeld, SomeJobHeld}
 use Rattle.jobs.specs.Tables.{line_ticks}
 use Rattle.ticks.specs.Cells.{never_cell, time_in, Small}
-use Rattle.plans.specs.Lines.{row_outcomes, placed_in, row_replicas, row_of, RowHeld, LinesHeld}
+use Rattle.plans.specs.Lines.{row_outcomes, placed_in, row_replicas, row_of, RowHeld, LinesHeld, row_end}
 use Rattle.rounds.specs.Schedule.{data_in}
 use Rattle.lists.specs.Kept.{KeptOutside}
 use Rattle.rounds.specs.Arrivals.{lane_most, Ended, EndsPut, Supplied, ready_times}
@@ -259,14 +259,27 @@ line_supplied {lim} {capacity} k {cells} {d} r a f ended =
 
 -- c replicas of line k have run, from a memory d and ready times in the first cells.
 pub record LineRuns (lim : Limits) (capacity k c : ℕ) (stops first cells d e : List ℕ) : Type 0 where
+  pub standing : LinesHeld lim capacity (nth d 0) d
+  pub line : k < nth d 0
+  pub predecessors : PredecessorsBefore capacity k d
   pub running : Running lim capacity k c cells e
   pub waited : (p : ℕ) → p < nth d 1 → NoLater (time_in (nth first p)) (time_in (nth cells p))
   pub retimed : Retimed capacity k (suc k) d e
   pub outcomes : (ss : List Stop) → StopsIn ss stops → ran_in capacity k c e ≡ walked (job_in d) ss (placed_in capacity false (nth d 3 + 1) k d) (placements_in capacity k c d)
 
-pub line_first : {lim : Limits} {capacity : ℕ} (k : ℕ) (stops : List ℕ) {cells d : List ℕ} → Running lim capacity k 0 cells d → LineRuns lim capacity k 0 stops cells cells d d
+pub line_first : {lim : Limits} {capacity : ℕ} (k : ℕ) (stops : List ℕ) {cells d : List ℕ} → Running lim capacity k 0 cells d → k < nth d 0 → PredecessorsBefore capacity k d
+    → LineRuns lim capacity k 0 stops cells cells d d
 unfolding ran_in row_outcomes placements_in row_replicas walked walk
-line_first k stops {cells} r = record { running = r; waited = λ p h. no_later_self (time_in (nth cells p)); retimed = retimed_none; outcomes = λ ss h. refl }
+line_first k stops {cells} r a f =
+    record {
+      standing = r.standing;
+      line = a;
+      predecessors = f;
+      running = r;
+      waited = λ p h. no_later_self (time_in (nth cells p));
+      retimed = retimed_none;
+      outcomes = λ ss h. refl;
+    }
 
 -- The next replica, of task t on p: its processor, what its run time is asked by, and when the processor is ready.
 pub record LineStep (lim : Limits) (t p : ℕ) (cells d e : List ℕ) : Type 0 where
@@ -275,29 +288,28 @@ pub record LineStep (lim : Limits) (t p : ℕ) (cells d e : List ℕ) : Type 0 w
   pub below : p < lanes_most
   pub ready_small : Small (lane_most lim) (nth cells p)
 
-module _ {lim : Limits} {capacity : ℕ} (k c : ℕ) {stops first cells d e : List ℕ} (l : LineRuns lim capacity k c stops first cells d e) (s : LinesHeld lim capacity (nth d 0) d)
-    (a : k < nth d 0) (f : PredecessorsBefore capacity k d) where
+module _ {lim : Limits} {capacity k c : ℕ} {stops first cells d e : List ℕ} (l : LineRuns lim capacity k c stops first cells d e) where
   abbrev ran : Running lim capacity k c cells e
   ran = l.running
 
   line_below : k < nth e 0
-  line_below = rw (cell_retimed l.retimed 0 (omega arith)) a
+  line_below = rw (cell_retimed l.retimed 0 (omega arith)) l.line
 
   line_predecessors : PredecessorsBefore capacity k e
-  line_predecessors = predecessors_retimed l.retimed s.job k f
+  line_predecessors = predecessors_retimed l.retimed l.standing.job k l.predecessors
 
   -- The data of the line is what it was before.
   line_data : (p : ℕ) → data_in capacity false (nth e (row_at capacity k)) p e ≡ data_in capacity false (nth d (row_at capacity k)) p d
   line_data p =
-      let w = sizes s.job in
+      let w = sizes l.standing.job in
       data_placed ran.standing k (nth e (row_at capacity k)) (omega (arith, line_below)) line_predecessors false p
       ∙ rw (
-        job_retimed l.retimed s.job,
+        job_retimed l.retimed l.standing.job,
         l.retimed.task k,
         cell_retimed l.retimed 3 (omega arith),
         placed_same d e capacity false (nth d 3 + 1) k (omega arith) (same_before (row_at capacity 0) (row_at capacity k) l.retimed.outside (omega arith)),
       )
-      (sym (data_placed s k (nth d (row_at capacity k)) (omega arith) f false p))
+      (sym (data_placed l.standing k (nth d (row_at capacity k)) (omega arith) l.predecessors false p))
 
   module _ (b : c < nth d 3 + 1) where
     abbrev its : ℕ
@@ -309,27 +321,30 @@ module _ {lim : Limits} {capacity : ℕ} (k c : ℕ) {stops first cells d e : Li
     its_below : its < nth e 1
     its_below = processor_below k c ran line_below replica_below line_predecessors
 
-    pub line_step : LineStep lim (nth d (row_at capacity k)) its cells d e
-    line_step =
-        let w = sizes s.job in
+    pub line_room : {row : ℕ} → row ≡ row_at capacity k → replica_end row c ≤ length e
+    line_room o = omega (arith, sizes l.running.standing.job, line_below, replica_below, o)
+
+    its_step : LineStep lim (nth d (row_at capacity k)) its cells d e
+    its_step =
+        let w = sizes l.standing.job in
         let h : its < nth d 1 = rw (cell_retimed l.retimed 1 (omega arith)) at its_below in
-        let range = (round_most w.tabled (k * replicas_most + c) (omega (arith, a, b, w.tasks_most, w.row_fits))).1 in
+        let range = (round_most w.tabled (k * replicas_most + c) (omega (arith, l.line, b, w.tasks_most, w.row_fits))).1 in
         record {
           processor = h;
-          asked = ((_, ran.standing.job), rw (cell_retimed l.retimed 0 (omega arith)) (s.task_of k a), its_below);
+          asked = ((_, ran.standing.job), rw (cell_retimed l.retimed 0 (omega arith)) (l.standing.task_of k l.line), its_below);
           below = omega arith;
           ready_small = small_wider ((k * replicas_most + c) * line_ticks lim) (lane_most lim) (nth cells its) (omega (arith, range)) (ran.ready_small its its_below);
         }
 
-    pub line_next : (supplied run x y : ℕ)
+    its_next : (supplied run x y : ℕ)
         → time_in supplied ≡ later (time_in (nth first its)) (data_in capacity false (nth d (row_at capacity k)) its d)
         → run ≡ run_time (job_in e) (nth d (row_at capacity k)) its
         → time_in x ≡ after run (later (time_in (nth cells its)) (time_in supplied))
         → time_in y ≡ unless_stopped (time_in (nth stops its)) (time_in x)
         → ((b : ℕ) → Small b x → Small b y)
         → LineRuns lim capacity k (c + 1) stops first (set cells its y) d (set e (early_at (row_at capacity k) c) y)
-    line_next supplied run x y o z p₀ q n =
-        let w = sizes s.job in
+    its_next supplied run x y o z p₀ q n =
+        let w = sizes l.standing.job in
         let g = line_below in
         let u = replica_below in
         let v = line_predecessors in
@@ -337,23 +352,26 @@ module _ {lim : Limits} {capacity : ℕ} (k c : ℕ) {stops first cells d e : Li
         let now = time_in (nth cells its) in
         let begin = time_in (nth first its) in
         let its-data = data_in capacity false (nth d (row_at capacity k)) its d in
-        let waited : NoLater begin now = l.waited its line_step.processor in
+        let waited : NoLater begin now = l.waited its its_step.processor in
         let begun : later now (later begin its-data) ≡ later now its-data =
         sym (later_assoc now begin its-data) ∙ ap (λ (z : Time). later z its-data) (later_comm now begin ∙ waited) in
         let p : time_in x ≡ after (run_time (job_in e) (nth e (row_at capacity k)) its) (later (time_in (nth cells its)) (data_in capacity false (nth e (row_at capacity k)) its e)) = rw
         (line_data its, ← begun, ← o, own) p₀ in
         let late : NoLater (time_in x) (time_in y) = rw q (stopped_no_later (time_in (nth stops its)) (time_in x)) in
         record {
+          standing = l.standing;
+          line = l.line;
+          predecessors = l.predecessors;
           running = running_next k c ran g u v x p y n late;
           waited = λ i h.
-              set_cell (λ z. NoLater (time_in (nth first i)) (time_in z)) cells its i y (omega (arith, line_step.below, ran.size))
+              set_cell (λ z. NoLater (time_in (nth first i)) (time_in z)) cells its i y (omega (arith, its_step.below, ran.size))
               (λ (q : i ≡ its). rw q (no_later_then begin now (time_in y) waited (started k c ran g u v x p y n late)))
               (λ q. l.waited i h);
           retimed = retimed_set k c y l.retimed (omega arith) (omega arith) (omega arith);
           outcomes = λ ss h.
-              let j : job_in e ≡ job_in d = job_retimed l.retimed s.job in
+              let j : job_in e ≡ job_in d = job_retimed l.retimed l.standing.job in
               let o : finish (job_in e) least ss (ran_in capacity k c e) (placement_of (job_in e) (nth e (row_at capacity k)) its) ≡ time_in y =
-              finish_ran k c ran g u v x p ss ∙ rw (← h its line_step.below) (sym q) in
+              finish_ran k c ran g u v x p ss ∙ rw (← h its its_step.below) (sym q) in
               ran_next k c ran g u v x p y n late
               ∙ rw (
                 placements_next capacity k c d,
@@ -367,10 +385,29 @@ module _ {lim : Limits} {capacity : ℕ} (k c : ℕ) {stops first cells d e : Li
               );
         }
 
+    -- The line is at row, and its next replica is on p.
+    module _ {row p : ℕ} (o : row ≡ row_at capacity k) (q : p ≡ nth e (processor_at row c)) where
+      its_here : p ≡ its
+      its_here = rw o at q
+
+      pub line_step : LineStep lim (nth d row) p cells d e
+      line_step = rw (o, its_here) its_step
+
+      -- It waits for its data, runs, and is stopped or not.
+      pub line_next : (supplied run x y : ℕ)
+          → time_in supplied ≡ later (time_in (nth first p)) (data_in capacity false (nth d row) p d)
+          → run ≡ run_time (job_in e) (nth d row) p
+          → time_in x ≡ after run (later (time_in (nth cells p)) (time_in supplied))
+          → time_in y ≡ unless_stopped (time_in (nth stops p)) (time_in x)
+          → ((b : ℕ) → Small b x → Small b y)
+          → LineRuns lim capacity k (c + 1) stops first (set cells p y) d (set e (early_at row c) y)
+      line_next supplied run x y h i m n v =
+          rw (o, its_here) (its_next supplied run x y (rw (o, its_here) at h) (rw (o, its_here) at i) (rw its_here at m) (rw its_here at n) v)
+
   pub line_done : c ≡ nth d 3 + 1 → Running lim capacity (suc k) 0 cells e × LineRun capacity k stops d e
   unfolding ran_in placed_in row_outcomes
   line_done q =
-      let w = sizes s.job in
+      let w = sizes l.standing.job in
       let three : nth e 3 ≡ nth d 3 = cell_retimed l.retimed 3 (omega arith) in
       let same : ran_in capacity k c e ≡ ran_in capacity (suc k) 0 e = let full : c ≡ nth e 3 + 1 = omega arith in rw full in
       let most = mul-le-mul {n₁ = k * replicas_most + c} {m₁ = line_ticks lim} {n₂ = suc k * replicas_most + 0} {m₂ = line_ticks lim} (omega (arith, q, w.row_fits)) (omega arith) in (
@@ -386,15 +423,19 @@ module _ {lim : Limits} {capacity : ℕ} (k c : ℕ) {stops first cells d e : Li
       )
 
   -- Where its ends are noted from, and then they are.
-  pub line_row : SomeJobHeld lim e × RowHeld lim (row_at capacity k) e
-  line_row = ((_, ran.standing.job), ran.standing.row k line_below)
+  module _ {row : ℕ} (o : row ≡ row_at capacity k) {ends : List Float} (h : Ended lim capacity k d ends) where
+    pub line_row : SomeJobHeld lim e × RowHeld lim row e × (row_end row ≤ length e) × (nth d row < nth d 0) × (2 * nth d row + 1 < length ends)
+    line_row =
+        let z = sizes ran.standing.job in
+        let t : nth d row < nth d 0 = rw o (l.standing.task_of k l.line) in
+        ((_, ran.standing.job), rw o (ran.standing.row k line_below), omega (arith, z, line_below, o), t, omega (arith, t, h.size))
 
-  pub line_ended : {ends next : List Float} → Ended lim capacity k d ends → EndsPut lim (row_at capacity k) (nth d (row_at capacity k)) e ends next → Ended lim capacity (suc k) e next
-  line_ended {next = next} h put =
-      let w = sizes s.job in
-      let kept : Same (row_at capacity 0) (row_at capacity k) d e = same_before (row_at capacity 0) (row_at capacity k) l.retimed.outside (omega arith) in
-      let before = ended_same h (cell_retimed l.retimed 0 (omega arith)) (cell_retimed l.retimed 3 (omega arith)) (omega arith) kept in
-      rw (add-one k) at (ended_line {next = next} ran.standing line_below before (rw (l.retimed.task k) put))
+    pub line_ended : {next : List Float} → EndsPut lim row (nth d row) e ends next → Ended lim capacity (suc k) e next
+    line_ended {next} put =
+        let w = sizes l.standing.job in
+        let kept : Same (row_at capacity 0) (row_at capacity k) d e = same_before (row_at capacity 0) (row_at capacity k) l.retimed.outside (omega arith) in
+        let before = ended_same h (cell_retimed l.retimed 0 (omega arith)) (cell_retimed l.retimed 3 (omega arith)) (omega arith) kept in
+        rw (add-one k) at (ended_line {next = next} ran.standing line_below before (rw (l.retimed.task k) (rw o at put)))
 
 -- A stop in a cell ------------------------------------------------------------------------------------------------------
 

@@ -57,9 +57,6 @@ none_early = refl
 pub small_wider : (b c x : ℕ) → b ≤ c → Small b x → Small c x
 small_wider b c x h = ⊎_elim inl (λ l. inr (omega arith))
 
-pub small_one : (b r x y : ℕ) → (r ≡ x) ⊎ (r ≡ y) → Small b x → Small b y → Small b r
-small_one b r x y s p q = ⊎_elim (λ (e : r ≡ x). rw e p) (λ (e : r ≡ y). rw e q) s
-
 pub small_tick : (b x : ℕ) → (x ≡ never_cell → ⊥) → Small b x → x ≤ b
 small_tick b x h = ⊎_elim (λ e. absurd (h e)) (λ l. l)
 

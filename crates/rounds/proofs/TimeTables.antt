@@ -1,6 +1,10 @@
 -- Tables with a lane for each processor: the delays, and when data is there.
 use Rattle.std.specs.Prelude.{if◌then◌else◌}
-use Rattle.lists.proofs.Prelude.{◌≡◌, refl, ap, ◌∙◌, sym, ⊎_elim, List, [], ◌∷◌, ◌++◌, map, append-nil, append_assoc, Bool, true, false, ℕ, zero, suc, ◌+◌, ◌-◌, ◌*◌, ◌/◌, ◌%◌, ◌^◌, ◌<◌, ◌≤◌, max, min, arith, mul-le-mul, add-one, add-zero, sub-zero, eqb-true, eqb-false, eq-eqb, ltb-true, ltb-false, lt-ltb, le-ltb, ltb, eqb, length, set, length-set, replicate, length-replicate, get_or-replicate, get_or-set_same, get_or-set_other, nth, In, incoming, delay, Edge, Time, tick, never, later, sooner, after, least, largest, Outcome, Limits}
+use Rattle.lists.proofs.Prelude.{◌≡◌, refl, ap, ◌∙◌, sym, List, [], ◌∷◌, ◌++◌, map, append-nil, append_assoc, Bool, true, false, ℕ, zero, suc, ◌+◌, ◌-◌}
+use Rattle.lists.proofs.Prelude.{◌*◌, ◌/◌, ◌%◌, ◌^◌, ◌<◌, ◌≤◌, min, arith, mul-le-mul, add-one, add-zero, sub-zero, eqb-true, eqb-false, eq-eqb, ltb-true}
+use Rattle.lists.proofs.Prelude.{ltb-false, lt-ltb, le-ltb, ltb, eqb, set, replicate, length-replicate, get_or-replicate, get_or-set_same}
+use Rattle.lists.proofs.Prelude.{get_or-set_other, nth, In, incoming, delay, Edge, Time, tick, never, later, sooner, after, least, largest, Outcome}
+use Rattle.lists.proofs.Prelude.{Limits}
 use lib.Ieee.{Float, nan}
 use native.Mathlib.Nat.{lt_of_not-le}
 use Rattle.definitions.specs.Times.{times, message}
@@ -16,11 +20,12 @@ use Rattle.ticks.specs.Lanes.{lanes, lesser, greater, sent, delay_at, lane_in, l
 use Rattle.ticks.proofs.HeldLaws.{Holds, whole_holds, held_more, held_in, sent_holds, lesser_holds, greater_holds, least_holds}
 use Rattle.ticks.proofs.LaneLaws.{lanes_each}
 use Rattle.rounds.specs.Schedule.{edge_from, choice_of, arrival_in, data_in, PredecessorsPlaced}
-use Rattle.rounds.specs.Arrivals.{lane_most, DelayTable, NoDelayOver, TimeTable, OfHalf, HalfTable, LanesHeld, Raised, RaisedBy, RaisedIn, EdgeEnds, Supplied, lane_times, end_at, BothSupplied, ShortTicks, TicksHeld, delay_cells}
+use Rattle.rounds.specs.Arrivals.{lane_most, DelayTable, DelaysTo, NoDelayOver, TimeTable, OfHalf, HalfTable, LanesHeld, Raised, RaisedBy, RaisedIn, EdgeEnds}
+use Rattle.rounds.specs.Arrivals.{Supplied, lane_times, end_at, BothSupplied, ShortTicks, TicksHeld, delay_cells}
+use Rattle.rounds.specs.declared.times.Delays.{Delays}
 use Rattle.jobs.specs.Held.{job_in, JobHeld}
 use Rattle.jobs.specs.Tables.{last_short}
 use Rattle.plans.specs.Lines.{row_outcomes, row_of, LinesHeld}
-use Rattle.lists.proofs.Counting.{equal_or_not}
 use Rattle.jobs.proofs.Held.{sizes, job_same, processors_in}
 use Rattle.lists.proofs.Kept.{Same}
 use Rattle.rounds.proofs.Placed.{arrival_of, row_outcome, row_all, in_row, data_walked}
@@ -29,49 +34,15 @@ use Rattle.rounds.proofs.TimeLaws.{gathered, gather_none, gather_next, gather_do
 
 -- The table of delays -----------------------------------------------------------------------------------------------
 
--- The cells before i hold the delays, and no cell is over n.
-pub record DelaysTo (lim : Limits) (mem : List ℕ) (i : ℕ) (delays : List ℕ) (n : ℕ) : Type 0 where
-  pub size : length delays ≡ delay_cells
-  pub cell : (q p : ℕ) → q < nth mem 1 → p < nth mem 1 → q * lanes_most + p < i → nth delays (q * lanes_most + p) ≡ delay (job_in mem) q p
-  pub most : (k : ℕ) → k < delay_cells → nth delays k ≤ n
-  pub within : n ≤ lim.delay
-
 -- No delay is in the table yet.
-pub delays_none : {lim : Limits} {mem : List ℕ} → DelaysTo lim mem 0 (replicate delay_cells 0) 0
-delays_none =
+pub delays_none : {lim : Limits} {mem : List ℕ} {d : Delays} → d.table ≡ replicate delay_cells 0 → d.most ≡ 0 → DelaysTo lim mem 0 d
+delays_none {d} e f =
     record {
-      size = length-replicate {A = ℕ} delay_cells 0;
+      size = rw e (length-replicate {A = ℕ} delay_cells 0);
       cell = λ q p a b l. absurd (omega arith);
-      most = λ k l. rw (get_or-replicate {A = ℕ} delay_cells k 0 0 l) (omega arith);
-      within = omega arith;
+      over = λ k l. rw (e, get_or-replicate {A = ℕ} delay_cells k 0 0 l) (omega arith);
+      within = omega (arith, f);
     }
-
-module _ {lim : Limits} {mem : List ℕ} (few : nth mem 1 ≤ lanes_most) {i : ℕ} {d : List ℕ} {n : ℕ} (t : DelaysTo lim mem i d n) where
-  -- One delay more.
-  pub delays_next : (z : ℕ) {r : ℕ} → i < delay_cells → z ≡ delay (job_in mem) (i / lanes_most) (i % lanes_most) → z ≤ lim.delay → r ≡ max n z → DelaysTo lim mem (i + 1) (set d i z) r
-  delays_next z {r} l e m x =
-      let here = get_or-set_same d i z 0 (omega (arith, t.size)) in
-      record {
-        size = length-set d i z ∙ t.size;
-        cell = λ q p a b o. ⊎_elim
-            (λ (s : q * lanes_most + p ≡ i). let u : q ≡ i / lanes_most = omega arith in let v : p ≡ i % lanes_most = omega arith in rw (s, here, u, v) e)
-            (λ s. get_or-set_other d i (q * lanes_most + p) z 0 s ∙ t.cell q p a b (omega arith))
-            (equal_or_not (q * lanes_most + p) i);
-        most = λ k o. ⊎_elim (λ (s : k ≡ i). rw (s, here) (omega arith)) (λ s. rw (get_or-set_other d i k z 0 s) (omega (arith, t.most k o))) (equal_or_not k i);
-        within = omega (arith, t.within);
-      }
-
-  -- The rest of a row is for no processor.
-  pub delays_row : nth mem 1 ≤ i % lanes_most → DelaysTo lim mem (i + (lanes_most - i % lanes_most)) d n
-  delays_row l = record { size = t.size; cell = λ q p a b o. t.cell q p a b (omega arith); most = t.most; within = t.within }
-
-  -- All delays of the job are in the table.
-  pub delays_done : lanes_most * nth mem 1 ≤ i → DelayTable lim d mem × NoDelayOver n mem × (n ≤ lim.delay)
-  delays_done l = (
-    record { cell = λ q p a b. t.cell q p a b (omega arith); most = λ k o. omega (arith, t.most k o, t.within) },
-    λ q p a b. rw (← t.cell q p a b (omega arith)) (t.most (q * lanes_most + p) (omega arith)),
-    t.within,
-  )
 
 -- The table is that of a memory with the same job.
 pub delays_kept : {lim : Limits} {capacity : ℕ} {delays d e : List ℕ} → JobHeld lim capacity d → Same 0 (job_size capacity) d e → DelayTable lim delays d → DelayTable lim delays e
@@ -121,13 +92,6 @@ lane_apart q h i l n = by (eqb (q / 8) h) refl
     by : (b : Bool) → eqb (q / 8) h ≡ b → i ≡ (if b then q % 8 else 8) → ⊥
     by true e g = let z = eqb-true (q / 8) h e in n (omega arith)
     by false e g = omega arith
-
-pub lane_most_lem : (q h : ℕ) → lane_in q h < 9
-lane_most_lem q h = by (eqb (q / 8) h)
-  where
-    by : (b : Bool) → (if b then q % 8 else 8) < 9
-    by true = omega arith
-    by false = omega arith
 
 module _ {lim : Limits} {h : ℕ} {mem : List ℕ} where
   -- The same times.
@@ -186,9 +150,6 @@ abbrev pub HalvesRaised : Limits → ℕ → Bool → ℕ → ℕ → List ℕ �
 HalvesRaised lim h late volume a mem e f = TimeTable lim (λ p. if ltb p (8 * h) then later (lane_time e p) (arrival_in late volume p a mem) else lane_time e p) mem f
 
 module _ {lim : Limits} {mem : List ℕ} (late : Bool) (volume a : ℕ) (e : List Float) where
-  pub halves_none : LanesHeld lim mem e → HalvesRaised lim 0 late volume a mem e e
-  halves_none t = table_same (λ p o. rw (le-ltb p (8 * 0) (omega arith))) t
-
   pub halves_next : (h : ℕ) {f g : List Float} → HalvesRaised lim h late volume a mem e f → RaisedIn lim h late volume a mem f g → HalvesRaised lim (h + 1) late volume a mem e g
   halves_next h {f} t r = table_same (λ p o. rw (t.time p o) (by p (ltb p (8 * h)) (eqb (p / 8) h) refl refl)) r
     where
@@ -203,10 +164,6 @@ module _ {lim : Limits} {mem : List ℕ} (late : Bool) (volume a : ℕ) (e : Lis
       by p true false i j = let l = ltb-true p (8 * h) i in rw (lt-ltb p (8 * (h + 1)) (omega arith))
       by p false true i j = let q = eqb-true (p / 8) h j in rw (lt-ltb p (8 * (h + 1)) (omega arith))
       by p false false i j = let l = ltb-false p (8 * h) i in let n = eqb-false (p / 8) h j in rw (le-ltb p (8 * (h + 1)) (beyond p l n))
-
-  pub halves_done : (h : ℕ) {f : List Float} → nth mem 1 ≤ 8 * h → HalvesRaised lim h late volume a mem e f
-      → TimeTable lim (λ p. later (lane_time e p) (arrival_in late volume p a mem)) mem f
-  halves_done h l t = table_same (λ p o. rw (lt-ltb p (8 * h) (omega arith))) t
 
 -- The data of one predecessor ---------------------------------------------------------------------------------------
 

@@ -68,7 +68,7 @@ feeds_sends {capacity} {k} {mem} {e} s t f d =
     }
 
 module _ {lim : Limits} {capacity : ℕ} {mem : List ℕ} (h : JobHeld lim capacity mem) where
-  pub scale_most : nth mem 1 * (nth mem 1 - 1) ≤ lim.processors * lim.processors
+  scale_most : nth mem 1 * (nth mem 1 - 1) ≤ lim.processors * lim.processors
   scale_most = let w = sizes h in mul-le-mul {n₁ = nth mem 1} {m₁ = nth mem 1 - 1} {n₂ = lim.processors} {m₂ = lim.processors} (omega arith) (omega arith)
 
   pub top_most_lem : (x : ℕ) → x ≤ spread_most lim → x * (nth mem 1 * (nth mem 1 - 1)) ≤ top_most lim

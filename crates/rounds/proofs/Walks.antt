@@ -1,11 +1,8 @@
 -- The run of the edges that leave a task, and its place in the order, as they are read from the links.
-use Rattle.lists.proofs.Prelude.{◌≡◌, refl, ◌∙◌, List, ℕ, ◌+◌, ◌<◌, ◌≤◌, arith, length, drop, get_or-drop, nth, Edge, outgoing, Limits}
+use Rattle.lists.proofs.Prelude.{◌≡◌, ◌∙◌, List, ℕ, ◌+◌, ◌<◌, ◌≤◌, arith, drop, get_or-drop, nth, outgoing}
 use Rattle.orders.specs.Links.{Run, out_start_at, order_at, link_in}
-use Rattle.heads.specs.Layout.{line_at}
-use Rattle.jobs.specs.Held.{edge_at, job_in, JobHeld, LinksHeld}
-use Rattle.jobs.proofs.Held.{sizes, link_cell}
-use Rattle.plans.specs.Lines.{row_of}
-use Rattle.rounds.specs.Walks.{Feeds, Entered}
+use Rattle.jobs.specs.Held.{edge_at, job_in, LinksHeld}
+use Rattle.jobs.proofs.Held.{link_cell}
 
 module _ {mem links : List ℕ} (l : LinksHeld mem links) {t : ℕ} (h : t < nth mem 0) where
   pub leaves_run : {g a b : ℕ} → g ≡ edge_at mem 0
@@ -23,11 +20,3 @@ module _ {mem links : List ℕ} (l : LinksHeld mem links) {t : ℕ} (h : t < nth
   task_of_order =
       let p : order_at (nth mem 0) t ≡ order_at (nth mem 0) 0 + t = omega arith in
       link_cell l h _ ∙ rw (p, get_or-drop)
-
--- The line and the volume of an edge that enters a task.
-module _ {lim : Limits} {capacity : ℕ} {e : Edge} {mem : List ℕ} (h : JobHeld lim capacity mem) (f : Feeds lim capacity e mem) where
-  pub inward_row : (line_at capacity + e.from < length mem) × (0 < nth mem (line_at capacity + e.from)) × (row_of capacity e.from mem ≤ length mem)
-  inward_row = let s = sizes h in (omega (arith, f.from_below), f.line_some, omega (arith, f.line_some, f.line_most))
-
-  pub inward_made : Entered lim capacity e mem (row_of capacity e.from mem) e.volume
-  inward_made = record { row_of = refl; within = omega (arith, f.line_some, f.line_most); held = f.row; volume_of = refl; little = f.volume_most }

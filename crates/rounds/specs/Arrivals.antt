@@ -13,6 +13,7 @@ use Rattle.ticks.specs.Cells.{time_in}
 use Rattle.ticks.specs.Floats.{time_of, Held, lane, lane_time}
 use Rattle.plans.specs.Lines.{row_outcomes, row_of}
 use Rattle.ticks.specs.declared.clocks.Clocks.{Clocks}
+use Rattle.rounds.specs.declared.times.Delays.{Delays}
 
 -- The last tick of a lane: one of a plan's range with a message added.
 abbrev pub lane_most : Limits → ℕ
@@ -34,6 +35,19 @@ pub record DelayTable (l : Limits) (delays mem : List ℕ) : Type 0 where
 -- No delay of the job passes n.
 abbrev pub NoDelayOver : ℕ → List ℕ → Type 0
 NoDelayOver n mem = (q p : ℕ) → q < nth mem 1 → p < nth mem 1 → delay (job_in mem) q p ≤ n
+
+-- The delays of the first i cells are in the table, and none of it is over the greatest.
+pub record DelaysTo (l : Limits) (mem : List ℕ) (i : ℕ) (delays : Delays) : Type 0 where
+  pub size : length delays.table ≡ delay_cells
+  pub cell : (q p : ℕ) → q < nth mem 1 → p < nth mem 1 → q * lanes_most + p < i → nth delays.table (q * lanes_most + p) ≡ delay (job_in mem) q p
+  pub over : (k : ℕ) → k < delay_cells → nth delays.table k ≤ delays.most
+  pub within : delays.most ≤ l.delay
+
+-- The job's delays, and the greatest of them or more.
+pub record DelaysHeld (l : Limits) (delays : Delays) (mem : List ℕ) : Type 0 where
+  pub table : DelayTable l delays.table mem
+  pub over : NoDelayOver delays.most mem
+  pub most : delays.most ≤ l.delay
 
 -- The lanes of e hold the time f p for each processor p of the job.
 pub record TimeTable (l : Limits) (f : ℕ → Time) (mem : List ℕ) (e : List Float) : Type 0 where

@@ -9,18 +9,20 @@ ghost use Rattle.jobs.specs.Held.{job_in, LinksHeld};
 ghost use Rattle.rounds.specs.Schedule.{ShortTo};
 ghost use Rattle.plans.specs.Loading.{plan_in, PlanHeld};
 ghost use Rattle.rounds.specs.Verdicts.{Judged};
-ghost use Rattle.rounds.specs.Arrivals.{DelayTable, NoDelayOver, Ended};
+ghost use Rattle.rounds.specs.Arrivals.{DelaysHeld, Ended};
 ghost use Rattle.replicas.specs.Cells.{doubled_in};
 ghost use Rattle.rounds.specs.Clocks.{SettledTo};
 ghost use Rattle.rounds.specs.Checking.{ClocksAfter, LineAgrees, DoubledBy};
 
-use crate::{Checked, clocks, makespans, row, times};
+use crate::house::House;
+use crate::times::Delays;
+use crate::{Fault, clocks, makespans, row, times};
 use heads::layout::{LOWER, UPPER};
-use replicas::Doubling;
+use text::refusal::Refusal;
 use ticks::clocks::Clocks;
 
-// Whether some task has two replicas on one processor, and one that has.
-fn doubled(mem: &[u64], capacity: usize) -> Doubling
+// A task that has two replicas on one processor, if there is one.
+fn doubled(mem: &[u64], capacity: usize) -> Option<u64>
     requires { PlanHeld document01 capacity mem.now }
     ensures { DoubledBy (doubled_tasks (plan_in capacity mem.now).lines) (doubled_in result) }
 {
@@ -31,129 +33,97 @@ fn doubled(mem: &[u64], capacity: usize) -> Doubling
 }
 
 // The ticks of line k are the equations'.
-fn line_agrees(
-    mem: &[u64],
-    links: &[u64],
-    capacity: usize,
-    delays: &[u16; 256],
-    most: u16,
-    ends: &[f64],
-    k: usize,
-    clocks: Clocks,
-) -> bool
-    requires { PlanHeld document01 capacity mem.now × DelayTable document01 delays.now mem.now × NoDelayOver most mem.now × (most ≤ document01.delay)
-        × Ended document01 capacity k mem.now ends.now × (k < nth mem.now 0) × ShortTo document01 capacity k mem.now
-        × ClocksAfter capacity k mem.now clocks × SettledTo capacity k mem.now
-        × LinksHeld mem.now links.now }
-    ensures { (result ≡ true → LineAgrees capacity k mem.now × ShortTo document01 capacity (k + 1) mem.now) × (LineAgrees capacity k mem.now → result ≡ true) }
+fn line_agrees(house: House, delays: &Delays, ends: &[f64], k: usize, clocks: Clocks) -> bool
+    requires { PlanHeld document01 house.capacity house.mem.now × DelaysHeld document01 delays.now house.mem.now
+        × Ended document01 house.capacity k house.mem.now ends.now × (k < nth house.mem.now 0) × ShortTo document01 house.capacity k house.mem.now
+        × ClocksAfter house.capacity k house.mem.now clocks × SettledTo house.capacity k house.mem.now
+        × LinksHeld house.mem.now house.links.now }
+    ensures { (result ≡ true → LineAgrees house.entry.capacity k house.entry.mem.now × ShortTo document01 house.entry.capacity (k + 1) house.entry.mem.now)
+        × (LineAgrees house.entry.capacity k house.entry.mem.now → result ≡ true) }
 {
-    let w = mem[3] as usize + 1;
-    let a = row::row_at(capacity, k);
+    let mem = house.mem;
+    let a = row::row_at(house.capacity, k);
     let t = mem[a] as usize;
-    let mut early = [0u32; 16];
-    let mut late = [0u32; 16];
-    times::finishes(
-        mem,
-        links,
-        capacity,
-        delays,
-        most,
-        ends,
-        t,
-        &clocks.early,
-        &clocks.late,
-        &mut early,
-        &mut late,
-    );
-    let mut c = 0;
-    while c < w {
+    let finishes = times::finishes(house, delays, ends, t, &clocks);
+    for c in 0..mem[3] as usize + 1 {
         let x = row::replica_at(mem, a, c);
         let p = x.processor;
-        if times::cell(early[p]) != x.early {
+        if u64::from(finishes.early[p]) != x.early || u64::from(finishes.late[p]) != x.late {
             return false;
         }
-        if times::cell(late[p]) != x.late {
-            return false;
-        }
-        c += 1;
     }
     true
 }
 
 // All ticks are the equations', line by line, with a table for the lines' ends.
-fn lines_agree(mem: &[u64], links: &[u64], capacity: usize, ends: &mut [f64]) -> bool
-    requires { PlanHeld document01 capacity mem.now × (doubled_tasks (plan_in capacity mem.now).lines ≡ []) × LinksHeld mem.now links.now × (2 * nth mem.now 0 ≤ length ends.old) }
-    ensures { result ≡ ticks_agree (job_in mem.now) (plan_in capacity mem.now).lines }
+fn lines_agree(house: House, ends: &mut [f64]) -> bool
+    requires { PlanHeld document01 house.capacity house.mem.now × (doubled_tasks (plan_in house.capacity house.mem.now).lines ≡ [])
+        × LinksHeld house.mem.now house.links.now × (2 * nth house.mem.now 0 ≤ length ends.old) }
+    ensures { result ≡ ticks_agree (job_in house.entry.mem.now) (plan_in house.entry.capacity house.entry.mem.now).lines }
 {
-    let v = mem[0] as usize;
-    let mut delays = [0u16; 256];
-    let most = times::fill_delays(mem, &mut delays);
+    let mem = house.mem;
+    let mut delays = Delays::new();
+    delays.fill(mem);
     let mut clocks = Clocks::new();
-    let mut k = 0;
-    while k < v {
-        if line_agrees(mem, links, capacity, &delays, most, &ends[..], k, clocks) {
-            let a = row::row_at(capacity, k);
-            times::put_ends(mem, a, mem[a] as usize, ends);
-            let next = clocks::advance_line(mem, a, clocks);
-            clocks = next;
-        } else {
+    for k in 0..mem[0] as usize {
+        if !line_agrees(house, &delays, &ends[..], k, clocks) {
             return false;
         }
-        k += 1;
+        let a = row::row_at(house.capacity, k);
+        times::put_ends(mem, a, mem[a] as usize, ends);
+        clocks = clocks::advance_line(mem, a, clocks);
     }
     true
 }
 
 // All ticks are the equations'. The table of ends is made for the job, as the memory is.
-fn ticks_agree(mem: &[u64], links: &[u64], capacity: usize) -> bool
-    requires { PlanHeld document01 capacity mem.now × (doubled_tasks (plan_in capacity mem.now).lines ≡ []) × LinksHeld mem.now links.now }
-    ensures { result ≡ ticks_agree (job_in mem.now) (plan_in capacity mem.now).lines }
+fn ticks_agree(house: House) -> bool
+    requires { PlanHeld document01 house.capacity house.mem.now × (doubled_tasks (plan_in house.capacity house.mem.now).lines ≡ [])
+        × LinksHeld house.mem.now house.links.now }
+    ensures { result ≡ ticks_agree (job_in house.entry.mem.now) (plan_in house.entry.capacity house.entry.mem.now).lines }
 {
-    if mem[0] <= 16 {
-        let mut ends = [0.0f64; 32];
-        return lines_agree(mem, links, capacity, &mut ends);
-    }
-    let mut ends = [0.0f64; 512];
-    lines_agree(mem, links, capacity, &mut ends)
+    times::with_ends(house.mem[0], &mut |ends| lines_agree(house, ends))
 }
 
 // M* and M are the equations', if all ticks are.
-fn bounds_agree(mem: &[u64], links: &[u64], capacity: usize) -> bool
-    requires { PlanHeld document01 capacity mem.now × LinksHeld mem.now links.now × (doubled_tasks (plan_in capacity mem.now).lines ≡ [])
-        × (ticks_agree (job_in mem.now) (plan_in capacity mem.now).lines ≡ true) }
-    ensures { result ≡ bounds_agree (job_in mem.now) (plan_in capacity mem.now) }
+fn bounds_agree(house: House) -> bool
+    requires { PlanHeld document01 house.capacity house.mem.now × LinksHeld house.mem.now house.links.now
+        × (doubled_tasks (plan_in house.capacity house.mem.now).lines ≡ [])
+        × (ticks_agree (job_in house.mem.now) (plan_in house.capacity house.mem.now).lines ≡ true) }
+    ensures { result ≡ bounds_agree (job_in house.entry.mem.now) (plan_in house.entry.capacity house.entry.mem.now) }
 {
-    let lower_at = LOWER * capacity;
-    let upper_at = UPPER * capacity;
-    let lower = makespans::makespan_of(mem, links, capacity, false);
-    if lower != mem[lower_at] {
+    let lower_at = LOWER * house.capacity;
+    let upper_at = UPPER * house.capacity;
+    let lower = makespans::makespan_of(house, false);
+    if lower != house.mem[lower_at] {
         return false;
     }
-    let upper = makespans::makespan_of(mem, links, capacity, true);
-    upper == mem[upper_at]
+    let upper = makespans::makespan_of(house, true);
+    upper == house.mem[upper_at]
 }
 
 // The checker's answer to the plan in memory, none of whose tasks has two replicas on one processor.
-fn compare(mem: &[u64], links: &[u64], capacity: usize) -> Checked
-    requires { PlanHeld document01 capacity mem.now × LinksHeld mem.now links.now × (doubled_tasks (plan_in capacity mem.now).lines ≡ []) }
-    ensures { Judged (verdict_for document01 (job_in mem.now) (good (plan_in capacity mem.now))) result }
+fn compare(house: House) -> Result<(), Fault>
+    requires { PlanHeld document01 house.capacity house.mem.now × LinksHeld house.mem.now house.links.now
+        × (doubled_tasks (plan_in house.capacity house.mem.now).lines ≡ []) }
+    ensures { Judged (verdict_for document01 (job_in house.entry.mem.now) (good (plan_in house.entry.capacity house.entry.mem.now))) result }
 {
-    if ticks_agree(mem, links, capacity) {
-        if bounds_agree(mem, links, capacity) {
-            return Checked::Accepted;
-        }
-        return Checked::Refused(14);
+    if !ticks_agree(house) {
+        return Err(Fault::Refused(Refusal::WrongTick));
     }
-    Checked::Refused(13)
+    if !bounds_agree(house) {
+        return Err(Fault::Refused(Refusal::WrongMakespan));
+    }
+    Ok(())
 }
 
 // The checker's answer to the plan in memory.
-pub fn judge(mem: &[u64], links: &[u64], capacity: usize) -> Checked
-    requires { PlanHeld document01 capacity mem.now × LinksHeld mem.now links.now }
-    ensures { Judged (verdict_for document01 (job_in mem.now) (good (plan_in capacity mem.now))) result }
+pub fn judge(house: House) -> Result<(), Fault>
+    requires { PlanHeld document01 house.capacity house.mem.now × LinksHeld house.mem.now house.links.now }
+    ensures { Judged (verdict_for document01 (job_in house.entry.mem.now) (good (plan_in house.entry.capacity house.entry.mem.now))) result }
 {
-    match doubled(mem, capacity) {
-        Doubling::Single => compare(mem, links, capacity),
-        Doubling::Twice(t) => Checked::Doubled(t as u8),
+    match doubled(house.mem, house.capacity) {
+        Some(t) => Err(Fault::Doubled(t as u8)),
+        None => compare(house),
     }
 }

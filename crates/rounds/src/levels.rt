@@ -10,6 +10,7 @@ ghost use Rattle.rounds.specs.Schedule.{LevelsFilled};
 ghost use Rattle.lists.specs.Kept.{KeptOutside};
 ghost use Rattle.rounds.specs.Levels.{level_most, sent, sent_most};
 
+use crate::house::House;
 use crate::{numbers, walk};
 use heads::layout::LEVEL;
 
@@ -32,33 +33,30 @@ fn total_delay(mem: &[u64]) -> u64
     ensures { result ≡ total_delay (job_in mem.now) }
 {
     let v = mem[0] as usize;
-    let m = mem[1] as usize;
     let mut x = 0;
-    let mut p = 0;
-    while p < m {
+    for p in 0..mem[1] as usize {
         x += numbers::row_total(mem, v + p);
-        p += 1;
     }
     x
 }
 
 // The largest of message and level over the edges that leave t; 0 if none does.
-fn longest_after(mem: &[u64], links: &[u64], capacity: usize, t: usize, total: u64) -> u64
-    requires { JobHeld document01 capacity mem.now × LinksHeld mem.now links.now × (t < nth mem.now 0) × (total ≡ total_delay (job_in mem.now))
-        × ((e : Edge) → In e (outgoing (job_in mem.now) t) → nth mem.now (level_at capacity + e.to) ≤ level_most document01) }
-    ensures { (result ≡ greatest (map (sent capacity mem.now) (outgoing (job_in mem.now) t))) × (result ≤ sent_most document01 + level_most document01) }
+fn longest_after(house: House, t: usize, total: u64) -> u64
+    requires { JobHeld document01 house.capacity house.mem.now × LinksHeld house.mem.now house.links.now × (t < nth house.mem.now 0)
+        × (total ≡ total_delay (job_in house.mem.now))
+        × ((e : Edge) → In e (outgoing (job_in house.mem.now) t) → nth house.mem.now (level_at house.capacity + e.to) ≤ level_most document01) }
+    ensures { (result ≡ greatest (map (sent house.entry.capacity house.entry.mem.now) (outgoing (job_in house.entry.mem.now) t)))
+        × (result ≤ sent_most document01 + level_most document01) }
 {
-    let level = LEVEL * capacity;
+    let mem = house.mem;
+    let level = LEVEL * house.capacity;
     let g = walk::edges_at(mem);
-    let span = orders::leaving(links, mem[0] as usize, t);
-    let mut x = 0;
+    let span = orders::leaving(house.links, mem[0] as usize, t);
+    let mut x: u64 = 0;
     for k in span.start..span.end {
         let e = mem[g + k];
         let to = orders::edge_to(e);
-        let y = orders::edge_volume(e) * total + mem[level + to];
-        if y > x {
-            x = y;
-        }
+        x = x.max(orders::edge_volume(e) * total + mem[level + to]);
     }
     x
 }
@@ -71,12 +69,14 @@ pub fn fill_levels(mem: &mut [u64], links: &[u64], capacity: usize)
     let level = LEVEL * capacity;
     let v = mem[0] as usize;
     let total = total_delay(&mem[..]);
-    let mut i = v;
-    while i > 0 {
-        i -= 1;
+    for i in (0..v).rev() {
         let t = orders::task_at(links, v, i);
         let x = scaled_run(&mem[..], t);
-        let y = longest_after(&mem[..], links, capacity, t, total);
-        mem[level + t] = x + y;
+        let house = House {
+            mem: &mem[..],
+            links,
+            capacity,
+        };
+        mem[level + t] = x + longest_after(house, t, total);
     }
 }

@@ -1,7 +1,7 @@
 // The planner, the checker and the replay, from texts to text, each in a working memory that is lent.
 #![tactic(auto)]
 
-ghost use Rattle.std.specs.Prelude.{length, drop};
+ghost use Rattle.std.specs.Prelude.{◌≡◌, length};
 ghost use Rattle.definitions.specs.Limits.{document01};
 ghost use Rattle.jobs.specs.Answers.{Answered};
 ghost use Rattle.heads.specs.Heads.{head_of};
@@ -10,13 +10,14 @@ ghost use Rattle.plans.specs.Loading.{both_from};
 ghost use Rattle.rounds.specs.Tools.{plan_of, verdict_both, replay_both};
 ghost use Rattle.rounds.specs.Verdicts.{Judged};
 
-use heads::Head;
-use jobs::Answer;
-use text::Step;
+use crate::house::House;
+use heads::Opened;
+use text::refusal::Refusal;
 
 mod checker;
 mod clocks;
 mod free;
+mod house;
 mod levels;
 mod makespans;
 mod numbers;
@@ -30,70 +31,71 @@ mod times;
 mod tools;
 mod walk;
 
-// The checker's answer: the plan is accepted; or 12 with a task that has two replicas on one processor; or another number.
-#[derive(Clone, Copy)]
-pub enum Checked {
-    Accepted,
+// Why a plan is not accepted: 12 with a task that has two replicas on one processor, or another number.
+#[derive(Clone, Copy, Debug, PartialEq, Eq, Hash)]
+pub enum Fault {
     Doubled(u8),
-    Refused(u64),
+    Refused(Refusal),
 }
 
-// The plan for a job's text, whose head was read up to `at`, written into `out`, if it fits. `mem` is a working memory of this
-// capacity, `links` one for the links between the job's edges.
+impl From<Refusal> for Fault {
+    ghost use Rattle.rounds.specs.declared.Fault.TheVariants.{Refused};
+
+    ghost from_gives = { λ refusal fault. fault ≡ Refused refusal };
+
+    fn from(refusal: Refusal) -> Fault {
+        Fault::Refused(refusal)
+    }
+}
+
+// The plan for a job's text, whose head was read, written into `out`, if it fits: how many bytes were written. `mem` is a working memory
+// of this capacity, `links` one for the links between the job's edges.
 pub fn plan_in(
-    job: &[u8],
-    at: usize,
-    head: Head,
+    job: Opened,
     mem: &mut [u64],
     links: &mut [u64],
     capacity: usize,
     out: &mut [u8],
-) -> Answer
-    ensures { Answered (plan_of document01 (job_from document01 capacity (length mem.old) (length links.old) (head_of head) (drop at job.now)) (length out.old))
+) -> Result<usize, Refusal>
+    ensures { Answered (plan_of document01 (job_from document01 capacity (length mem.old) (length links.old) (head_of job.entry.head) job.entry.rest) (length out.old))
         out.old out.new result }
 {
-    match jobs::load_job(job, at, head, mem, links, capacity) {
-        Step::Next(_) => tools::put_plan(mem, &links[..], capacity, out),
-        Step::Refused(x) => Answer::Refusal(x),
-    }
+    jobs::load_job(job, mem, links, capacity)?;
+    tools::put_plan(mem, &links[..], capacity, out)
 }
 
-// The checker's answer to two texts, the head of the job's being read up to `at`.
+// The checker's answer to two texts, the head of the job's being read.
 pub fn check_in(
-    job: &[u8],
-    at: usize,
-    head: Head,
+    job: Opened,
     plan: &[u8],
     mem: &mut [u64],
     links: &mut [u64],
     capacity: usize,
-) -> Checked
+) -> Result<(), Fault>
     ensures { Judged (verdict_both document01
-        (both_from document01 capacity (length mem.old) (length links.old) (head_of head) (drop at job.now) plan.now)) result }
+        (both_from document01 capacity (length mem.old) (length links.old) (head_of job.entry.head) job.entry.rest plan.now)) result }
 {
-    match plans::load_both(job, at, head, plan, mem, links, capacity) {
-        Step::Next(_) => checker::judge(&mem[..], &links[..], capacity),
-        Step::Refused(x) => Checked::Refused(x),
-    }
+    plans::load_both(job, plan, mem, links, capacity)?;
+    checker::judge(House {
+        mem: &mem[..],
+        links: &links[..],
+        capacity,
+    })
 }
 
-// The replay of three texts, the head of the job's being read up to `at`, written into `out`, if it fits.
+// The replay of three texts, the head of the job's being read, written into `out`, if it fits: how many bytes were written.
 pub fn replay_in(
-    job: &[u8],
-    at: usize,
-    head: Head,
+    job: Opened,
     plan: &[u8],
     stops: &[u8],
     mem: &mut [u64],
     links: &mut [u64],
     capacity: usize,
     out: &mut [u8],
-) -> Answer
-    ensures { Answered (replay_both document01 (both_from document01 capacity (length mem.old) (length links.old) (head_of head) (drop at job.now) plan.now)
+) -> Result<usize, Refusal>
+    ensures { Answered (replay_both document01 (both_from document01 capacity (length mem.old) (length links.old) (head_of job.entry.head) job.entry.rest plan.now)
         stops.now (length out.old)) out.old out.new result }
 {
-    match plans::load_both(job, at, head, plan, mem, links, capacity) {
-        Step::Next(_) => tools::put_replay(stops, mem, &links[..], capacity, out),
-        Step::Refused(x) => Answer::Refusal(x),
-    }
+    plans::load_both(job, plan, mem, links, capacity)?;
+    tools::put_replay(stops, mem, &links[..], capacity, out)
 }

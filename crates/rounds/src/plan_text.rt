@@ -39,12 +39,9 @@ pub fn render(out: &mut [u8], mem: &[u64], capacity: usize) -> usize
     requires { JobHeld document01 capacity mem.now }
     ensures { Rendered (plan_text document01 (job_in mem.now) (plan_in capacity mem.now)) out.old out.new result }
 {
-    let v = mem[0] as usize;
     let mut at = printing::line(out, b"PLAN,", &plan_head(mem, capacity));
-    let mut k = 0;
-    while k < v {
+    for k in 0..mem[0] as usize {
         at = row_line(out, at, mem, capacity, k);
-        k += 1;
     }
     at
 }

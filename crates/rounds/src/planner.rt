@@ -6,11 +6,14 @@ ghost use Rattle.definitions.specs.Job.{outgoing};
 ghost use Rattle.heads.specs.Layout.{memory_size, line_at, blocked_at, row_at, largest_delay_at, level_at};
 ghost use Rattle.jobs.specs.Held.{job_in, JobHeld, LinksHeld};
 ghost use Rattle.lists.specs.Kept.{KeptOutside};
-ghost use Rattle.rounds.specs.Arrivals.{DelayTable, NoDelayOver, Ended};
+ghost use Rattle.rounds.specs.Arrivals.{DelaysHeld, Ended};
 ghost use Rattle.rounds.specs.Planning.{FreeList, Taken, processors_for, Drawn, Ranked, Critical, Tried, Begun, Cleared, Blocked, Unblocked};
 ghost use Rattle.rounds.specs.Clocks.{earlies_in, lates_in, ClocksHeld};
 
-use crate::{clocks, free, levels, priority, row, times, walk};
+use crate::free::Free;
+use crate::house::House;
+use crate::times::Delays;
+use crate::{clocks, levels, priority, row, times, walk};
 use heads::layout::{BLOCKED, LEVEL, LINE, PRIORITY};
 use ticks::clocks::Clocks;
 
@@ -24,40 +27,29 @@ fn clear_tasks(mem: &mut [u64], links: &[u64], capacity: usize)
     let blocked = BLOCKED * capacity;
     let priorities = PRIORITY * capacity;
     let v = mem[0] as usize;
-    let mut t = 0;
-    while t < v {
+    for t in 0..v {
         let span = orders::entering(links, v, t);
         let x = mem[level + t];
         mem[line + t] = 0;
         mem[blocked + t] = (span.end - span.start) as u64;
         mem[priorities + t] = x;
-        t += 1;
     }
 }
 
 // The replicas of line k: t on the processors of least early finish.
-fn fill_line(
-    mem: &mut [u64],
-    capacity: usize,
-    k: usize,
-    t: usize,
-    early: &[u32; 16],
-    late: &[u32; 16],
-)
-    requires { Tried document01 capacity k t early.now late.now mem.old }
+fn fill_line(mem: &mut [u64], capacity: usize, k: usize, t: usize, finishes: &Clocks)
+    requires { Tried document01 capacity k t finishes.now.early finishes.now.late mem.old }
     ensures { Begun capacity k t (processors_for capacity k t mem.old) mem.old mem.new }
 {
     let m = mem[1] as usize;
     let w = mem[3] as usize + 1;
     let a = row::row_at(capacity, k);
-    let list = choices::chosen(early, m, w);
-    let mut c = 0;
-    while c < w {
+    let list = choices::chosen(&finishes.early, m, w);
+    for c in 0..w {
         let p = list[c];
-        let x = times::cell(early[p]);
-        let y = times::cell(late[p]);
+        let x = u64::from(finishes.early[p]);
+        let y = u64::from(finishes.late[p]);
         row::put_replica(mem, a, c, p, x, y);
-        c += 1;
     }
 }
 
@@ -66,14 +58,13 @@ fn place_task(
     mem: &mut [u64],
     links: &[u64],
     capacity: usize,
-    delays: &[u16; 256],
-    most: u16,
+    delays: &Delays,
     ends: &mut [f64],
     k: usize,
     t: usize,
     clocks: Clocks,
 ) -> Clocks
-    requires { DelayTable document01 delays.now mem.old × NoDelayOver most mem.old × (most ≤ document01.delay)
+    requires { DelaysHeld document01 delays.now mem.old
         × Ended document01 capacity k mem.old ends.old × Critical document01 capacity k t mem.old
         × ClocksHeld clocks (job_in mem.old) (earlies_in capacity k mem.old) (lates_in capacity k mem.old) × LinksHeld mem.old links.now }
     ensures { KeptOutside (line_at capacity) (largest_delay_at capacity) mem.old mem.new × Drawn document01 capacity (k + 1) mem.new
@@ -81,22 +72,13 @@ fn place_task(
         × ClocksHeld result (job_in mem.new) (earlies_in capacity (k + 1) mem.new) (lates_in capacity (k + 1) mem.new)
         × Taken capacity t mem.old mem.new × Ended document01 capacity (k + 1) mem.new ends.new }
 {
-    let mut early = [0u32; 16];
-    let mut late = [0u32; 16];
-    times::finishes(
-        &mem[..],
+    let house = House {
+        mem: &mem[..],
         links,
         capacity,
-        delays,
-        most,
-        &ends[..],
-        t,
-        &clocks.early,
-        &clocks.late,
-        &mut early,
-        &mut late,
-    );
-    fill_line(mem, capacity, k, t, &early, &late);
+    };
+    let finishes = times::finishes(house, delays, &ends[..], t, &clocks);
+    fill_line(mem, capacity, k, t, &finishes);
     let a = row::row_at(capacity, k);
     mem[a] = t as u64;
     row::put_line(mem, capacity, t, k);
@@ -104,60 +86,43 @@ fn place_task(
     clocks::advance_line(&mem[..], a, clocks)
 }
 
-// One edge no longer blocks u; if u becomes free it gets its priority and joins the list. The answer is how many tasks the list then
-// has.
-fn unblock(
-    mem: &mut [u64],
-    links: &[u64],
-    capacity: usize,
-    u: usize,
-    free: &mut [u8],
-    n: usize,
-) -> usize
-    requires { ((k : ℕ) × Drawn document01 capacity k mem.old) × Blocked capacity u mem.old × FreeList capacity free.old n mem.old × LinksHeld mem.old links.now }
-    ensures { Unblocked capacity u mem.old mem.new × FreeList capacity free.new result mem.new }
+// One edge no longer blocks u; if u becomes free it gets its priority and joins the list.
+fn unblock(mem: &mut [u64], links: &[u64], capacity: usize, u: usize, free: &mut Free)
+    requires { ((k : ℕ) × Drawn document01 capacity k mem.old) × Blocked capacity u mem.old
+        × FreeList capacity free.old.tasks free.old.count mem.old × LinksHeld mem.old links.now }
+    ensures { Unblocked capacity u mem.old mem.new × FreeList capacity free.new.tasks free.new.count mem.new }
 {
     let blocked = BLOCKED * capacity;
     let b = mem[blocked + u];
     if b > 1 {
         mem[blocked + u] = b - 1;
-        return n;
+        return;
     }
-    let x = priority::top_level(&mem[..], links, capacity, u);
+    let house = House {
+        mem: &mem[..],
+        links,
+        capacity,
+    };
+    let x = priority::top_level(house, u);
     mem[PRIORITY * capacity + u] = x + mem[LEVEL * capacity + u];
     mem[blocked + u] = 0;
-    free::put_in(&mem[..], capacity, free, n, u as u8);
-    n + 1
+    free.put_in(&mem[..], capacity, u as u8);
 }
 
-// The edges that leave t no longer block; a task that becomes free gets its priority and joins the list. The answer is how many
-// tasks the list then has.
-fn release(
-    mem: &mut [u64],
-    links: &[u64],
-    capacity: usize,
-    t: usize,
-    free: &mut [u8],
-    count: usize,
-) -> usize
+// The edges that leave t no longer block; a task that becomes free gets its priority and joins the list.
+fn release(mem: &mut [u64], links: &[u64], capacity: usize, t: usize, free: &mut Free)
     requires { ((k : ℕ) × Drawn document01 capacity k mem.old) × Ranked capacity (reverse (outgoing (job_in mem.old) t)) mem.old
-        × FreeList capacity free.old count mem.old × (t < nth mem.old 0)
+        × FreeList capacity free.old.tasks free.old.count mem.old × (t < nth mem.old 0)
         × LinksHeld mem.old links.now }
     ensures { KeptOutside (blocked_at capacity) (row_at capacity 0) mem.old mem.new
-        × Ranked capacity [] mem.new × FreeList capacity free.new result mem.new }
+        × Ranked capacity [] mem.new × FreeList capacity free.new.tasks free.new.count mem.new }
 {
     let g = walk::edges_at(&mem[..]);
     let span = orders::leaving(links, mem[0] as usize, t);
-    let mut n = count;
-    let start = span.start;
-    let mut k = span.end;
-    while k > start {
-        k -= 1;
+    for k in (span.start..span.end).rev() {
         let u = orders::edge_to(mem[g + k]);
-        let more = unblock(mem, links, capacity, u, free, n);
-        n = more;
+        unblock(mem, links, capacity, u, free);
     }
-    n
 }
 
 // Levels and the tables of tasks, before the first line.
@@ -177,19 +142,15 @@ fn draw_lines(mem: &mut [u64], links: &[u64], capacity: usize, ends: &mut [f64])
     ensures { KeptOutside (level_at capacity) (memory_size capacity) mem.old mem.new × Drawn document01 capacity (nth mem.old 0) mem.new }
 {
     let v = mem[0] as usize;
-    let mut delays = [0u16; 256];
-    let most = times::fill_delays(&mem[..], &mut delays);
+    let mut delays = Delays::new();
+    delays.fill(&mem[..]);
     let mut clocks = Clocks::new();
-    let mut free = [0u8; 256];
-    let mut n = free::list_free(&mem[..], capacity, &mut free);
-    let mut k = 0;
-    while k < v {
-        let t = free[n - 1] as usize;
-        let after = place_task(mem, links, capacity, &delays, most, ends, k, t, clocks);
-        clocks = after;
-        let count = release(mem, links, capacity, t, &mut free, n - 1);
-        n = count;
-        k += 1;
+    let mut free = Free::of(&mem[..], capacity);
+    for k in 0..v {
+        free.count -= 1;
+        let t = free.tasks[free.count] as usize;
+        clocks = place_task(mem, links, capacity, &delays, ends, k, t, clocks);
+        release(mem, links, capacity, t, &mut free);
     }
 }
 
@@ -199,11 +160,5 @@ pub fn draw_plan(mem: &mut [u64], links: &[u64], capacity: usize)
     ensures { KeptOutside (level_at capacity) (memory_size capacity) mem.old mem.new × Drawn document01 capacity (nth mem.old 0) mem.new }
 {
     prepare(mem, links, capacity);
-    if mem[0] <= 16 {
-        let mut ends = [0.0f64; 32];
-        draw_lines(mem, links, capacity, &mut ends);
-    } else {
-        let mut ends = [0.0f64; 512];
-        draw_lines(mem, links, capacity, &mut ends);
-    }
+    times::with_ends(mem[0], &mut |ends| draw_lines(mem, links, capacity, ends));
 }

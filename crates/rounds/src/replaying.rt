@@ -8,10 +8,12 @@ ghost use Rattle.heads.specs.Layout.{lanes_most};
 ghost use Rattle.jobs.specs.Held.{job_in, LinksHeld};
 ghost use Rattle.ticks.specs.Cells.{time_in, Small};
 ghost use Rattle.plans.specs.Lines.{LinesHeld};
-ghost use Rattle.rounds.specs.Arrivals.{DelayTable, NoDelayOver, Ended};
+ghost use Rattle.rounds.specs.Arrivals.{DelaysHeld, Ended};
 ghost use Rattle.plans.specs.Loading.{plan_in};
 ghost use Rattle.rounds.specs.Replaying.{Running, PredecessorsBefore, LineRun, RisingIn, RoundRun, FirstIn};
 
+use crate::house::House;
+use crate::times::Delays;
 use crate::{numbers, row, times};
 use replicas::First;
 use ticks::lanes::NEVER;
@@ -46,34 +48,27 @@ impl Ready {
         mem: &mut [u64],
         links: &[u64],
         capacity: usize,
-        delays: &[u16; 256],
-        most: u16,
+        delays: &Delays,
         ends: &mut [f64],
         k: usize,
         stops: &[u64],
     ) -> Ready
-        requires { DelayTable document01 delays.now mem.old × NoDelayOver most mem.old × (most ≤ document01.delay)
+        requires { DelaysHeld document01 delays.now mem.old
             × Ended document01 capacity k mem.old ends.old × Running document01 capacity k 0 self.at mem.old × (k < nth mem.old 0) × PredecessorsBefore capacity k mem.old
             × (length stops.now ≡ lanes_most)
             × LinksHeld mem.old links.now }
         ensures { Running document01 capacity (suc k) 0 result.at mem.new × LineRun capacity k stops.now mem.old mem.new
             × Ended document01 capacity (suc k) mem.new ends.new }
     {
-        let w = mem[3] as usize + 1;
         let a = row::row_at(capacity, k);
         let t = mem[a] as usize;
-        let starts = times::first_starts(
-            &mem[..],
+        let house = House {
+            mem: &mem[..],
             links,
             capacity,
-            delays,
-            most,
-            &ends[..],
-            t,
-            &self.at,
-        );
-        let mut c = 0;
-        while c < w {
+        };
+        let starts = times::first_starts(house, delays, &ends[..], t, &self.at);
+        for c in 0..mem[3] as usize + 1 {
             let r = row::replica_at(&mem[..], a, c);
             let p = r.processor;
             let n = numbers::run_time(&mem[..], t, p);
@@ -81,7 +76,6 @@ impl Ready {
             let y = unless_stopped(stops[p], x);
             row::put_early(mem, a, c, y);
             self.at[p] = y;
-            c += 1;
         }
         times::put_ends(&mem[..], a, t, ends);
         self
@@ -94,15 +88,11 @@ fn run_lines(mem: &mut [u64], links: &[u64], capacity: usize, stops: &[u64], end
         × (length stops.now ≡ lanes_most) × LinksHeld mem.old links.now × (2 * nth mem.old 0 ≤ length ends.old) }
     ensures { RoundRun document01 capacity stops.now mem.old mem.new }
 {
-    let v = mem[0] as usize;
-    let mut delays = [0u16; 256];
-    let most = times::fill_delays(&mem[..], &mut delays);
+    let mut delays = Delays::new();
+    delays.fill(&mem[..]);
     let mut ready = Ready::new();
-    let mut k = 0;
-    while k < v {
-        let after = ready.run_line(mem, links, capacity, &delays, most, ends, k, stops);
-        ready = after;
-        k += 1;
+    for k in 0..mem[0] as usize {
+        ready = ready.run_line(mem, links, capacity, &delays, ends, k, stops);
     }
 }
 
@@ -112,22 +102,19 @@ pub fn run_round(mem: &mut [u64], links: &[u64], capacity: usize, stops: &[u64])
         × (length stops.now ≡ lanes_most) × LinksHeld mem.old links.now }
     ensures { RoundRun document01 capacity stops.now mem.old mem.new }
 {
-    if mem[0] <= 16 {
-        let mut ends = [0.0f64; 32];
-        run_lines(mem, links, capacity, stops, &mut ends);
-    } else {
-        let mut ends = [0.0f64; 512];
-        run_lines(mem, links, capacity, stops, &mut ends);
-    }
+    times::with_ends(
+        mem[0],
+        &mut |ends| run_lines(mem, links, capacity, stops, ends),
+    );
 }
 
 // The first finish of t, on the lowest processor that has it.
-pub fn first_finish(mem: &[u64], capacity: usize, t: usize) -> First
-    requires { LinesHeld document01 capacity (nth mem.now 0) mem.now × RisingIn capacity mem.now × (t < nth mem.now 0) }
-    ensures { FirstIn capacity t result.time result.processor mem.now }
+pub fn first_finish(house: House, t: usize) -> First
+    requires { LinesHeld document01 house.capacity (nth house.mem.now 0) house.mem.now × RisingIn house.capacity house.mem.now × (t < nth house.mem.now 0) }
+    ensures { FirstIn house.entry.capacity t result.time result.processor house.entry.mem.now }
 {
-    let a = row::row_of(mem, capacity, t);
+    let a = row::row_of(house, t);
     let first = row::place(a, 0);
-    let end = row::place(a, mem[3] as usize + 1);
-    replicas::first_finish(&mem[first..end])
+    let end = row::place(a, house.mem[3] as usize + 1);
+    replicas::first_finish(&house.mem[first..end])
 }

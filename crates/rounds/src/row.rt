@@ -5,9 +5,11 @@ ghost use Rattle.heads.specs.Layout.{line_at, row_at, processor_at, early_at, la
 ghost use Rattle.plans.specs.Lines.{row_of};
 ghost use Rattle.rounds.specs.Planning.{Wrote};
 
+use crate::house::House;
 use heads::layout::{LINE, ROW, ROWS};
 
 // A replica of a line.
+// Kept: `row` stands in `plans` and in `rounds`: its functions ask that the cells are there, and such stay in their crate (a rule of the project).
 #[derive(Clone, Copy)]
 pub struct Replica {
     pub processor: usize,
@@ -32,11 +34,15 @@ pub fn row_at(capacity: usize, k: usize) -> usize
 }
 
 // Where the line of task t stands, which has one.
-pub fn row_of(mem: &[u64], capacity: usize, t: usize) -> usize
-    requires { (line_at capacity + t < length mem.now) × (0 < nth mem.now (line_at capacity + t)) × (row_of capacity t mem.now ≤ length mem.now) }
-    ensures { result ≡ row_of capacity t mem.now }
+pub fn row_of(house: House, t: usize) -> usize
+    requires { (line_at house.capacity + t < length house.mem.now) × (0 < nth house.mem.now (line_at house.capacity + t))
+        × (row_of house.capacity t house.mem.now ≤ length house.mem.now) }
+    ensures { result ≡ row_of house.entry.capacity t house.entry.mem.now }
 {
-    row_at(capacity, mem[LINE * capacity + t] as usize - 1)
+    row_at(
+        house.capacity,
+        house.mem[LINE * house.capacity + t] as usize - 1,
+    )
 }
 
 // Where replica c of the line at `a` begins.

@@ -1,5 +1,6 @@
 // The equations: when data arrives, and when a replica finishes. A cell of all ones is never.
-ghost use Rattle.std.specs.Prelude.{◌≡◌, ◌⊎◌, true, false, ℕ, ◌+◌, ◌*◌, ◌≤◌, ◌<◌, max, length, replicate, if◌then◌else◌};
+// Kept: a cell of all ones, and no Option, is never, since times stand in the cells of the lent memory (no heap, fixed memory).
+ghost use Rattle.std.specs.Prelude.{◌≡◌, ◌⊎◌, true, false, ℕ, ◌+◌, ◌*◌, ◌≤◌, ◌<◌, length, replicate, if◌then◌else◌};
 ghost use Rattle.definitions.specs.Lists.{nth};
 ghost use Rattle.definitions.specs.Limits.{document01};
 ghost use Rattle.definitions.specs.Job.{run_time};
@@ -13,9 +14,13 @@ ghost use Rattle.plans.specs.Lines.{row_end, row_outcomes, RowHeld, LinesHeld};
 ghost use Rattle.rounds.specs.Schedule.{edge_from, choice_of, data_in};
 ghost use Rattle.jobs.specs.Held.{job_in, JobHeld, SomeJobHeld, LinksHeld};
 ghost use Rattle.rounds.specs.Walks.{Feeds};
-ghost use Rattle.rounds.specs.Arrivals.{lane_most, last_arrival, delay_cells, DelayTable, NoDelayOver, TimeTable, HalfTable, LanesHeld, Raised, RaisedBy, RaisedIn, end_at, EdgeEnds, EndsPut, Supplied, lane_times, tick_times, ready_times, BothSupplied, ShortTicks, TicksHeld, BothFinish};
+ghost use Rattle.rounds.specs.Arrivals.{lane_most, last_arrival, delay_cells, DelayTable, DelaysTo, DelaysHeld, TimeTable, HalfTable, LanesHeld, Raised, RaisedBy, RaisedIn};
+ghost use Rattle.rounds.specs.Arrivals.{end_at, EdgeEnds, EndsPut, Supplied, lane_times, tick_times, ready_times, BothSupplied, ShortTicks, TicksHeld, BothFinish};
 
+use crate::house::House;
+use crate::walk::Inward;
 use crate::{numbers, row, walk};
+use ticks::clocks::Clocks;
 use ticks::lanes;
 use ticks::lanes::{Both, NEVER};
 
@@ -24,53 +29,48 @@ pub fn chosen_of(late: bool, x: u64, y: u64) -> u64
     ensures result_value { time_in result ≡ (if late then later (time_in x) (time_in y) else sooner (time_in x) (time_in y)) }
     ensures one { (result ≡ x) ⊎ (result ≡ y) }
 {
-    if late {
-        if x > y {
-            return x;
-        }
-        return y;
-    }
-    if x < y {
-        return x;
-    }
-    y
+    if late { x.max(y) } else { x.min(y) }
 }
 
-// The greater of two delays.
-fn larger(x: u16, y: u16) -> u16
-    ensures { result ≡ max x y }
-{
-    if x < y { y } else { x }
+// The delays between processors: 16 from each, and the greatest of all.
+#[derive(Drop)]
+pub struct Delays {
+    pub table: [u16; 256],
+    pub most: u16,
 }
 
-// Fills a table of delays, all 0, with those of the job in memory. The answer is the greatest.
-pub fn fill_delays(mem: &[u64], delays: &mut [u16; 256]) -> u16
-    requires { SomeJobHeld document01 mem.now × (delays.old ≡ replicate delay_cells 0) }
-    ensures { DelayTable document01 delays.new mem.now × NoDelayOver result mem.now × (result ≤ document01.delay) }
-{
-    let m = mem[1] as usize;
-    let n = 16 * m;
-    let mut most = 0;
-    let mut i = 0;
-    while i < n {
-        let p = i % 16;
-        if p < m {
-            let x = numbers::delay(mem, i / 16, p) as u16;
-            delays[i] = x;
-            most = larger(most, x);
-            i += 1;
-        } else {
-            i += 16 - p;
+impl Delays {
+    // None is there.
+    pub fn new() -> Delays
+        ensures { (result.table ≡ replicate delay_cells 0) × (result.most ≡ 0) }
+    {
+        Delays {
+            table: [0; 256],
+            most: 0,
         }
     }
-    most
-}
 
-// A tick of 32 bits in a cell.
-pub fn cell(x: u32) -> u64
-    ensures { result ≡ x }
-{
-    x as u64
+    // Puts those of the job in memory into it, row by row. It is lent, not handed back: a copy would stand across the lines of the cache.
+    pub fn fill(&mut self, mem: &[u64])
+        requires { SomeJobHeld document01 mem.now × (self.old.table ≡ replicate delay_cells 0) × (self.old.most ≡ 0) }
+        ensures { DelaysHeld document01 self.new mem.now }
+    {
+        for q in 0..mem[1] as usize {
+            self.fill_row(mem, q);
+        }
+    }
+
+    // Puts the delays from processor q into their row.
+    fn fill_row(&mut self, mem: &[u64], q: usize)
+        requires { SomeJobHeld document01 mem.now × (q < nth mem.now 1) × DelaysTo document01 mem.now (16 * q) self.old }
+        ensures { DelaysTo document01 mem.now (16 * (q + 1)) self.new }
+    {
+        for p in 0..mem[1] as usize {
+            let x = numbers::delay(mem, q, p) as u16;
+            self.table[16 * q + p] = x;
+            self.most = self.most.max(x);
+        }
+    }
 }
 
 // A cell's time in a lane.
@@ -95,28 +95,35 @@ pub fn cell_of(x: f64) -> u64
     x as i64 as u64
 }
 
-// Least and largest: when the data of a predecessor whose line is at `a` is on each processor of half h, by the replicas that feed it, early
-// by the first of them and late by the last. One pass; each replica is looked at once, the first on a processor after the others there.
-fn arrivals(mem: &[u64], delays: &[u16; 256], a: usize, volume: u16, h: usize) -> Both
-    requires { SomeJobHeld document01 mem.now × DelayTable document01 delays.now mem.now × RowHeld document01 a mem.now
-        × (row_end a ≤ length mem.now) × (volume ≤ document01.volume) × (h < 2) }
-    ensures { HalfTable document01 h (λ p. arrival (job_in mem.now) least (row_outcomes false a (nth mem.now 3 + 1) mem.now) p
-        (edge_from volume a mem.now)) mem.now result.early
-        × HalfTable document01 h (λ p. arrival (job_in mem.now) largest (row_outcomes true a (nth mem.now 3 + 1) mem.now) p
-        (edge_from volume a mem.now)) mem.now result.late }
+// Least and largest: when the data of an edge is on each processor of half h, by the replicas that feed it, early by the first of them and
+// late by the last. One pass; each replica is looked at once, the first on a processor after the others there.
+fn arrivals(mem: &[u64], delays: &Delays, edge: Inward, h: usize) -> Both
+    requires { SomeJobHeld document01 mem.now × DelayTable document01 delays.now.table mem.now × RowHeld document01 edge.row mem.now
+        × (row_end edge.row ≤ length mem.now) × (edge.volume ≤ document01.volume) × (h < 2) }
+    ensures { HalfTable document01 h (λ p. arrival (job_in mem.now) least (row_outcomes false edge.row (nth mem.now 3 + 1) mem.now) p
+        (edge_from edge.volume edge.row mem.now)) mem.now result.early
+        × HalfTable document01 h (λ p. arrival (job_in mem.now) largest (row_outcomes true edge.row (nth mem.now 3 + 1) mem.now) p
+        (edge_from edge.volume edge.row mem.now)) mem.now result.late }
 {
     let mut low = [lanes::no_time(); 8];
     let mut high = [0.0f64; 8];
     let mut first = [0.0f64; 9];
     let mut last = [lanes::no_time(); 9];
-    let mut c = mem[3] as usize + 1;
-    while c > 0 {
-        c -= 1;
-        let x = row::replica_at(mem, a, c);
+    for c in (0..mem[3] as usize + 1).rev() {
+        let x = row::replica_at(mem, edge.row, c);
         let q = x.processor;
         let early = lane_of(x.early);
         let late = lane_of(x.late);
-        lanes::offer(&mut low, &mut high, delays, q, h, volume, early, late);
+        lanes::offer(
+            &mut low,
+            &mut high,
+            &delays.table,
+            q,
+            h,
+            edge.volume,
+            early,
+            late,
+        );
         let i = lanes::lane_in(q, h);
         first[i] = early;
         last[i] = late;
@@ -136,84 +143,61 @@ fn may_wait(ends: &[f64], cell: u64, most: u16, x: f64, y: f64) -> bool
         × NoLater (after ((edge_in cell).volume * most) (time_of (lane ends.now (end_at true (edge_in cell).from)))) (time_of y) }
 {
     let t = orders::edge_from(cell);
-    let n = (orders::edge_volume(cell) as u32 * most as u32) as f64;
-    if x < ends[2 * t] + n {
-        return true;
-    }
-    y < ends[2 * t + 1] + n
+    let n = f64::from(orders::edge_volume(cell) as u32 * u32::from(most));
+    x < ends[2 * t] + n || y < ends[2 * t + 1] + n
 }
 
-// The times of each processor of half h, raised to those at which the data of a predecessor whose line is at `a` is there.
-fn raise_arrivals(
-    mem: &[u64],
-    delays: &[u16; 256],
-    a: usize,
-    volume: u16,
-    h: usize,
-    early: &mut [f64; 16],
-    late: &mut [f64; 16],
-)
-    requires { SomeJobHeld document01 mem.now × DelayTable document01 delays.now mem.now × RowHeld document01 a mem.now
-        × (row_end a ≤ length mem.now) × (volume ≤ document01.volume) × (h < 2)
-        × LanesHeld document01 mem.now early.old × LanesHeld document01 mem.now late.old }
-    ensures { RaisedIn document01 h false volume a mem.now early.old early.new
-        × RaisedIn document01 h true volume a mem.now late.old late.new }
+// The times at which a task can start on each processor, early and late.
+#[derive(Drop)]
+struct Starts {
+    early: [f64; 16],
+    late: [f64; 16],
+}
+
+// The times of each processor of half h, raised to those at which the data of an edge is there.
+fn raise_arrivals(mem: &[u64], delays: &Delays, edge: Inward, h: usize, starts: &mut Starts)
+    requires { SomeJobHeld document01 mem.now × DelayTable document01 delays.now.table mem.now × RowHeld document01 edge.row mem.now
+        × (row_end edge.row ≤ length mem.now) × (edge.volume ≤ document01.volume) × (h < 2)
+        × LanesHeld document01 mem.now starts.old.early × LanesHeld document01 mem.now starts.old.late }
+    ensures { RaisedIn document01 h false edge.volume edge.row mem.now starts.old.early starts.new.early
+        × RaisedIn document01 h true edge.volume edge.row mem.now starts.old.late starts.new.late }
 {
-    let r = arrivals(mem, delays, a, volume, h);
-    lanes::raise_half(early, &r.early, h);
-    lanes::raise_half(late, &r.late, h);
+    let r = arrivals(mem, delays, edge, h);
+    lanes::raise_half(&mut starts.early, &r.early, h);
+    lanes::raise_half(&mut starts.late, &r.late, h);
 }
 
 // The times of each processor, raised to those at which the data of the edge in a cell is there.
-fn raise_edge(
-    mem: &[u64],
-    capacity: usize,
-    delays: &[u16; 256],
-    cell: u64,
-    early: &mut [f64; 16],
-    late: &mut [f64; 16],
-)
-    requires { JobHeld document01 capacity mem.now × DelayTable document01 delays.now mem.now × Feeds document01 capacity (edge_in cell) mem.now
-        × LanesHeld document01 mem.now early.old × LanesHeld document01 mem.now late.old }
-    ensures { RaisedBy document01 capacity false (edge_in cell) mem.now early.old early.new
-        × RaisedBy document01 capacity true (edge_in cell) mem.now late.old late.new }
+fn raise_edge(house: House, delays: &Delays, cell: u64, starts: &mut Starts)
+    requires { JobHeld document01 house.capacity house.mem.now × DelayTable document01 delays.now.table house.mem.now
+        × Feeds document01 house.capacity (edge_in cell) house.mem.now
+        × LanesHeld document01 house.mem.now starts.old.early × LanesHeld document01 house.mem.now starts.old.late }
+    ensures { RaisedBy document01 house.entry.capacity false (edge_in cell) house.entry.mem.now starts.old.early starts.new.early
+        × RaisedBy document01 house.entry.capacity true (edge_in cell) house.entry.mem.now starts.old.late starts.new.late }
 {
-    let e = walk::entering(mem, capacity, cell);
-    let n = mem[1] as usize;
-    let mut h = 0;
-    while 8 * h < n {
-        raise_arrivals(mem, delays, e.row, e.volume, h, early, late);
-        h += 1;
+    let edge = walk::entering(house, cell);
+    for h in 0..(house.mem[1] as usize).div_ceil(8) {
+        raise_arrivals(house.mem, delays, edge, h, starts);
     }
 }
 
 // The times of each processor, raised to those at which all data of t is there.
-fn raise_data(
-    mem: &[u64],
-    links: &[u64],
-    capacity: usize,
-    delays: &[u16; 256],
-    most: u16,
-    ends: &[f64],
-    t: usize,
-    early: &mut [f64; 16],
-    late: &mut [f64; 16],
-)
-    requires { ((k : ℕ) × LinesHeld document01 capacity k mem.now) × LinksHeld mem.now links.now × DelayTable document01 delays.now mem.now
-        × NoDelayOver most mem.now × (most ≤ document01.delay) × (t < nth mem.now 0)
-        × Supplied document01 capacity t (lane_times early.old late.old) mem.now ends.now
-        × LanesHeld document01 mem.now early.old × LanesHeld document01 mem.now late.old }
-    ensures { Raised document01 capacity false t mem.now early.old early.new
-        × Raised document01 capacity true t mem.now late.old late.new }
+fn raise_data(house: House, delays: &Delays, ends: &[f64], t: usize, starts: &mut Starts)
+    requires { ((k : ℕ) × LinesHeld document01 house.capacity k house.mem.now) × LinksHeld house.mem.now house.links.now
+        × DelaysHeld document01 delays.now house.mem.now × (t < nth house.mem.now 0)
+        × Supplied document01 house.capacity t (lane_times starts.old.early starts.old.late) house.mem.now ends.now
+        × LanesHeld document01 house.mem.now starts.old.early × LanesHeld document01 house.mem.now starts.old.late }
+    ensures { Raised document01 house.entry.capacity false t house.entry.mem.now starts.old.early starts.new.early
+        × Raised document01 house.entry.capacity true t house.entry.mem.now starts.old.late starts.new.late }
 {
-    let span = orders::entering(links, mem[0] as usize, t);
-    let m = mem[1] as usize;
-    let x = lanes::least(early, m);
-    let y = lanes::least(late, m);
+    let span = orders::entering(house.links, house.mem[0] as usize, t);
+    let m = house.mem[1] as usize;
+    let x = lanes::least(&starts.early, m);
+    let y = lanes::least(&starts.late, m);
     for k in span.start..span.end {
-        let cell = links[k];
-        if may_wait(ends, cell, most, x, y) {
-            raise_edge(mem, capacity, delays, cell, early, late);
+        let cell = house.links[k];
+        if may_wait(ends, cell, delays.most, x, y) {
+            raise_edge(house, delays, cell, starts);
         }
     }
 }
@@ -232,41 +216,28 @@ fn run_lanes(mem: &[u64], t: usize, starts: &[f64; 16], finishes: &mut [u32; 16]
     ensures { (length finishes.new ≡ lanes_most) × ((p : ℕ) → p < nth mem.now 1
         → tick (nth finishes.new p) ≡ after (run_time (job_in mem.now) t p) (lane_time starts.now p)) }
 {
-    let m = mem[1] as usize;
-    let mut p = 0;
-    while p < m {
+    for p in 0..mem[1] as usize {
         finishes[p] = finish_tick(starts[p], numbers::run_time(mem, t, p));
-        p += 1;
     }
 }
 
-// Writes the early and the late finish of t on each processor, if it is ready at the ticks in e, and late at those in l.
-pub fn finishes<'a>(
-    mem: &[u64],
-    links: &[u64],
-    capacity: usize,
-    delays: &[u16; 256],
-    most: u16,
-    ends: &[f64],
-    t: usize,
-    e: &'a [u32; 16],
-    l: &'a [u32; 16],
-    early: &mut [u32; 16],
-    late: &mut [u32; 16],
-)
-    requires { ((k : ℕ) × LinesHeld document01 capacity k mem.now) × DelayTable document01 delays.now mem.now × NoDelayOver most mem.now × (most ≤ document01.delay)
-        × (t < nth mem.now 0) × BothSupplied capacity t mem.now × ShortTicks mem.now e.now × ShortTicks mem.now l.now
-        × Supplied document01 capacity t (tick_times e.now l.now) mem.now ends.now × LinksHeld mem.now links.now
-        × (length early.old ≡ lanes_most) × (length late.old ≡ lanes_most) }
-    ensures { BothFinish capacity t e.now l.now mem.now early.new late.new }
+// The early and the late finish of t on each processor, if the processors are ready at these ticks.
+pub fn finishes(house: House, delays: &Delays, ends: &[f64], t: usize, ready: &Clocks) -> Clocks
+    requires { ((k : ℕ) × LinesHeld document01 house.capacity k house.mem.now) × DelaysHeld document01 delays.now house.mem.now
+        × (t < nth house.mem.now 0) × BothSupplied house.capacity t house.mem.now
+        × ShortTicks house.mem.now ready.now.early × ShortTicks house.mem.now ready.now.late
+        × Supplied document01 house.capacity t (tick_times ready.now.early ready.now.late) house.mem.now ends.now × LinksHeld house.mem.now house.links.now }
+    ensures { BothFinish house.entry.capacity t ready.now.early ready.now.late house.entry.mem.now result.early result.late }
 {
-    let mut first = lanes::floats(e);
-    let mut last = lanes::floats(l);
-    raise_data(
-        mem, links, capacity, delays, most, ends, t, &mut first, &mut last,
-    );
-    run_lanes(mem, t, &first, early);
-    run_lanes(mem, t, &last, late);
+    let mut starts = Starts {
+        early: lanes::floats(&ready.early),
+        late: lanes::floats(&ready.late),
+    };
+    raise_data(house, delays, ends, t, &mut starts);
+    let mut finishes = Clocks::new();
+    run_lanes(house.mem, t, &starts.early, &mut finishes.early);
+    run_lanes(house.mem, t, &starts.late, &mut finishes.late);
+    finishes
 }
 
 // The times of cells in lanes, one for each processor of the job.
@@ -274,39 +245,33 @@ fn lanes_of(mem: &[u64], cells: &[u64; 16]) -> [f64; 16]
     requires { SomeJobHeld document01 mem.now × ((p : ℕ) → p < nth mem.now 1 → Small document01.tick (nth cells.now p)) }
     ensures { TimeTable document01 (λ p. time_in (nth cells.now p)) mem.now result }
 {
-    let m = mem[1] as usize;
     let mut times = [0.0f64; 16];
-    let mut p = 0;
-    while p < m {
+    for p in 0..mem[1] as usize {
         times[p] = lane_of(cells[p]);
-        p += 1;
     }
     times
 }
 
 // When t can start on each processor, by the first data, if it is ready at the times in the cells.
 pub fn first_starts(
-    mem: &[u64],
-    links: &[u64],
-    capacity: usize,
-    delays: &[u16; 256],
-    most: u16,
+    house: House,
+    delays: &Delays,
     ends: &[f64],
     t: usize,
     ready: &[u64; 16],
 ) -> [f64; 16]
-    requires { ((k : ℕ) × LinesHeld document01 capacity k mem.now) × LinksHeld mem.now links.now × DelayTable document01 delays.now mem.now
-        × NoDelayOver most mem.now × (most ≤ document01.delay) × (t < nth mem.now 0)
-        × ((p : ℕ) → p < nth mem.now 1 → Small document01.tick (nth ready.now p))
-        × Supplied document01 capacity t (ready_times ready.now) mem.now ends.now }
-    ensures { TimeTable document01 (λ p. later (time_in (nth ready.now p)) (data_in capacity false t p mem.now)) mem.now result }
+    requires { ((k : ℕ) × LinesHeld document01 house.capacity k house.mem.now) × LinksHeld house.mem.now house.links.now
+        × DelaysHeld document01 delays.now house.mem.now × (t < nth house.mem.now 0)
+        × ((p : ℕ) → p < nth house.mem.now 1 → Small document01.tick (nth ready.now p))
+        × Supplied document01 house.capacity t (ready_times ready.now) house.mem.now ends.now }
+    ensures { TimeTable document01 (λ p. later (time_in (nth ready.now p)) (data_in house.entry.capacity false t p house.entry.mem.now)) house.entry.mem.now result }
 {
-    let mut early = lanes_of(mem, ready);
-    let mut late = [lanes::no_time(); 16];
-    raise_data(
-        mem, links, capacity, delays, most, ends, t, &mut early, &mut late,
-    );
-    early
+    let mut starts = Starts {
+        early: lanes_of(house.mem, ready),
+        late: [lanes::no_time(); 16],
+    };
+    raise_data(house, delays, ends, t, &mut starts);
+    starts.early
 }
 
 // The first early and the last late time of a line.
@@ -322,15 +287,12 @@ fn ends_in(mem: &[u64], a: usize) -> Ends
     ensures { (time_in result.first ≡ choice_of false (times (row_outcomes false a (nth mem.now 3 + 1) mem.now)))
         × (time_in result.last ≡ choice_of true (times (row_outcomes true a (nth mem.now 3 + 1) mem.now))) }
 {
-    let w = mem[3] as usize + 1;
     let mut first = NEVER;
-    let mut last = 0;
-    let mut c = 0;
-    while c < w {
+    let mut last = 0u64;
+    for c in 0..mem[3] as usize + 1 {
         let r = row::replica_at(mem, a, c);
-        first = chosen_of(false, r.early, first);
-        last = chosen_of(true, r.late, last);
-        c += 1;
+        first = first.min(r.early);
+        last = last.max(r.late);
     }
     Ends { first, last }
 }
@@ -345,12 +307,23 @@ pub fn put_ends(mem: &[u64], a: usize, t: usize, ends: &mut [f64])
     ends[2 * t + 1] = lane_of(e.last);
 }
 
+// What f gives with a table of ends that has room for so many tasks: it is made for them, as the memory is.
+pub fn with_ends<R, F: FnMut(&mut [f64]) -> R>(tasks: u64, f: &mut F) -> R
+    requires { (tasks ≤ document01.tasks) × ((ends : _) → 2 * tasks ≤ length ends.now → F.pre f.old ends) }
+    ensures { (d e : _) × (2 * tasks ≤ length d.now) × F.step f.old d result e f.new }
+{
+    if tasks <= 16 {
+        return f(&mut [0.0; 32]);
+    }
+    f(&mut [0.0; 512])
+}
+
 // The finish of what is ready, and has its data, at these times, and then runs for n ticks.
 pub fn finish_of(ready: u64, supplied: u64, n: u64) -> u64
     requires { Small (lane_most document01) ready × Small (lane_most document01) supplied × (n ≤ document01.run_time) }
     ensures { (time_in result ≡ after n (later (time_in ready) (time_in supplied))) × Small (lane_most document01 + document01.run_time) result }
 {
-    let start = chosen_of(true, ready, supplied);
+    let start = ready.max(supplied);
     if start == NEVER {
         return NEVER;
     }

@@ -5,6 +5,7 @@ ghost use Rattle.orders.specs.Edges.{edge_in};
 ghost use Rattle.jobs.specs.Held.{edge_at, JobHeld, SomeJobHeld};
 ghost use Rattle.rounds.specs.Walks.{Feeds, Entered};
 
+use crate::house::House;
 use crate::row;
 use heads::layout;
 
@@ -24,12 +25,12 @@ pub struct Inward {
 }
 
 // The edge in a cell, which leaves a task that has a line.
-pub fn entering(mem: &[u64], capacity: usize, cell: u64) -> Inward
-    requires { JobHeld document01 capacity mem.now × Feeds document01 capacity (edge_in cell) mem.now }
-    ensures { Entered document01 capacity (edge_in cell) mem.now result.row result.volume }
+pub fn entering(house: House, cell: u64) -> Inward
+    requires { JobHeld document01 house.capacity house.mem.now × Feeds document01 house.capacity (edge_in cell) house.mem.now }
+    ensures { Entered document01 house.entry.capacity (edge_in cell) house.entry.mem.now result.row result.volume }
 {
     Inward {
-        row: row::row_of(mem, capacity, orders::edge_from(cell)),
+        row: row::row_of(house, orders::edge_from(cell)),
         volume: orders::edge_volume(cell) as u16,
     }
 }

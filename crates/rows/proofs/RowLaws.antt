@@ -1,5 +1,5 @@
 -- Rows of numbers in a memory, and the rules of C and D lines.
-use Rattle.lists.proofs.Prelude.{◌≡◌, refl, ap, sym, ◌∙◌, List, [], ◌∷◌, ◌++◌, true, false, not, ℕ, zero, suc, ◌+◌, ◌-◌, ◌*◌, ◌/◌, ◌<◌, ◌≤◌, arith, add-one, suc-mul, ltb-true, le-leb, lt-leb, eq-eqb, ne_eqb, eqb, length, take, drop, length-append, take-take, nth, any, Limits, refused, first_of, run_rule, delay_rule}
+use Rattle.lists.proofs.Prelude.{◌≡◌, refl, ap, sym, ◌∙◌, List, [], ◌∷◌, ◌++◌, true, false, ℕ, zero, suc, ◌+◌, ◌-◌, ◌*◌, ◌/◌, ◌<◌, ◌≤◌, arith, add-one, suc-mul, ltb-true, le-leb, lt-leb, eq-eqb, ne_eqb, length, take, drop, length-append, take-take, nth, any, Limits, refused, first_of, run_rule, delay_rule}
 use native.Mathlib.Nat.{zero-add, suc-add, mul-le-mul_right, le-div_iff_mul-le, div-lt_iff_lt-mul}
 use borrow.Rule.Slice.PartMut.{put_mid, take_put}
 use lib.Seq.{take-nil}
@@ -10,30 +10,30 @@ use Rattle.rows.specs.declared.Kind.TheVariants.{Runs, Delays}
 
 -- The rules of row i, after the rows in `seen`.
 module _ (l : Limits) (seen : List (List ℕ)) (row : List ℕ) (i : ℕ) (n : length seen ≡ i) where
-  pub out_of_turn : (kind : Kind) → not (eqb (nth row 0) i) ≡ true → 2 ≡ rule_of l kind seen row
+  pub out_of_turn : (nth row 0 ≡ i → ⊥) → (kind : Kind) → 2 ≡ rule_of l kind seen row
   unfolding run_rule delay_rule first_of
-  out_of_turn Runs h = rw (n, h)
-  out_of_turn Delays h = rw (n, h)
+  out_of_turn h Runs = rw (n, ne_eqb _ _ h)
+  out_of_turn h Delays = rw (n, ne_eqb _ _ h)
 
-  module _ (t : not (eqb (nth row 0) i) ≡ false) where
+  module _ (t : nth row 0 ≡ i) where
     pub out_of_range : (kind : Kind) → true ≡ any (stray_of l kind) (drop 1 row) → 3 ≡ rule_of l kind seen row
     unfolding run_rule delay_rule first_of
-    out_of_range Runs e = rw (n, t, ← e)
-    out_of_range Delays e = rw (n, t, ← e)
+    out_of_range Runs e = rw (n, eq-eqb _ _ t, ← e)
+    out_of_range Delays e = rw (n, eq-eqb _ _ t, ← e)
 
     module _ (kind : Kind) (e : false ≡ any (stray_of l kind) (drop 1 row)) where
       pub run_good : kind ≡ Runs → 0 ≡ rule_of l kind seen row
       unfolding run_rule first_of
-      run_good k = let g = rw k at e in rw (k, n, t, ← g)
+      run_good k = let g = rw k at e in rw (k, n, eq-eqb _ _ t, ← g)
 
       module _ (k : kind ≡ Delays) where
         pub delay_self : (nth row (i + 1) ≡ 0 → ⊥) → 5 ≡ rule_of l kind seen row
         unfolding delay_rule first_of
-        delay_self h = let g = rw k at e in let c : 1 + length seen ≡ i + 1 = omega arith in rw (k, c, n, t, ← g, ne_eqb (nth row (i + 1)) 0 h)
+        delay_self h = let g = rw k at e in let c : 1 + length seen ≡ i + 1 = omega arith in rw (k, c, n, eq-eqb _ _ t, ← g, ne_eqb (nth row (i + 1)) 0 h)
 
         pub delay_good : nth row (i + 1) ≡ 0 → 0 ≡ rule_of l kind seen row
         unfolding delay_rule first_of
-        delay_good h = let g = rw k at e in let c : 1 + length seen ≡ i + 1 = omega arith in rw (k, c, n, t, ← g, eq-eqb (nth row (i + 1)) 0 h)
+        delay_good h = let g = rw k at e in let c : 1 + length seen ≡ i + 1 = omega arith in rw (k, c, n, eq-eqb _ _ t, ← g, eq-eqb (nth row (i + 1)) 0 h)
 
 -- Rows that are wide enough for their kind.
 module _ (k n : ℕ) (kind : Kind) (h : wide kind k n ≡ true) where
@@ -43,9 +43,6 @@ module _ (k n : ℕ) (kind : Kind) (h : wide kind k n ≡ true) where
       by : (x : Kind) → wide x k n ≡ true → 0 < k
       by Runs w = ltb-true 0 k w
       by Delays w = omega (arith, ltb-true n k w)
-
-  pub delays_wide : kind ≡ Delays → n < k
-  delays_wide e = ltb-true n k (rw e at h)
 
 -- Whether n rows fit so many cells.
 module _ (l : Limits) (room : ℕ) (kind : Kind) (opening : List ℕ) (k n : ℕ) (s : List ℕ) where

@@ -6,21 +6,23 @@ ghost use Rattle.definitions.specs.Limits.{document01};
 ghost use Rattle.definitions.specs.Job.{Job};
 ghost use Rattle.stops.specs.Loading.{stops_from, StopsLoaded};
 
-use text::Step;
+use lines::reader::Reader;
 use text::limits::TEXT_LENGTH;
+use text::refusal::Refusal;
+use ticks::lanes::NEVER;
 
 mod stops;
 
 // A stop list's text for m processors: the tick at which each stops, never for those that do not stop.
-pub fn load_stops(s: &[u8], m: u64, stops: &mut [u64]) -> Step
+pub fn load_stops(s: &[u8], m: u64, stops: &mut [u64]) -> Result<(), Refusal>
     ensures { (j : Job) → j.processors ≡ m → StopsLoaded document01 (stops_from document01 (length stops.old) j s.now) stops.new result }
 {
     if (stops.len() as u64) < m {
-        return Step::Refused(8);
+        return Err(Refusal::NoRoom);
     }
     if s.len() > TEXT_LENGTH {
-        return Step::Refused(1);
+        return Err(Refusal::TooLong);
     }
-    stops::clear(stops);
-    stops::read_stop_lines(s, m, stops)
+    stops.fill(NEVER);
+    stops::read_stop_lines(Reader::new(s), m, stops)
 }

@@ -1,3 +1,4 @@
 pub mod Powers
 pub mod Reading
+pub mod Refusals
 pub mod Writing

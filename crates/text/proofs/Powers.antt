@@ -28,6 +28,6 @@ module _ (most d n : ℕ) (h : d < most) where
   pub width_next : get_or (tenfold most 1) d 0 ≤ n → width_from (most - d) d n ≡ width_from (most - (d + 1)) (d + 1) n
   width_next t = turn ∙ rw (le-ltb _ _ t)
 
-pub width_end : (most d n : ℕ) → most ≤ d → width_from (most - d) d n ≡ d
+pub width_end : (most d n : ℕ) → d ≡ most → width_from (most - d) d n ≡ most
 unfolding width_from
-width_end most d n h = let e : most - d ≡ 0 = omega arith in rw e
+width_end most d n h = let e : most - d ≡ 0 = omega arith in rw (e, h)

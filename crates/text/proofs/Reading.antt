@@ -1,5 +1,9 @@
 -- Numbers and fixed bytes at a place of a text.
-use Rattle.lists.proofs.Prelude.{◌≡◌, refl, ◌∙◌, List, true, false, ℕ, ◌+◌, ◌-◌, ◌*◌, ◌%◌, ◌^◌, ◌<◌, ◌≤◌, ⊎_elim, arith, add-one, lt-leb, le-leb, eq-eqb, ne_eqb, length, get_or, drop, drop_of_length-le, drop-cons, Limits, found, refused, is_digit, digits, number, exactly}
+use Rattle.std.specs.Prelude.{◌==◌, [], ◌∷◌, Bool, ◌&&◌, take, eqb, if◌then◌else◌}
+use Rattle.std.proofs.lemmas.Bool.Decides.{nat_tests}
+use Rattle.std.proofs.lemmas.List.{take_rest, drop_min, drop-drop}
+use Rattle.std.specs.List.{list_all, zip}
+use Rattle.lists.proofs.Prelude.{◌≡◌, refl, sym, ◌∙◌, List, true, false, ℕ, ◌+◌, ◌-◌, ◌*◌, ◌%◌, ◌^◌, ◌<◌, ◌≤◌, min, ⊎_elim, arith, add-one, lt-leb, le-leb, eq-eqb, ne_eqb, length, get_or, drop, drop_of_length-le, drop-cons, Limits, found, refused, is_digit, digits, number, exactly}
 use native.Mathlib.Nat.{pow-suc, pow-le-pow_right, eq-zero-or-pos}
 use Rattle.text.specs.Suited.{Suited}
 
@@ -79,32 +83,42 @@ module _ (l : Limits) (s : List ℕ) (i : ℕ) where
   unfolding number
   number_end h = rw (drop_of_length-le s h)
 
-  pub number_no : i < length s → is_digit (get_or s i 0) ≡ false → refused 2 ≡ number l (drop i s)
-  unfolding number
-  number_no h t = rw (drop-cons s i 0 h, t)
+  -- By the byte b that stands there.
+  module _ (b : ℕ) (h : i < length s) (e : b ≡ get_or s i 0) where
+    front : drop i s ≡ b ∷ drop (i + 1) s
+    front = rw (e, add-one) (drop-cons s i 0 h)
 
-  pub number_zero : i < length s → is_digit (get_or s i 0) ≡ true → get_or s i 0 ≡ 48 → digits 0 0 (drop (i + 1) s) ≡ number l (drop i s)
-  unfolding number
-  number_zero h t e = rw (drop-cons s i 0 h, t, eq-eqb _ _ e, e, add-one)
+    pub number_no : is_digit b ≡ false → refused 2 ≡ number l (drop i s)
+    unfolding number
+    number_no t = rw (front, t)
 
-  pub number_more : i < length s → is_digit (get_or s i 0) ≡ true → (get_or s i 0 ≡ 48 → ⊥)
-      → digits (l.digits - 1) (get_or s i 0 - 48) (drop (i + 1) s) ≡ number l (drop i s)
-  unfolding number
-  number_more h t e = rw (drop-cons s i 0 h, t, ne_eqb _ _ e, add-one)
+    pub number_low : b < 48 → refused 2 ≡ number l (drop i s)
+    number_low t = number_no (digit_low b t)
+
+    pub number_high : 57 < b → refused 2 ≡ number l (drop i s)
+    number_high t = number_no (digit_high b t)
+
+    pub number_zero : b ≡ 48 → digits 0 0 (drop (i + 1) s) ≡ number l (drop i s)
+    unfolding number
+    number_zero f = rw (front, f)
+
+    pub number_more : is_digit b ≡ true → (b ≡ 48 → ⊥) → digits (l.digits - 1) (b - 48) (drop (i + 1) s) ≡ number l (drop i s)
+    unfolding number
+    number_more t f = rw (front, t, ne_eqb b 48 f)
 
 -- The number at `at`, where the text goes on, by the digit d that its first byte is.
 module _ (l : Limits) (s : List ℕ) (at : ℕ) (h : at + (l.digits + 2) ≤ length s) where
   pub inner_no : is_digit (get_or s at 0) ≡ false → refused 2 ≡ number l (drop at s)
-  inner_no t = number_no l s at (omega arith) t
+  inner_no t = number_no l s at _ (omega arith) refl t
 
   module _ (d : ℕ) (t : (is_digit (get_or s at 0) ≡ true) × (get_or s at 0 ≡ d + 48)) where
     pub inner_more : 0 < d → digits (l.digits - 1) d (drop (at + 1) s) ≡ number l (drop at s)
     inner_more g =
         let f : get_or s at 0 - 48 ≡ d = omega (arith, t.1) in
-        rw (← f) (number_more l s at (omega arith) t.0 (λ z. omega (arith, t.1)))
+        rw (← f) (number_more l s at _ (omega arith) refl t.0 (λ z. omega (arith, t.1)))
 
     zero : d ≤ 0 → digits 0 0 (drop (at + 1) s) ≡ number l (drop at s)
-    zero g = number_zero l s at (omega arith) t.0 (omega (arith, t.1))
+    zero g = number_zero l s at _ (omega arith) refl (omega (arith, t.1))
 
     pub inner_zeros : d ≤ 0 → is_digit (get_or s (at + 1) 0) ≡ true → refused 2 ≡ number l (drop at s)
     inner_zeros g u = digits_full s (at + 1) 0 0 (omega arith) u refl ∙ zero g
@@ -112,20 +126,50 @@ module _ (l : Limits) (s : List ℕ) (at : ℕ) (h : at + (l.digits + 2) ≤ len
     pub inner_zero : d ≤ 0 → is_digit (get_or s (at + 1) 0) ≡ false → found 0 (drop (at + 1) s) ≡ number l (drop at s)
     inner_zero g u = digits_stop s (at + 1) 0 0 (omega arith) u ∙ zero g
 
--- The fixed bytes o from number i on, at the place p of the text s.
-module _ (s o : List ℕ) (i p : ℕ) where
-  pub fixed_end : i < length o → length s ≤ p → refused 2 ≡ exactly (drop i o) (drop p s)
-  unfolding exactly
-  fixed_end g h = rw (drop-cons o i 0 g, drop_of_length-le s h)
+eqb_turned : (a b : ℕ) → eqb a b ≡ eqb b a
+eqb_turned a b = grind (arith, nat_tests)
 
-  pub fixed_no : i < length o → p < length s → (get_or s p 0 ≡ get_or o i 0 → ⊥) → refused 2 ≡ exactly (drop i o) (drop p s)
-  unfolding exactly
-  fixed_no g h e = rw (drop-cons o i 0 g, drop-cons s p 0 h, ne_eqb _ _ e)
+-- Where the text s is no shorter than the bytes o, they stand at its front if they agree with it.
+abbrev pub agree : List ℕ → List ℕ → Bool
+agree o s = list_all (λ p. eqb p.0 p.1) (zip o s)
 
-  pub fixed_yes : i < length o → p < length s → get_or s p 0 ≡ get_or o i 0 → exactly (drop (i + 1) o) (drop (p + 1) s) ≡ exactly (drop i o) (drop p s)
-  unfolding exactly
-  fixed_yes g h e = rw (drop-cons o i 0 g, drop-cons s p 0 h, eq-eqb _ _ e, add-one i, add-one p)
+short : (o s : List ℕ) → length s < length o → exactly o s ≡ refused 2
+unfolding exactly
+short [] s h = absurd (omega arith)
+short (o ∷ os) [] h = refl
+short (o ∷ os) (b ∷ s) h = by (eqb b o) (short os s (omega arith))
+  where
+    by : (t : Bool) → exactly os s ≡ refused 2 → (if t then exactly os s else refused 2) ≡ refused 2
+    by true others = others
+    by false others = refl
 
-  pub fixed_done : length o ≤ i → found tt (drop p s) ≡ exactly (drop i o) (drop p s)
-  unfolding exactly
-  fixed_done g = rw (drop_of_length-le o g)
+long : (o s : List ℕ) → length o ≤ length s → exactly o s ≡ (if agree o s then found tt (drop (length o) s) else refused 2)
+unfolding exactly
+long [] s h = refl
+long (o ∷ os) [] h = absurd (omega arith)
+long (o ∷ os) (b ∷ s) h = rw (eqb_turned b o) (by (eqb o b) (long os s (omega arith)))
+  where
+    by : (t : Bool) → exactly os s ≡ (if agree os s then found tt (drop (length os) s) else refused 2)
+        → (if t then exactly os s else refused 2) ≡ (if t && agree os s then found tt (drop (length os) s) else refused 2)
+    by true others = others
+    by false others = refl
+
+-- Whether they stand at a place of the text s: m is the place, or the text's end if that is before it.
+module _ (o s : List ℕ) (at m : ℕ) (e : m ≡ min at (length s)) where
+  rest : take (length s - m) (drop m s) ≡ drop at s
+  rest = take_rest s m ∙ rw e (drop_min at s)
+
+  stands : {r : Bool} → length o ≤ length (take (length s - m) (drop m s)) → r ≡ agree o (take (length s - m) (drop m s))
+      → (if r then found tt (drop (at + length o) s) else refused 2) ≡ exactly o (drop at s)
+  stands h t = let g : length o ≤ length (drop at s) = rw rest at h in rw (t, rest, long o (drop at s) g, drop-drop (length o) at s) refl
+
+  pub fixed_stands : length o ≤ length (take (length s - m) (drop m s)) → true ≡ list_all (λ (p : ℕ × ℕ). p.0 == p.1) (zip o (take (length s - m) (drop m s)))
+      → found tt (drop (at + length o) s) ≡ exactly o (drop at s)
+  fixed_stands h t = stands h t
+
+  pub fixed_fails : length o ≤ length (take (length s - m) (drop m s)) → false ≡ list_all (λ (p : ℕ × ℕ). p.0 == p.1) (zip o (take (length s - m) (drop m s)))
+      → refused 2 ≡ exactly o (drop at s)
+  fixed_fails h t = stands h t
+
+  pub fixed_ends : length (take (length s - m) (drop m s)) < length o → refused 2 ≡ exactly o (drop at s)
+  fixed_ends h = let g : length (drop at s) < length o = rw rest at h in sym (short o (drop at s) g)

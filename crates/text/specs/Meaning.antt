@@ -1,46 +1,55 @@
 -- What the answers of the leaves mean.
-use Rattle.std.specs.Prelude.{◌≡◌, ℕ, ◌+◌, ◌≤◌, List, ◌++◌, leb, ltb, length, drop, if◌then◌else◌}
+use Rattle.std.specs.Prelude.{◌≡◌, ℕ, ◌+◌, ◌≤◌, List, ◌++◌, leb, ltb, length, drop, if◌then◌else◌, Option, Some, None, Result, Ok, Err}
 use Rattle.definitions.specs.Limits.{Limits}
-use Rattle.definitions.specs.Text.{Reading, Reader, found, refused, next, ◌>>=◌, ◌>>◌, return, due, line, Result, good, bad}
+use Rattle.definitions.specs.Text.{Reading, Reader, found, refused, next, ◌>>=◌, ◌>>◌, return, due, line, good, bad}
+use Rattle.definitions.specs.Text as Text
 use Rattle.lists.specs.Over.{over}
-use Rattle.text.specs.declared.Num.{Num}
-use Rattle.text.specs.declared.Num.TheVariants.{Value, Bad}
-use Rattle.text.specs.declared.Step.{Step}
-use Rattle.text.specs.declared.Step.TheVariants.{Next, Refused}
+use Rattle.text.specs.declared.refusal.Refusal.{Refusal}
+use Rattle.text.specs.Numbers.{number_of}
 
 -- A number that was read in the text s, or 2.
-abbrev pub number_reading : List ℕ → Num → Reading ℕ
-number_reading s (Value v next) = found v (drop next s)
-number_reading s Bad = refused 2
+abbrev pub number_reading : List ℕ → Option (ℕ × ℕ) → Reading ℕ
+number_reading s (Some (v, next)) = found v (drop next s)
+number_reading s None = refused 2
 
 -- The place after a number that was read in the text s is in it, or its end.
-abbrev pub Placed : List ℕ → Num → Type 0
-Placed s (Value v next) = next ≤ length s
-Placed s Bad = Unit {0}
+abbrev pub Placed : List ℕ → Option (ℕ × ℕ) → Type 0
+Placed s (Some (v, next)) = next ≤ length s
+Placed s None = Unit {0}
 
 -- The place after a number that was read is p or before it.
-abbrev pub PlacedBy : ℕ → Num → Type 0
-PlacedBy p (Value v next) = next ≤ p
-PlacedBy p Bad = Unit {0}
+abbrev pub PlacedBy : ℕ → Option (ℕ × ℕ) → Type 0
+PlacedBy p (Some (v, next)) = next ≤ p
+PlacedBy p None = Unit {0}
 
--- x was read in the text s, or the refusal.
-abbrev pub step_reading : {A : Type 0} → List ℕ → A → Step → Reading A
-step_reading s x (Next next) = found x (drop next s)
-step_reading s x (Refused n) = refused n
+-- x was read in the text s up to a place, or the refusal.
+abbrev pub place_reading : {A : Type 0} → List ℕ → A → Result ℕ Refusal → Reading A
+place_reading s x (Ok next) = found x (drop next s)
+place_reading s x (Err e) = refused (number_of e)
+
+-- x was read, and the bytes s are left; or the refusal.
+abbrev pub reading : {A : Type 0} → List ℕ → A → Result (Unit {0}) Refusal → Reading A
+reading s x (Ok done) = found x s
+reading s x (Err e) = refused (number_of e)
+
+-- The number of a refusal that is due, 0 if none is.
+abbrev pub due_of : Result (Unit {0}) Refusal → ℕ
+due_of (Ok done) = 0
+due_of (Err e) = number_of e
+
+-- Document 01's result for each case of an answer: what it holds, or the number of the refusal.
+abbrev pub result_of : {A : Type 0} → Result A Refusal → Text.Result A
+result_of (Ok a) = good a
+result_of (Err e) = bad (number_of e)
 
 -- A reading of a list, with the members xs before it.
 abbrev pub after : {A : Type 0} → List A → Reading (List A) → Reading (List A)
 after xs r = next r (λ vs s. found (xs ++ vs) s)
 
--- Document 01's number and values for each case of a step: the place after what was read, or the number of the refusal.
-abbrev pub step_result : Step → Result ℕ
-step_result (Next next) = good next
-step_result (Refused n) = bad n
-
 -- The place after what was read is p.
-abbrev pub PlacedAt : ℕ → Step → Type 0
-PlacedAt p (Next next) = next ≡ p
-PlacedAt p (Refused n) = Unit {0}
+abbrev pub PlacedAt : ℕ → Result ℕ Refusal → Type 0
+PlacedAt p (Ok next) = next ≡ p
+PlacedAt p (Err e) = Unit {0}
 
 -- A line of k numbers into a slice of so many cells: 8 if it has fewer.
 abbrev pub line_into : Limits → ℕ → List ℕ → ℕ → Reader (List ℕ)

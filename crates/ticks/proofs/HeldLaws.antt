@@ -1,6 +1,7 @@
 -- Times in lanes: what the float operations do with them.
 use Rattle.std.specs.Prelude.{if◌then◌else◌}
-use Rattle.std.proofs.Common.{◌≡◌, ℕ, zero, suc, ◌+◌, ◌*◌, ◌<◌, ◌≤◌, Bool, true, false, T, ltb, List, length, pos, sym, refl, ap, ◌∙◌, subst, ⊎_elim, lt_of_not-le, arith, ltb-false, ltb-true}
+use Rattle.std.proofs.Common.{◌≡◌, ℕ, zero, suc, ◌+◌, ◌*◌, ◌<◌, ◌≤◌, Bool, true, false, T, ltb, List, length}
+use Rattle.std.proofs.Common.{pos, sym, refl, ap, ◌∙◌, subst, ⊎_elim, lt_of_not-le, arith, ltb-false, ltb-true}
 use lib.ListN.{get_or-eq_default}
 use lib.Ieee.{Float, nan, inf, binary64, add, lt, eq, in_signed, to_signed, of_bits, of_int}
 use Rattle.definitions.specs.Times.{Time, tick, never, later, sooner, after}
@@ -11,7 +12,8 @@ use Rattle.definitions.proofs.Bounds.{weaker}
 use Rattle.definitions.proofs.Later.{no_later_self, no_later_then}
 use Rattle.ticks.specs.Floats.{whole, float_of, time_of, Held, lane, lane_time}
 use Rattle.ticks.specs.Lanes.{lesser, greater, sent, least_lane}
-use Rattle.ticks.proofs.Wholes.{Fine, add_whole, mul_whole, lt_whole, never_add, never_lt, lt_never, never_lt_never, time_whole, time_never, to_signed_lem, eq_never, never_eq_never}
+use Rattle.ticks.proofs.Wholes.{Fine, add_whole, mul_whole, lt_whole, never_add, never_lt, lt_never, never_lt_never}
+use Rattle.ticks.proofs.Wholes.{time_whole, time_never, to_signed_lem, eq_never, never_eq_never}
 
 -- A float that is held, with its time.
 abbrev pub Holds : ℕ → Float → Time → Type 0
@@ -119,7 +121,7 @@ module _ {b : ℕ} {x y : Float} {s t : Time} (f : Fine b) (h : Holds b x s) (k 
 -- A float that is held is one of the list.
 not_nan : {b : ℕ} → Held b nan → ⊥
 unfolding time_of
-not_nan h = let e : nan ≡ inf false = h.is in let z : ◌≡◌ {A = ℕ} 0 1 = cc in omega arith
+not_nan h = let e : nan ≡ inf false = h.is in cc
 
 pub held_in : {b : ℕ} (xs : List Float) (p : ℕ) → Held b (lane xs p) → p < length xs
 held_in xs p h = lt_of_not-le (λ (g : length xs ≤ p). not_nan (rw (get_or-eq_default xs nan g) at h))
@@ -152,7 +154,7 @@ is_never never = true
 is_never (tick n) = false
 
 signed_times : (b : ℕ) (t : Time) → Fine b → Within b t → (n : ℕ) → t ≡ tick n → T (in_signed binary64 63 (float_of t)) × (to_signed 63 (float_of t) ≡ pos n) × (n ≤ b)
-signed_times b never f w n e = let z : ◌≡◌ {A = ℕ} 0 1 = cc in absurd (omega arith)
+signed_times b never f w n e = absurd (cc)
 signed_times b (tick m) f w n e = let q = to_signed_lem m (omega arith) 63 (omega arith) in let k : m ≡ n = cc in (q.0, q.1 ∙ ap pos k, omega arith)
 
 pub signed_holds : {b : ℕ} {x : Float} → Fine b → Held b x → (n : ℕ) → time_of x ≡ tick n → T (in_signed binary64 63 x) × (to_signed 63 x ≡ pos n) × (n ≤ b)
@@ -175,7 +177,7 @@ pub never_no : {b : ℕ} {x : Float} → Fine b → Held b x → eq x (inf false
 never_no {b} {x} f h e = by (time_of x) (sym (ap (λ (z : Float). eq z (inf false)) h.is ∙ never_times b (time_of x) f h.most) ∙ e)
   where
     by : (t : Time) → is_never t ≡ false → (n : ℕ) × (t ≡ tick n)
-    by never e = let z : ◌≡◌ {A = ℕ} 0 1 = cc in absurd (omega arith)
+    by never e = absurd (cc)
     by (tick n) e = (n, refl)
 
 -- The literal 0.0.

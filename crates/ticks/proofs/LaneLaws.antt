@@ -1,11 +1,18 @@
 -- What is done on all processors at once, processor by processor; the clocks after a line.
-use Rattle.lists.proofs.Prelude.{◌≡◌, refl, sym, ap, ◌∙◌, ⊎_elim, List, ℕ, zero, suc, ◌+◌, ◌*◌, ◌%◌, ◌^◌, ◌<◌, ◌≤◌, arith, add-one, add-zero, lt-ltb, le-ltb, length, set, take, length-set, get_or-set_same, get_or-set_other, take-suc, nth, sum}
-use lib.Ieee.{Float, nan}
+use Rattle.lists.proofs.Prelude.{◌≡◌, refl, sym, ap, ◌∙◌, ⊎_elim, List, [], ◌∷◌, false, ℕ, zero, suc, ◌+◌, ◌*◌, ◌%◌, ◌^◌, ◌<◌, ◌≤◌, arith}
+use Rattle.lists.proofs.Prelude.{add-one, add-zero, lt-ltb, le-ltb, length, set, take, length-set, get_or-set_same, get_or-set_other}
+use Rattle.lists.proofs.Prelude.{ext_get_or, nth, sum}
+use lib.Ieee.{Float, nan, inf}
 use lib.Seq.{set-get_or}
 use Rattle.lists.proofs.Counting.{last_or_before}
-use Rattle.lists.proofs.Upward.{sum_last}
+use Rattle.std.specs.List.{fold}
+use Rattle.std.specs.Array.{IsFromFnResultFrom}
+use Rattle.std.specs.Fn.{Mut, Called}
+use Rattle.std.proofs.Math.Nat.{eq-or-lt_of_le}
+use Rattle.std.proofs.lemmas.List.Sums.{fold_more}
+use native.Mathlib.Nat.{zero-add}
 use Rattle.ticks.specs.Floats.{lane}
-use Rattle.ticks.specs.Lanes.{lanes, advanced}
+use Rattle.ticks.specs.Lanes.{lanes, lesser, least_lane, advanced}
 
 module _ (f : ℕ → Float → Float) where
   pub length_lanes : (n : ℕ) (xs : List Float) → length (lanes f n xs) ≡ length xs
@@ -41,13 +48,15 @@ module _ (f : ℕ → Float → Float) where
       let v : x ≡ f n (lane xs n) = g ∙ ap (f n) w in
       rw (add-one n, e, v)
 
-  -- All k places are changed.
-  pub lanes_all : (xs : List Float) {ys : List Float} (n : ℕ) {k : ℕ} → ys ≡ lanes f n xs → n ≡ k → ys ≡ lanes f k xs
-  lanes_all xs n e h = e ∙ ap (λ (k : ℕ). lanes f k xs) h
-
   -- What a place is then.
   pub lanes_each : (xs ys : List Float) {k : ℕ} → ys ≡ lanes f k xs → (p : ℕ) → p < k → p < length xs → lane ys p ≡ f p (lane xs p)
   lanes_each xs ys {k} e p g h = ap (λ (l : List Float). lane l p) e ∙ lane_done k xs p g h
+
+  -- A list is that of all places changed, if each place of it is.
+  pub lanes_made : (xs ys : List Float) (k : ℕ) → length ys ≡ k → length xs ≡ k → ((p : ℕ) → p < k → lane ys p ≡ f p (lane xs p))
+      → ys ≡ lanes f k xs
+  lanes_made xs ys k l m h =
+      ext_get_or nan ys (lanes f k xs) (omega (arith, length_lanes k xs)) (λ p b. h p (omega arith) ∙ sym (lane_done k xs p (omega arith) (omega arith)))
 
   -- The k places from n on keep what they hold.
   pub lanes_idle : (xs : List Float) (n k : ℕ) → ((p : ℕ) → n ≤ p → p < n + k → (z : Float) → f p z ≡ z) → lanes f (n + k) xs ≡ lanes f n xs
@@ -59,19 +68,44 @@ module _ (f : ℕ → Float → Float) where
       h (n + k) (omega arith) (omega arith) (lane xs (n + k)) ∙ sym (lane_left (n + k) xs (n + k) (omega arith)) in
       rw (e, v) (set-get_or (lanes f (n + k) xs) (n + k) nan ∙ lanes_idle xs n k (λ p l g. h p l (omega arith)))
 
--- The sum of the first members, with one more, in 64 bits.
-pub total_more : (cells : List ℕ) (q x y : ℕ) → q < length cells → x ≡ sum (take q cells) % 2 ^ 64 → y ≡ (x + nth cells q) % 2 ^ 64
-    → y ≡ sum (take (q + 1) cells) % 2 ^ 64
-total_more cells q x y h e f =
-    let s : sum (take (q + 1) cells) ≡ sum (take q cells) + nth cells q = rw (add-one q, take-suc cells q 0 h) (sum_last (take q cells) (nth cells q)) in
-    omega (arith, s, e, f)
+-- What a closure gave at each place that it was called for, if it gives h there.
+pub given_at : {F : Type 0} (g : Mut F (ℕ × Unit {0}) Float) (f : F) (h : ℕ → Float)
+    → ((i : ℕ) (y : Float) (q : F) → Called g f (i, tt) y q → (q ≡ f) × (y ≡ h i))
+    → (ys : List Float) (n i : ℕ) → IsFromFnResultFrom g f ys i n → (p : ℕ) → i ≤ p → p < i + n → lane ys p ≡ h p
+given_at g f h gives ys zero i made p l b = absurd (omega arith)
+given_at g f h gives ys (suc n) i (q, y, here, call, rest) p l b =
+    let (same, gave) = gives i y q call in
+    ⊎_elim
+    (λ (e : i ≡ p). rw (← e) (here.1 nan ∙ gave))
+    (λ (k : i < p). given_at g f h gives ys n (i + 1) (rw same at rest) p (omega arith) (omega arith))
+    (eq-or-lt_of_le l)
+
+-- The least of the first lanes, one after the other.
+pub least_folded : (n : ℕ) (xs : List Float) → n ≤ length xs → fold (λ x z. lesser z x) (inf false) (take n xs) ≡ least_lane n xs
+unfolding least_lane
+least_folded zero xs h = refl
+least_folded (suc n) xs h =
+    rw (← add-one n, fold_more (λ x z. lesser z x) (inf false) xs n nan (omega arith), least_folded n xs (omega arith))
+
+-- The sum of the cells, one after the other, in 64 bits.
+total_from : (a : ℕ) (cells : List ℕ) → fold (λ x y. (x + y) % 2 ^ 64) (a % 2 ^ 64) cells ≡ (a + sum cells) % 2 ^ 64
+unfolding sum
+total_from a [] = omega arith
+total_from a (x ∷ cells) =
+    let e : (a % 2 ^ 64 + x) % 2 ^ 64 ≡ (a + x) % 2 ^ 64 = omega arith in
+    let f : a + x + sum cells ≡ a + (x + sum cells) = omega arith in
+    rw e (total_from (a + x) cells ∙ ap (λ (n : ℕ). n % 2 ^ 64) f)
+
+pub total_folded : (cells : List ℕ) → fold (λ x y. (x + y) % 2 ^ 64) 0 cells ≡ sum cells % 2 ^ 64
+total_folded cells = total_from 0 cells ∙ rw zero-add
 
 -- The clocks after one replica more, on a processor that has one, or on none.
-module _ (o : ℕ) (cells clocks : List ℕ) {now : List ℕ} (n : ℕ) where
-  pub advanced_yes : nth cells (3 * n) < 16 → now ≡ advanced o n cells clocks → set now (nth cells (3 * n)) (nth cells (3 * n + o) % 2 ^ 32) ≡ advanced o (n + 1) cells clocks
+module _ (o : ℕ) (cells clocks : List ℕ) {now : List ℕ} (n : ℕ) {processor : ℕ} (e : processor ≡ nth cells (3 * n + 0)) where
+  pub advanced_yes : {time : ℕ} → time ≡ nth cells (3 * n + o) → processor < 16 → now ≡ advanced o n cells clocks
+      → set now processor (time % 2 ^ 32) ≡ advanced o (n + 1) cells clocks
   unfolding advanced
-  advanced_yes h e = rw (add-one n, lt-ltb (nth cells (3 * n)) 16 h, e)
+  advanced_yes f h g = rw (add-one n, f, g, e) (rw (add-zero (3 * n), lt-ltb (nth cells (3 * n)) 16 (rw (e, add-zero (3 * n)) at h)))
 
-  pub advanced_no : 16 ≤ nth cells (3 * n) → now ≡ advanced o n cells clocks → now ≡ advanced o (n + 1) cells clocks
+  pub advanced_no : 16 ≤ processor → now ≡ advanced o n cells clocks → now ≡ advanced o (n + 1) cells clocks
   unfolding advanced
-  advanced_no h e = rw (add-one n, le-ltb (nth cells (3 * n)) 16 h, e)
+  advanced_no h g = rw (add-one n, le-ltb (nth cells (3 * n)) 16 (rw (e, add-zero (3 * n)) at h), g)

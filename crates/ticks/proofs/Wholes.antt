@@ -1,5 +1,7 @@
 -- The floats of the whole numbers up to 2 ^ 53: sums, products, comparisons and casts are those of the numbers. The infinity is above them all.
-use Rattle.std.proofs.Common.{◌≡◌, ℕ, ◌+◌, ◌*◌, ◌/◌, ◌^◌, ◌<◌, ◌≤◌, Bool, true, false, T, ltb, ℤ, pos, sym, refl, ap, ◌∙◌, true≢false, mul_assoc, mul_comm, add-mul, lt_of_mul-lt-mul_right, mul-lt-mul_of_pos_right, mul-pos, mul-one, mul-div_cancel, lit<, le→leb, ltb→lt, lt→ltb}
+use Rattle.std.proofs.Common.{◌≡◌, ℕ, ◌+◌, ◌*◌, ◌/◌, ◌^◌, ◌<◌, ◌≤◌, true, false, T, ltb, ℤ, pos, sym, refl, ap, ◌∙◌, true≢false}
+use Rattle.std.proofs.Common.{mul_assoc, mul_comm, add-mul, lt_of_mul-lt-mul_right, mul-lt-mul_of_pos_right, mul-pos, mul-one, mul-div_cancel, lit<, le→leb, lt-ltb, ltb-true}
+use Rattle.std.specs.Cmp.{both_ways}
 use native.Mathlib.Nat.{mul-mul-mul_comm}
 use lib.Ieee.{Float, nan, inf, fin, binary64, up, down, round, sum, add, mul, lt, eq, of_int, to_unsigned, to_signed, in_unsigned, in_signed, in_float}
 use lib.Ieee.Fits.{down_pos}
@@ -51,17 +53,11 @@ module _ (m : ℕ) (e : ℤ) (n : ℕ) (d : ℤ) where
   unfolding lt
   lt_at = refl
 
-same_test : (s t : Bool) → (T s → T t) → (T t → T s) → s ≡ t
-same_test true true f g = refl
-same_test true false f g = absurd (f tt)
-same_test false true f g = absurd (g tt)
-same_test false false f g = refl
-
 ltb_times : (a b c : ℕ) → 0 < c → ltb (a * c) (b * c) ≡ ltb a b
 ltb_times a b c h =
-    same_test (ltb (a * c) (b * c)) (ltb a b)
-    (λ t. lt→ltb a b (lt_of_mul-lt-mul_right c (ltb→lt (a * c) (b * c) t)))
-    (λ t. lt→ltb (a * c) (b * c) (mul-lt-mul_of_pos_right (ltb→lt a b t) h))
+    both_ways (ltb (a * c) (b * c)) (ltb a b)
+    (λ t. lt-ltb a b (lt_of_mul-lt-mul_right c (ltb-true (a * c) (b * c) t)))
+    (λ t. lt-ltb (a * c) (b * c) (mul-lt-mul_of_pos_right (ltb-true a b t) h))
 
 -- Two whole numbers.
 module _ (a b : ℕ) (h : Fine a) (k : Fine b) where

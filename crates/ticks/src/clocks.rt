@@ -25,15 +25,12 @@ impl Clocks {
         ensures early { result.early ≡ advanced 1 (length cells.now / 3) cells.now self.early }
         ensures late { result.late ≡ advanced 2 (length cells.now / 3) cells.now self.late }
     {
-        let n = cells.len() / 3;
-        let mut c = 0;
-        while c < n {
-            let processor = cells[3 * c] as usize;
+        for [processor, early, late] in cells.as_chunks::<3>().0 {
+            let processor = *processor as usize;
             if processor < 16 {
-                self.early[processor] = (cells[3 * c + 1] % 4294967296) as u32;
-                self.late[processor] = (cells[3 * c + 2] % 4294967296) as u32;
+                self.early[processor] = (*early % 4294967296) as u32;
+                self.late[processor] = (*late % 4294967296) as u32;
             }
-            c += 1;
         }
         self
     }

@@ -1,32 +1,19 @@
--- What the checker answers is printed, case by case.
-use Rattle.lists.proofs.Prelude.{[], ◌∷◌, arith, ◌∙◌, bytes, document01, verdict}
-use Rattle.text.proofs.Writing.{place_fits}
+-- What the checker refuses is printed; the check finds what it accepts.
+use Rattle.lists.proofs.Prelude.{[], ◌∷◌, arith, document01, verdict}
 use Rattle.check_plan.proofs.Printed.{shown}
 use Rattle.check_plan.proofs.answer.Goals as goal
 
-pub returns-in-Accepted : goal.returns-in-Accepted
-returns-in-Accepted c =
-    let a = c.args in
-    let pre = c.requires in
-    let both = shown (verdict document01 a.job.now a.plan.now) ([]) a.out.now c.write_fixed.new.out c.write_fixed.result
-    (rw c.in-Accepted.is at c.check.ensures.judged) (omega arith) pre
-    (c.write_fixed.ensures.value ∙ place_fits a.out.now 0 (bytes "OK\n") (omega (arith, pre))) c.write_fixed.ensures.holds in
-    record { by_index = both.0; counted = both.1 }
+pub returns-in-Err-Doubled : goal.returns-in-Err-Doubled
+returns-in-Err-Doubled c =
+    let judged = rw c.in-Err-Doubled.field-0-is at c.in-Err-Doubled.ensures.judged in
+    let (by_index, counted) = shown (verdict document01 c.args.job.now c.args.plan.now) (12 ∷ c.from.result ∷ []) _ _ _ (rw c.from.ensures judged)
+    (omega arith) c.requires c.write_doubled.ensures.value c.write_doubled.ensures.holds in
+    record { by_index = by_index; counted = counted }
 
-pub returns-in-Doubled : goal.returns-in-Doubled
-returns-in-Doubled c =
-    let a = c.args in
-    let pre = c.requires in
-    let both = shown (verdict document01 a.job.now a.plan.now) (12 ∷ c.in-Doubled.t ∷ []) a.out.now c.write_doubled.new.out
-    c.write_doubled.result (rw c.in-Doubled.is at c.check.ensures.judged) (omega arith) pre
-    c.write_doubled.ensures.value c.write_doubled.ensures.holds in
-    record { by_index = both.0; counted = both.1 }
-
-pub returns-in-Refused : goal.returns-in-Refused
-returns-in-Refused c =
-    let a = c.args in
-    let pre = c.requires in
-    let both = shown (verdict document01 a.job.now a.plan.now) (c.in-Refused.x ∷ []) a.out.now c.write_refusal.new.out
-    c.write_refusal.result (rw c.in-Refused.is at c.check.ensures.judged) (omega arith) pre c.write_refusal.ensures.value
-    c.write_refusal.ensures.holds in
-    record { by_index = both.0; counted = both.1 }
+pub returns-in-Err-Refused : goal.returns-in-Err-Refused
+returns-in-Err-Refused c =
+    let judged = rw c.in-Err-Refused.field-0-is at c.in-Err-Refused.ensures.judged in
+    let from = c.from-in-Err-Refused in
+    let (by_index, counted) = shown (verdict document01 c.args.job.now c.args.plan.now) (from.result ∷ []) _ _ _ (rw from.ensures judged)
+    (omega arith) c.requires c.write_refusal.ensures.value c.write_refusal.ensures.holds in
+    record { by_index = by_index; counted = counted }

@@ -2,7 +2,5 @@ use Rattle.lists.proofs.Prelude.{[], ◌∷◌, arith}
 use Rattle.console.proofs.Shown.{refusal_counted}
 use Rattle.console.proofs.write_doubled.Goals as goal
 
-pub returns : goal.returns
-returns c =
-    let args = c.args in
-    record { value = refusal_counted (12 ∷ args.task ∷ []) c.line.result (omega arith) c.line.ensures.value; holds = c.line.ensures.holds }
+pub returns-clause-value : goal.returns-clause-value
+returns-clause-value c = refusal_counted (12 ∷ c.args.task ∷ []) _ (omega arith) c.line.ensures.value

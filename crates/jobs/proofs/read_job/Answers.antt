@@ -1,13 +1,12 @@
--- The head is read, and the memory that its job fits is taken.
-use Rattle.heads.proofs.Capacity.{largest_fits, capacity_fits}
-use Rattle.jobs.proofs.AnswerLaws.{answer_no}
+-- The head is read, and the rest by way of a memory.
+use Rattle.jobs.specs.Answers.{job_answer}
+use Rattle.jobs.proofs.AnswerLaws.{answered_err}
 use Rattle.jobs.proofs.read_job.Goals as goal
 
-pub in_memory-requires : goal.in_memory-requires
-in_memory-requires c =
-    let h = rw c.in-Opened.is at c.read_head.ensures in
-    (h, rw c.capacity_for-capacity.ensures (capacity_fits _ largest_fits _ h.0))
+pub returns-in_err-job : goal.returns-in_err-job
+unfolding job_answer
+returns-in_err-job c = answered_err _ _ _ _ c.from_residual.ensures.1 (rw c.in_err-job.ensures)
 
-pub returns-in-Refused : goal.returns-in-Refused
-returns-in-Refused c =
-    answer_no _ _ c.args.cells.now _ (rw c.in-Refused.is at c.read_head.ensures)
+pub returns : goal.returns
+unfolding job_answer
+returns c = rw c.in_ok-job.ensures.1 c.in_memory.ensures

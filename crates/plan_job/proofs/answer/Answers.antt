@@ -1,23 +1,20 @@
 -- The plan's bytes are printed, or the line of the refusal.
-use Rattle.lists.proofs.Prelude.{arith, length, plan_printed}
+use Rattle.lists.proofs.Prelude.{arith, plan_printed}
 use Rattle.console.proofs.Shown.{shown_done, shown_refusal}
 use Rattle.plan_job.proofs.Printed.{said, plan_printed_lem, all_fits, printed_most}
 use Rattle.plan_job.proofs.answer.Goals as goal
 
-pub returns-in-Done : goal.returns-in-Done
-returns-in-Done c =
-    let a = c.args in
-    let pre = c.requires in
-    let both = shown_done (said a.job.now) (plan_printed a.job.now) a.out.now c.plan.new.out c.in-Done.k (plan_printed_lem a.job.now)
-    (omega (arith, printed_most a.job.now, pre))
-    (rw (c.in-Done.is, all_fits a.job.now (length a.out.now) pre) at c.plan.ensures) in
-    record { value = both.0; holds = both.1.0; counted = both.1.1 }
+pub returns-in-Ok : goal.returns-in-Ok
+returns-in-Ok c =
+    let job = c.args.job.now in
+    let (value, holds, counted) = shown_done (said job) (plan_printed job) _ _ (plan_printed_lem job) (omega (arith, printed_most job, c.requires)) _
+    (rw (all_fits job _ c.requires) at c.in-Ok.ensures) in
+    record { value = value; holds = holds; counted = counted }
 
-pub returns-in-Refusal : goal.returns-in-Refusal
-returns-in-Refusal c =
-    let a = c.args in
-    let pre = c.requires in
-    let both = shown_refusal (said a.job.now) (plan_printed a.job.now) a.out.now c.plan.new.out c.in-Refusal.x (plan_printed_lem a.job.now)
-    (omega (arith, printed_most a.job.now, pre)) (rw (c.in-Refusal.is, all_fits a.job.now (length a.out.now) pre) at c.plan.ensures)
-    c.write_refusal.new.out c.write_refusal.result c.write_refusal.ensures.value c.write_refusal.ensures.holds in
-    record { value = both.0; holds = both.1.0; counted = both.1.1 }
+pub returns-in-Err : goal.returns-in-Err
+returns-in-Err c =
+    let job = c.args.job.now in
+    let (value, holds, counted) = shown_refusal (said job) (plan_printed job) _ _ (plan_printed_lem job) (omega (arith, printed_most job, c.requires)) _
+    (rw (all_fits job _ c.requires) at c.in-Err.ensures) _ _ (rw c.from.ensures at c.write_refusal.ensures.value)
+    (rw c.from.ensures at c.write_refusal.ensures.holds) in
+    record { value = value; holds = holds; counted = counted }

@@ -1,6 +1,5 @@
-use Rattle.lists.proofs.Prelude.{sym, ◌∙◌, arith, leb-true, leb-false, document01, line_text}
+use Rattle.lists.proofs.Prelude.{sym, ◌∙◌, arith, leb-true, document01}
 use Rattle.definitions.proofs.Decimal.{length_line}
-use Rattle.text.proofs.Writing.{written_unfit}
 use Rattle.printing.proofs.WriteLaws.{numbers_room, line_written}
 use Rattle.printing.proofs.line.Goals as goal
 
@@ -20,10 +19,5 @@ returns-then-line_fits c =
     c.write_fixed-at.ensures.value (omega arith) _ _ n.0 n.1 in
     record { value = both.0; holds = both.1 }
 
-pub returns : goal.returns
-returns c = let a = c.args in
-    let h = sym c.line_fits.ensures ∙ c.if-line_fits.false in
-    record {
-      value = rw (length_line document01 a.opening.now a.vals.now) (c.wrapping_add_usize.ensures.value ∙ rw c.numbers_length.ensures);
-      holds = sym (written_unfit a.out.now 0 (line_text document01 a.opening.now a.vals.now) (omega (arith, leb-false, h)));
-    }
+pub returns-clause-value : goal.returns-clause-value
+returns-clause-value c = rw (length_line document01 c.args.opening.now c.args.vals.now, c.numbers_length.ensures)

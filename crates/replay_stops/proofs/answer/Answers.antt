@@ -1,26 +1,24 @@
 -- The R and L lines are printed, or the line of the refusal.
-use Rattle.lists.proofs.Prelude.{arith, length, document01, replayed, replay_printed}
+use Rattle.lists.proofs.Prelude.{arith, document01, replayed, replay_printed}
 use Rattle.console.proofs.Shown.{shown_done, shown_refusal}
 use Rattle.replay_stops.proofs.Longest.{all_fits, replay_printed_lem, printed_most}
 use Rattle.replay_stops.proofs.answer.Goals as goal
 
-pub returns-in-Done : goal.returns-in-Done
-returns-in-Done c =
-    let a = c.args in
-    let pre = c.requires in
-    let both = shown_done (replayed document01 a.job.now a.plan.now a.stops.now) (replay_printed a.job.now a.plan.now a.stops.now)
-    a.out.now c.replay.new.out
-    c.in-Done.n (replay_printed_lem a.job.now a.plan.now a.stops.now) (omega (arith, printed_most a.job.now a.plan.now a.stops.now, pre))
-    (rw (c.in-Done.is, all_fits a.job.now a.plan.now a.stops.now (length a.out.now) pre) at c.replay.ensures.answered) in
-    record { value = both.0; holds = both.1.0; counted = both.1.1 }
+pub returns-in-Ok : goal.returns-in-Ok
+returns-in-Ok c =
+    let job = c.args.job.now in
+    let plan = c.args.plan.now in
+    let stops = c.args.stops.now in
+    let (value, holds, counted) = shown_done (replayed document01 job plan stops) (replay_printed job plan stops) _ _ (replay_printed_lem job plan stops)
+    (omega (arith, printed_most job plan stops, c.requires)) _ (rw (all_fits job plan stops _ c.requires) at c.in-Ok.ensures.answered) in
+    record { value = value; holds = holds; counted = counted }
 
-pub returns-in-Refusal : goal.returns-in-Refusal
-returns-in-Refusal c =
-    let a = c.args in
-    let pre = c.requires in
-    let both = shown_refusal (replayed document01 a.job.now a.plan.now a.stops.now) (replay_printed a.job.now a.plan.now a.stops.now)
-    a.out.now c.replay.new.out
-    c.in-Refusal.x (replay_printed_lem a.job.now a.plan.now a.stops.now) (omega (arith, printed_most a.job.now a.plan.now a.stops.now, pre))
-    (rw (c.in-Refusal.is, all_fits a.job.now a.plan.now a.stops.now (length a.out.now) pre) at c.replay.ensures.answered)
-    c.write_refusal.new.out c.write_refusal.result c.write_refusal.ensures.value c.write_refusal.ensures.holds in
-    record { value = both.0; holds = both.1.0; counted = both.1.1 }
+pub returns-in-Err : goal.returns-in-Err
+returns-in-Err c =
+    let job = c.args.job.now in
+    let plan = c.args.plan.now in
+    let stops = c.args.stops.now in
+    let (value, holds, counted) = shown_refusal (replayed document01 job plan stops) (replay_printed job plan stops) _ _ (replay_printed_lem job plan stops)
+    (omega (arith, printed_most job plan stops, c.requires)) _ (rw (all_fits job plan stops _ c.requires) at c.in-Err.ensures.answered) _ _
+    (rw c.from.ensures at c.write_refusal.ensures.value) (rw c.from.ensures at c.write_refusal.ensures.holds) in
+    record { value = value; holds = holds; counted = counted }

@@ -1,28 +1,25 @@
-use Rattle.lists.proofs.Prelude.{◌≡◌, sym, ◌∙◌, arith, length}
+use Rattle.lists.proofs.Prelude.{sym, ◌∙◌, ap, arith, ◌/◌, ◌<◌, length}
 use Rattle.replicas.specs.Cells.{replicas_of}
+use Rattle.replicas.proofs.ChunkLaws.{replica_on, replica_early}
 use Rattle.replicas.proofs.TwiceLaws.{least_none, least_sooner, least_stays}
 use Rattle.replicas.proofs.first_finish.Goals as goal
-use Rattle.replicas.proofs.first_finish.Goals.{then-x-time, else-x-time}
+use Rattle.replicas.proofs.first_finish.Goals.{then-time-first, else-time-first}
 
-pub loop-c-init : goal.loop-c-init
-loop-c-init c = let (e, f) = least_none c.args.cells.now in (omega arith, sym e, sym f)
+pub loop-processor-init : goal.loop-processor-init
+loop-processor-init c = let (e, f) = least_none c.args.cells.now in (sym e, sym f)
 
-pub loop-c-preserved : goal.loop-c-preserved
-loop-c-preserved c =
-    let d = c.args.cells.now in
-    let l = c.loop-c in (
-      omega (arith, c.loop-c-test.true),
-      elim c.if-x-time.branch [
-        | then-x-time w ↦ w.time-is ∙ (least_sooner d l.c (rw l.invariant.1 at w.if-x-time.true)).0
-        | else-x-time w ↦ w.time-is ∙ l.invariant.1 ∙ (least_stays d l.c (rw l.invariant.1 at w.if-x-time.false)).0
-      ],
-      elim c.if-x-time.branch [
-        | then-x-time w ↦ w.processor-is ∙ (least_sooner d l.c (rw l.invariant.1 at w.if-x-time.true)).1
-        | else-x-time w ↦ w.processor-is ∙ l.invariant.2 ∙ (least_stays d l.c (rw l.invariant.1 at w.if-x-time.false)).1
-      ],
-    )
-
-pub returns : goal.returns
-returns c =
-    let e : c.loop-c.c ≡ replicas_of (length c.args.cells.now) = omega (arith, c.loop-c.invariant.0, c.loop-c-test.false) in
-    record { time = rw e at c.loop-c.invariant.1; processor = rw e at c.loop-c.invariant.2 }
+pub loop-processor-preserved : goal.loop-processor-preserved
+loop-processor-preserved c =
+    let l = c.loop-processor in
+    let cells = c.args.cells.now in
+    let b : l.processor-index < replicas_of (length cells) = omega (arith, c.as_chunks.ensures.front_len) in
+    let on = replica_on (length cells / 3) l.processor-index b cells c.as_chunks.ensures.front in
+    let early = replica_early (length cells / 3) l.processor-index b cells c.as_chunks.ensures.front in
+    elim c.if-time-first.branch [
+      | then-time-first w ↦
+          let (e, f) = least_sooner cells l.processor-index (rw (early, l.invariant.0) at w.if-time-first.true) in
+          (ap (λ (x : _). x.time) w.first-is ∙ early ∙ e, ap (λ (x : _). x.processor) w.first-is ∙ on ∙ f)
+      | else-time-first w ↦
+          let (e, f) = least_stays cells l.processor-index (rw (early, l.invariant.0) at w.if-time-first.false) in
+          (ap (λ (x : _). x.time) w.first-is ∙ l.invariant.0 ∙ e, ap (λ (x : _). x.processor) w.first-is ∙ l.invariant.1 ∙ f)
+    ]

@@ -1,26 +1,16 @@
 -- What the memories hold after both texts were read is what the judgment asks for.
-use Rattle.lists.proofs.Prelude.{refl, length, drop, document01}
-use Rattle.heads.specs.Heads.{head_of}
-use Rattle.jobs.specs.Loading.{job_from}
-use Rattle.plans.specs.Loading.{with_plan}
+use Rattle.lists.proofs.Prelude.{refl, document01}
 use Rattle.plans.proofs.JobAndPlan.{both_no, both_next, both_held}
+use Rattle.rounds.proofs.AnswerLaws.{judged_err}
 use Rattle.rounds.proofs.check_in.Goals as goal
 
 pub judge-requires : goal.judge-requires
-judge-requires c =
-    let a = c.args in
-    let x = job_from document01 a.capacity (length a.mem.now) (length a.links.now) (head_of a.head) (drop a.at a.job.now) in
-    both_held document01 a.capacity x a.plan.now c.load_both.new.mem c.load_both.new.links _ (rw c.in-Next.is at c.load_both.ensures)
+judge-requires c = both_held document01 c.args.capacity _ c.args.plan.now c.load_both.new.mem c.load_both.new.links _ c.in_ok-load_both.ensures
 
-pub returns-in-Next : goal.returns-in-Next
-returns-in-Next c =
-    let a = c.args in
-    let x = with_plan document01 (job_from document01 a.capacity (length a.mem.now) (length a.links.now) (head_of a.head) (drop a.at a.job.now)) a.plan.now in
-    rw (both_next document01 a.capacity c.load_both.new.mem c.load_both.new.links _ x (rw c.in-Next.is at c.load_both.ensures)).0
-    c.judge.ensures
+pub returns : goal.returns
+returns c = rw (both_next document01 c.args.capacity c.load_both.new.mem c.load_both.new.links _ _ c.in_ok-load_both.ensures).0 c.judge.ensures
 
-pub returns-in-Refused : goal.returns-in-Refused
-returns-in-Refused c =
-    let a = c.args in
-    let x = with_plan document01 (job_from document01 a.capacity (length a.mem.now) (length a.links.now) (head_of a.head) (drop a.at a.job.now)) a.plan.now in
-    rw (both_no document01 a.capacity c.load_both.new.mem c.load_both.new.links _ x (rw c.in-Refused.is at c.load_both.ensures)) refl
+pub returns-in_err-load_both : goal.returns-in_err-load_both
+returns-in_err-load_both c =
+    judged_err _ _ _ c.from_residual.ensures.1
+    (rw (both_no document01 c.args.capacity c.load_both.new.mem c.load_both.new.links _ _ c.in_err-load_both.ensures) refl)

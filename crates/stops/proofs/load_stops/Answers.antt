@@ -9,9 +9,6 @@ returns-then-stops-m c = λ j e. stops_short _ _ _ _ j (omega (arith, e, c.if-st
 pub returns-then-s-gt-TEXT_LENGTH : goal.returns-then-s-gt-TEXT_LENGTH
 returns-then-s-gt-TEXT_LENGTH c = λ j e. stops_long _ _ _ _ j (omega (arith, e, c.if-stops-m.false)) c.if-s-gt-TEXT_LENGTH.true
 
-pub read_stop_lines-requires : goal.read_stop_lines-requires
-read_stop_lines-requires c = (omega (arith, c.if-stops-m.false, c.clear.auto.stops), c.clear.ensures)
-
 pub returns : goal.returns
-returns c =
-    λ j e. stops_whole _ _ _ _ j (omega (arith, e, c.if-stops-m.false)) _ c.if-s-gt-TEXT_LENGTH.false (c.read_stop_lines.ensures j e)
+returns c = λ j e.
+    stops_whole _ _ _ _ j (omega (arith, e, c.if-stops-m.false)) _ c.if-s-gt-TEXT_LENGTH.false (rw c.new.ensures at (c.read_stop_lines.ensures j e))

@@ -1,22 +1,16 @@
--- The test says whether the bytes fit.
-use Rattle.lists.proofs.Prelude.{refl, arith}
-use Rattle.text.proofs.Writing.{fits, unfit}
+use Rattle.std.proofs.Common.{rules}
+use Rattle.lists.proofs.Prelude.{◌∙◌, ◌+◌, arith, sym}
+use Rattle.text.proofs.Writing.{copy_next, copy_end, written_fits}
 use Rattle.text.proofs.write_fixed.Goals as goal
 
-pub returns-then-out-at : goal.returns-then-out-at
-returns-then-out-at c =
+pub loop-i-preserved : goal.loop-i-preserved
+loop-i-preserved c =
     let a = c.args in
-    let both = unfit a.out.now a.at a.p.now (omega arith) in
-    record { value = both.0; holds = both.1 }
+    let l = c.loop-i in
+    (search rules, copy_next l.out a.p.now _ (a.at + l.i) l.i l.invariant.1 _ (omega arith) c.loop-i-test.true (omega arith))
 
-pub returns-then-out-at-2 : goal.returns-then-out-at-2
-returns-then-out-at-2 c =
+pub returns-clause-holds : goal.returns-clause-holds
+returns-clause-holds c =
     let a = c.args in
-    let both = unfit a.out.now a.at a.p.now (omega arith) in
-    record { value = both.0; holds = both.1 }
-
-pub returns : goal.returns
-returns c =
-    let a = c.args in
-    let both = fits a.out.now a.at a.p.now (omega arith) _ _ refl c.copy_in.ensures in
-    record { value = both.0; holds = both.1 }
+    let l = c.loop-i in
+    copy_end l.out a.p.now _ (a.at + l.i) l.i l.invariant.1 c.loop-i-test.false ∙ sym (written_fits a.out.now a.at a.p.now (omega arith))

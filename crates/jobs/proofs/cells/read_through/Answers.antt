@@ -1,28 +1,14 @@
--- What load_rest left in the memory is copied, if it fits.
-use Rattle.lists.proofs.Prelude.{◌∙◌, document01, read_job}
-use Rattle.text.specs.declared.Step.TheVariants.{Next}
-use Rattle.jobs.specs.Answers.{Loaded}
-use Rattle.jobs.proofs.AnswerLaws.{loaded_no, loaded_fits, answer_no, answer_short, answer_done}
+-- What load_rest left in the memory is copied to the front.
+use native.Mathlib.Nat.{zero-add}
+use Rattle.lists.proofs.Prelude.{◌≡◌, ℕ, length, take, length-take-le}
+use Rattle.lists.specs.Over.{over}
+use Rattle.jobs.proofs.AnswerLaws.{loaded_fits, answer_done}
 use Rattle.jobs.proofs.cells.read_through.Goals as goal
 
-pub returns-then-cells-n : goal.returns-then-cells-n
-returns-then-cells-n c =
-    let loaded : Loaded (read_job document01 c.args.text.now) c.load_rest.new.mem c.load_rest.new.links (Next c.in-Next.n) =
-    rw c.requires.0.1 (rw c.in-Next.is at c.load_rest.ensures) in
-    answer_short _ _ c.args.cells.now _ _ _ loaded c.if-cells-n.true
-
-pub copy_cells-requires : goal.copy_cells-requires
-copy_cells-requires c =
-    let loaded : Loaded (read_job document01 c.args.text.now) c.load_rest.new.mem c.load_rest.new.links (Next c.in-Next.n) =
-    rw c.requires.0.1 (rw c.in-Next.is at c.load_rest.ensures) in
-    (c.if-cells-n.false, loaded_fits (read_job document01 c.args.text.now) _ _ _ loaded)
-
-pub returns-else-cells-n : goal.returns-else-cells-n
-returns-else-cells-n c =
-    let loaded : Loaded (read_job document01 c.args.text.now) c.load_rest.new.mem c.load_rest.new.links (Next c.in-Next.n) =
-    rw c.requires.0.1 (rw c.in-Next.is at c.load_rest.ensures) in
-    rw c.copy_cells.ensures (answer_done _ _ c.args.cells.now _ _ _ loaded c.if-cells-n.false)
-
-pub returns-in-Refused : goal.returns-in-Refused
-returns-in-Refused c =
-    answer_no _ _ c.args.cells.now _ (c.requires.0.1 ∙ loaded_no _ _ _ _ (rw c.in-Refused.is at c.load_rest.ensures))
+pub returns : goal.returns
+unfolding over
+returns c =
+    let n : ℕ = c.in_ok-n.n in
+    let loaded = c.in_ok-n.ensures in
+    let m : length (take n c.load_rest.new.mem) ≡ n = length-take-le n _ (loaded_fits _ _ _ n loaded) in
+    rw (c.copy_from_slice.ensures.after) (simp (zero-add, m) at (answer_done _ c.args.cells.now n _ _ loaded c.if-cells-n.false))

@@ -4,16 +4,10 @@ use Rattle.jobs.proofs.Held.{sizes}
 use Rattle.plans.proofs.PlanLaws.{strays_not, line_strays, line_rule}
 use Rattle.plans.proofs.plans.check_line.Goals as goal
 
-pub outside_ranges-requires : goal.outside_ranges-requires
-outside_ranges-requires c = ((_, c.requires.0), c.requires.2)
-
 pub returns-then-outside_ranges : goal.returns-then-outside_ranges
 returns-then-outside_ranges c =
     let args = c.args in
     (λ k s. line_strays args.mem.now args.a k s (sym c.if-outside_ranges.true ∙ c.outside_ranges.ensures), λ z. absurd (omega arith))
-
-pub descends-requires : goal.descends-requires
-descends-requires c = let pre = c.requires in ((_, pre.0), pre.2)
 
 pub returns-then-descends : goal.returns-then-descends
 unfolding first_of
@@ -43,15 +37,14 @@ predecessors_placed-requires c =
     let f = sym c.outside_ranges.ensures ∙ c.if-outside_ranges.false in
     (pre.0, pre.1, (strays_not _ args.mem.now args.a f).0)
 
-pub returns-then-predecessors_placed : goal.returns-then-predecessors_placed
+pub returns-then-not-predecessors_placed : goal.returns-then-not-predecessors_placed
 unfolding first_of
-returns-then-predecessors_placed c =
+returns-then-not-predecessors_placed c =
     let args = c.args in
     let f = sym c.if-outside_ranges.false ∙ c.outside_ranges.ensures in
     let d = sym c.descends.ensures ∙ c.if-descends.false in
     let z = sym c.line_of.ensures ∙ c.if-line_of-ne0.false in
-    let h = strays_not _ args.mem.now args.a (sym f) in
-    (λ k s. rw (← line_rule args.mem.now args.a k s f, d, eq-eqb _ 0 z, ← c.predecessors_placed.ensures, c.if-predecessors_placed.true), λ _. (h.0, z, h.1))
+    (λ k s. rw (← line_rule args.mem.now args.a k s f, d, eq-eqb _ 0 z, ← c.predecessors_placed.ensures, c.if-not-predecessors_placed.true), λ z. absurd (omega arith))
 
 pub returns : goal.returns
 unfolding first_of
@@ -60,4 +53,5 @@ returns c =
     let f = sym c.if-outside_ranges.false ∙ c.outside_ranges.ensures in
     let d = sym c.descends.ensures ∙ c.if-descends.false in
     let z = sym c.line_of.ensures ∙ c.if-line_of-ne0.false in
-    (λ k s. rw (← line_rule args.mem.now args.a k s f, d, eq-eqb _ 0 z, ← c.predecessors_placed.ensures, c.if-predecessors_placed.false), λ z. absurd (omega arith))
+    let h = strays_not _ args.mem.now args.a (sym f) in
+    (λ k s. rw (← line_rule args.mem.now args.a k s f, d, eq-eqb _ 0 z, ← c.predecessors_placed.ensures, c.if-not-predecessors_placed.false), λ _. (h.0, z, h.1))

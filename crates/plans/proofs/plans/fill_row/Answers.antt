@@ -7,20 +7,17 @@ use Rattle.plans.proofs.plans.fill_row.Goals as goal
 pub line_cells-n-requires : goal.line_cells-n-requires
 line_cells-n-requires c = let s = sizes c.requires.0.job in (omega arith, s.losses_most)
 
-pub row_at-a-requires : goal.row_at-a-requires
-row_at-a-requires c = let pre = c.requires in omega (arith, row_within pre.0 pre.1)
-
-pub overflow_add-b : goal.overflow_add-b
-overflow_add-b c =
+pub overflow_add-a : goal.overflow_add-a
+overflow_add-a c =
     let pre = c.requires in
     omega (arith, row_numbers pre.0, row_within pre.0 pre.1, c.line_cells-n.ensures, c.row_at-a.ensures)
 
-pub slice_bounds-read_line-end-2 : goal.slice_bounds-read_line-end-2
-slice_bounds-read_line-end-2 c =
+pub slice_bounds-line-end-2 : goal.slice_bounds-line-end-2
+slice_bounds-line-end-2 c =
     let pre = c.requires in
     omega (arith, row_numbers pre.0, row_within pre.0 pre.1, c.line_cells-n.ensures, c.row_at-a.ensures)
 
 pub returns : goal.returns
 returns c =
-    row_filled c.requires.0 c.requires.1 _ _ c.row_at-a.ensures c.line_cells-n.ensures c.read_line.new.vals c.read_line.auto.vals
-    c.args.s.now c.args.at c.read_line.result c.read_line.ensures.result_after
+    row_filled c.requires.0 c.requires.1 _ _ c.row_at-a.ensures c.line_cells-n.ensures c.line.new.vals c.line.auto.vals
+    c.args.reader.now c.line.new.self c.line.result c.line.ensures.read

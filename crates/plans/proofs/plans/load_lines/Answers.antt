@@ -1,54 +1,30 @@
 -- The table of lines is cleared, the lines are read, and then M* and M are stored.
-use Rattle.lists.proofs.Prelude.{arith, length-set}
-use Rattle.jobs.proofs.Held.{sizes, links_kept}
-use Rattle.plans.proofs.PlanText.{cleared_standing, read_kept, lines_bad, lines_left_over, lines_good}
+use Rattle.lists.proofs.Prelude.{sym, ◌∙◌, arith}
+use Rattle.jobs.proofs.Held.{links_kept}
+use Rattle.text.proofs.Refusals.{handed}
+use Rattle.plans.proofs.PlanText.{cleared_standing, all_read, lines_bad, lines_left_over, lines_good}
 use Rattle.plans.proofs.plans.load_lines.Goals as goal
-
-pub clear_lines-requires : goal.clear_lines-requires
-clear_lines-requires c = c.requires.0.size
 
 pub read_plan_lines-requires : goal.read_plan_lines-requires
 read_plan_lines-requires c =
-    let pre = c.requires in
-    let clear = c.clear_lines.ensures in
-    (cleared_standing pre.0 clear.0 clear.1, links_kept pre.0 clear.0 (omega arith) pre.1)
+    let (job, links) = c.requires in
+    let (kept, none) = c.clear_lines.ensures in
+    (cleared_standing job kept none, links_kept job kept (omega arith) links)
 
-pub returns-then-p-s : goal.returns-then-p-s
-returns-then-p-s c =
-    let clear = c.clear_lines.ensures in
-    let args = c.args in (
-      read_kept c.requires.0 clear.0 args.s.now args.at c.read_plan_lines.result c.read_plan_lines.ensures.0 c.read_plan_lines.ensures.1,
-      lines_left_over c.requires.0 clear.0 args.s.now args.at c.read_plan_lines.result c.read_plan_lines.ensures.0
-          c.read_plan_lines.ensures.1 _ _ _ c.in-Next.is c.if-p-s.true,
-    )
+pub returns-in_err-read_plan_lines : goal.returns-in_err-read_plan_lines
+returns-in_err-read_plan_lines c =
+    let (kept, answer, _) = c.read_plan_lines.ensures in
+    let u = all_read c.requires.0 c.clear_lines.ensures.0 kept answer in
+    rw (handed _ _ c.from_residual.ensures.1) (u.kept, lines_bad u c.args.lower c.args.upper _ c.in_err-read_plan_lines.was)
 
-pub bounds-mem-capacity : goal.bounds-mem-capacity
-bounds-mem-capacity c =
-    let read = c.read_plan_lines.ensures in
-    let clear = c.clear_lines.ensures in
-    let w = sizes c.requires.0 in
-    omega (arith, read.0.size, clear.0.size, w.size, w.some_task, w.tasks_most)
+pub returns-then-not-is_at_end : goal.returns-then-not-is_at_end
+returns-then-not-is_at_end c =
+    let (kept, answer, _) = c.read_plan_lines.ensures in
+    let u = all_read c.requires.0 c.clear_lines.ensures.0 kept answer in
+    (u.kept, lines_left_over u c.args.lower c.args.upper _ c.in_ok-read_plan_lines.was (sym c.is_at_end.ensures ∙ c.if-not-is_at_end.true))
 
-pub bounds-mem-capacity-in-Next : goal.bounds-mem-capacity-in-Next
-bounds-mem-capacity-in-Next c =
-    let read = c.read_plan_lines.ensures in
-    let clear = c.clear_lines.ensures in
-    let w = sizes c.requires.0 in
-    simp length-set (omega (arith, read.0.size, clear.0.size, w.size, w.some_task, w.tasks_most))
-
-pub returns-else-p-s : goal.returns-else-p-s
-returns-else-p-s c =
-    let clear = c.clear_lines.ensures in
-    let args = c.args in
-    lines_good c.requires.0 clear.0 args.s.now args.at c.read_plan_lines.result c.read_plan_lines.ensures.0 c.read_plan_lines.ensures.1
-    args.lower args.upper _
-    c.in-Next.is c.if-p-s.false (c.read_plan_lines.ensures.2 _ c.in-Next.is)
-
-pub returns-in-Refused : goal.returns-in-Refused
-returns-in-Refused c =
-    let clear = c.clear_lines.ensures in
-    let args = c.args in (
-      read_kept c.requires.0 clear.0 args.s.now args.at c.read_plan_lines.result c.read_plan_lines.ensures.0 c.read_plan_lines.ensures.1,
-      lines_bad c.requires.0 clear.0 args.s.now args.at c.read_plan_lines.result c.read_plan_lines.ensures.0 c.read_plan_lines.ensures.1 _
-          _ _ c.in-Refused.is,
-    )
+pub returns : goal.returns
+returns c =
+    let (kept, answer, standing) = c.read_plan_lines.ensures in
+    let u = all_read c.requires.0 c.clear_lines.ensures.0 kept answer in
+    lines_good u c.args.lower c.args.upper _ c.in_ok-read_plan_lines.was (sym c.is_at_end.ensures ∙ c.if-not-is_at_end.false) (standing c.in_ok-read_plan_lines.was)

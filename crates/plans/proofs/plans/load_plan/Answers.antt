@@ -1,7 +1,7 @@
 -- The head is read, then the lines.
-use Rattle.lists.proofs.Prelude.{◌≡◌, ◌∙◌, arith}
-use Rattle.lines.proofs.LineLaws.{line_reading}
+use Rattle.lists.proofs.Prelude.{document01}
 use Rattle.lists.proofs.Kept.{kept_all}
+use Rattle.text.proofs.Refusals.{handed}
 use Rattle.plans.proofs.PlanText.{plan_long, plan_head_bad, plan_head_no, plan_next}
 use Rattle.plans.proofs.plans.load_plan.Goals as goal
 
@@ -10,42 +10,22 @@ returns-then-s-gt-TEXT_LENGTH c =
     let args = c.args in
     (kept_all, plan_long _ args.mem.now args.s.now _ args.mem.now c.if-s-gt-TEXT_LENGTH.true)
 
-pub returns-then-x-gt0 : goal.returns-then-x-gt0
-returns-then-x-gt0 c =
-    let args = c.args in
-    let if1 = c.if-s-gt-TEXT_LENGTH in
-    let d = args.mem.now in
-    let s = args.s.now in
-    let ys = c.read_line.new.vals in (
-      kept_all,
-      plan_head_no _ d s if1.false ys c.in-Next.p
-          (line_reading _ 5 _ 5 _ s ys _ _ c.read_line.ensures.result_after (omega arith) c.in-Next.is) _ d _
-          c.head_refusal-x.ensures c.if-x-gt0.true,
-    )
+pub returns-in_err-line : goal.returns-in_err-line
+returns-in_err-line c =
+    let d = c.args.mem.now in
+    let head = rw c.new-reader.ensures at c.line.ensures.read in
+    rw (handed _ _ c.from_residual.ensures.1) (kept_all, plan_head_bad document01 d _ c.if-s-gt-TEXT_LENGTH.false c.line.new.vals _ head _ d _ c.in_err-line.was)
 
-pub load_lines-requires : goal.load_lines-requires
-load_lines-requires c = c.requires
+pub returns-in_err-check_head : goal.returns-in_err-check_head
+returns-in_err-check_head c =
+    let d = c.args.mem.now in
+    let head = rw c.new-reader.ensures at c.line.ensures.read in
+    rw (handed _ _ c.from_residual-in_err-check_head.ensures.1)
+    (kept_all, plan_head_no document01 d _ c.if-s-gt-TEXT_LENGTH.false c.line.new.vals _ head _ c.in_ok-line.was _ d _ c.in_err-check_head.ensures)
 
-pub returns-else-x-gt0 : goal.returns-else-x-gt0
-returns-else-x-gt0 c =
-    let args = c.args in
-    let if1 = c.if-s-gt-TEXT_LENGTH in
-    let if2 = c.if-x-gt0 in
-    let d = args.mem.now in
-    let s = args.s.now in
-    let ys = c.read_line.new.vals in
-    let z : 0 ≡ c.head_refusal-x.result = omega (arith, if2.false) in (
-      c.load_lines.ensures.0,
-      rw (plan_next _ d s if1.false ys c.in-Next.p
-          (line_reading _ 5 _ 5 _ s ys _ _ c.read_line.ensures.result_after (omega arith) c.in-Next.is)
-          (z ∙ c.head_refusal-x.ensures)) c.load_lines.ensures.1,
-    )
-
-pub returns-in-Refused : goal.returns-in-Refused
-returns-in-Refused c =
-    let args = c.args in
-    let if1 = c.if-s-gt-TEXT_LENGTH in
-    let d = args.mem.now in
-    let s = args.s.now in
-    let ys = c.read_line.new.vals in
-    (kept_all, plan_head_bad _ d s if1.false _ d _ (line_reading _ 5 _ 5 _ s ys _ _ c.read_line.ensures.result_after (omega arith) c.in-Refused.is))
+pub returns : goal.returns
+returns c =
+    let d = c.args.mem.now in
+    let head = rw c.new-reader.ensures at c.line.ensures.read in
+    let (kept, loaded) = c.load_lines.ensures in
+    (kept, rw (plan_next document01 d _ c.if-s-gt-TEXT_LENGTH.false c.line.new.vals _ head _ c.in_ok-line.was c.in_ok-check_head.ensures) loaded)

@@ -1,34 +1,30 @@
-use Rattle.lists.proofs.Prelude.{◌≡◌, sym, ◌∙◌, ⊎_elim, ◌-◌, arith}
-use Rattle.lists.proofs.Counting.{equal_or_not}
+use Rattle.lists.proofs.Prelude.{◌≡◌, ◌+◌, ◌≤◌, true, false, refl, arith, rules, sub-zero, length, nth, document01}
+use Rattle.std.proofs.lemmas.Iterator.{serves_from_Range, cases_from_any, YieldsList-from_range}
+use Rattle.heads.specs.Layout.{replica_end}
 use Rattle.jobs.proofs.Held.{sizes}
-use Rattle.plans.proofs.PlanLaws.{strays_task, strays_here, strays_none}
+use Rattle.plans.specs.Lines.{replica_strays}
+use Rattle.plans.proofs.PlanLaws.{any_below, strays_task, strays_by}
 use Rattle.plans.proofs.plans.outside_ranges.Goals as goal
 
 pub returns-then-mem-a : goal.returns-then-mem-a
 returns-then-mem-a c = strays_task _ _ _ c.if-mem-a.true
 
-pub overflow_add-c : goal.overflow_add-c
-overflow_add-c c = let s = sizes c.requires.0.1 in omega arith
+pub overflow_add-w : goal.overflow_add-w
+overflow_add-w c = let s = sizes c.requires.0.1 in omega arith
 
-pub loop-c-init : goal.loop-c-init
-loop-c-init c = (omega arith, λ i g h. absurd (omega arith))
-
-pub replica_outside-requires : goal.replica_outside-requires
-replica_outside-requires c =
-    let pre = c.requires in
-    let s = sizes pre.0.1 in
-    (omega arith, omega arith)
-
-pub returns-then-replica_outside : goal.returns-then-replica_outside
-returns-then-replica_outside c =
-    let loop = c.loop-c in
-    strays_here _ _ _ c.if-mem-a.false (loop.c - 1) (omega arith) (sym c.replica_outside.ensures ∙ c.if-replica_outside.true)
-
-pub loop-c-preserved : goal.loop-c-preserved
-loop-c-preserved c =
-    let loop = c.loop-c in
-    let here = sym c.replica_outside.ensures ∙ c.if-replica_outside.false in
-    (omega arith, λ i g h. ⊎_elim (λ (e : i ≡ loop.c - 1). rw e here) (λ (e : i ≡ loop.c - 1 → ⊥). loop.invariant.1 i (omega arith) h) (equal_or_not i (loop.c - 1)))
+pub any-requires-clause-callable : goal.any-requires-clause-callable
+any-requires-clause-callable c =
+    serves_from_Range (λ x q k. search rules)
+    (λ x g h.
+    let s = sizes c.requires.0.1 in
+    let row : replica_end c.args.a x ≤ length c.args.mem.now = omega arith in
+    let sizes : 4 ≤ length c.args.mem.now = omega arith in
+    search rules)
 
 pub returns : goal.returns
-returns c = strays_none _ _ _ c.if-mem-a.false (λ i h. c.loop-c.invariant.1 i (omega arith) h)
+returns c =
+    let mem = c.args.mem.now in
+    let w = nth mem 3 + 1 in
+    strays_by document01 mem c.args.a c.if-mem-a.false c.any.result
+    (any_below _ _ w c.any.result (cases_from_any _ _ _ (λ i. replica_strays document01 c.args.a i mem ≡ true) (λ i. replica_strays document01 c.args.a i mem ≡ false)
+    c.any.ensures.ran (YieldsList-from_range 0 w w refl (sub-zero _)) (λ x q k. search rules) (λ x q k. search rules)))

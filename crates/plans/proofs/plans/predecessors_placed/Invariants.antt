@@ -1,10 +1,7 @@
 -- All tasks that the edges passed leave have lines.
-use Rattle.lists.proofs.Prelude.{◌-◌, document01}
+use Rattle.lists.proofs.Prelude.{document01}
 use Rattle.plans.proofs.PlanLaws.{Lined}
 use Rattle.plans.proofs.plans.predecessors_placed.Given as goal
 
 abbrev pub invariant-loop-k : goal.invariant-loop-k
-invariant-loop-k l = Lined document01 l.capacity l.t l.mem l.links l.initial.k l.end l.k
-
-abbrev pub decreases-loop-k : goal.decreases-loop-k
-decreases-loop-k l = l.end - l.k
+invariant-loop-k l = Lined document01 l.capacity l.t l.mem l.links l.initial.k l.k-end l.k

@@ -1,24 +1,24 @@
-use Rattle.std.proofs.Common.{rules}
-use Rattle.lists.proofs.Prelude.{ap, List, ℕ, arith, length, get_or, document01}
-use Rattle.definitions.proofs.Decimal.{width_powers}
-use Rattle.printing.proofs.WriteLaws.{numbers_most, length_next, text_end}
+use Rattle.std.proofs.Common.{rules, tests}
+use Rattle.std.proofs.iter.Serving.{serving}
+use Rattle.std.proofs.lemmas.Iterator.{YieldsList-from_slice, YieldsList-from_map}
+use Rattle.std.proofs.lemmas.Iterator.Adapters.{fits_from_length, at_most_from_yields_List}
+use Rattle.std.proofs.lemmas.Iterator.Consumers.{sum_by_from_yields_List}
+use Rattle.lists.proofs.Prelude.{◌∙◌, ℕ, ◌+◌, ◌^◌, arith, width, document01}
+use Rattle.printing.proofs.WriteLaws.{width_few, numbers_summed}
 use Rattle.printing.proofs.writer.numbers_length.Goals as goal
 
-pub overflow_add-n : goal.overflow_add-n
-overflow_add-n c =
-    let given : List ℕ = c.args.vals.now in
-    omega (arith, c.width_of.ensures, width_powers document01 (get_or given c.loop-i.i 0) (omega arith))
+pub sum-requires-clause-can : goal.sum-requires-clause-can
+sum-requires-clause-can c = grind (serving, width_few)
 
-pub overflow_add-n-in-loop-i : goal.overflow_add-n-in-loop-i
-overflow_add-n-in-loop-i c =
-    let given : List ℕ = c.args.vals.now in
-    let i = c.loop-i.i in
-    omega (arith, c.width_of.ensures, length_next document01 given i c.loop-i-test.true, numbers_most document01 (omega arith) given)
-
-pub loop-i-preserved : goal.loop-i-preserved
-loop-i-preserved c =
-    let given : List ℕ = c.args.vals.now in
-    (search rules, omega (arith, c.width_of.ensures, length_next document01 given c.loop-i.i c.loop-i-test.true))
+-- Fewer than 2 ^ 60 numbers, of 11 bytes each at most.
+pub sum-requires-clause-fits : goal.sum-requires-clause-fits
+sum-requires-clause-fits c =
+    let numbers = YieldsList-from_slice c.args.vals.now cc in
+    fits_from_length _ _ (2 ^ 60) (2 ^ 64) (at_most_from_yields_List numbers (omega arith)) c.map.ensures.closure (omega arith) (λ x r q k. grind (serving, width_few))
 
 pub returns : goal.returns
-returns c = let s = c.args.vals.now in let i = c.loop-i.i in let e = ap length (text_end document01 s i c.loop-i-test.false) in omega arith
+returns c =
+    let vals = c.args.vals.now in
+    let taken = λ (x : ℕ). width document01 x + 1 in
+    sum_by_from_yields_List taken vals _ c.sum.result c.sum.ensures.ran
+    (YieldsList-from_map _ taken (YieldsList-from_slice vals cc) c.map.ensures.closure (λ x r q k. search (rules, tests))) ∙ numbers_summed document01 vals

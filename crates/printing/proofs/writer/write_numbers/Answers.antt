@@ -1,21 +1,11 @@
-use Rattle.std.proofs.Common.{rules}
-use Rattle.lists.proofs.Prelude.{refl, sym, ap, ◌∙◌, arith, length, length-set, document01}
+use Rattle.lists.proofs.Prelude.{sym, ap, ◌∙◌, arith, length, document01}
 use Rattle.lists.specs.Over.{over}
 use Rattle.lists.proofs.Over.{over_nil}
 use Rattle.printing.proofs.WriteLaws.{text_end, turn}
 use Rattle.printing.proofs.writer.write_numbers.Goals as goal
 
-pub loop-i-init : goal.loop-i-init
-loop-i-init c = (search rules, refl, refl, refl, refl)
-
 pub bounds-out-p : goal.bounds-out-p
 bounds-out-p c =
-    let l = c.loop-i in
-    let s = c.args.vals.now in
-    omega (arith, turn document01 s l.i c.loop-i-test.true l.out l.p (omega arith) _ _ c.write_number-p.ensures.holds c.write_number-p.ensures.value)
-
-pub overflow_add-p : goal.overflow_add-p
-overflow_add-p c =
     let l = c.loop-i in
     let s = c.args.vals.now in
     omega (arith, turn document01 s l.i c.loop-i-test.true l.out l.p (omega arith) _ _ c.write_number-p.ensures.holds c.write_number-p.ensures.value)
@@ -26,10 +16,10 @@ loop-i-preserved c =
     let s = c.args.vals.now in
     let t = turn document01 s l.i c.loop-i-test.true l.out l.p (omega arith) _ _ c.write_number-p.ensures.holds
     c.write_number-p.ensures.value in
-    (search rules, refl, simp length-set (t.1 ∙ l.invariant.2), t.0 ∙ l.invariant.3, t.2 c.mark_after.result c.mark_after.ensures ∙ l.invariant.4)
+    (t.0 ∙ l.invariant.0, t.2 c.mark_after.result c.mark_after.ensures ∙ l.invariant.1)
 
 pub returns : goal.returns
 returns c =
     let s = c.args.vals.now in let l = c.loop-i in
     let e = text_end document01 s l.i (omega arith) in
-    (omega (arith, ap length e), sym (over_nil l.out l.p) ∙ ap (over l.out l.p) (sym e) ∙ l.invariant.4)
+    (omega (arith, ap length e), sym (over_nil l.out l.p) ∙ ap (over l.out l.p) (sym e) ∙ l.invariant.1)

@@ -1,9 +1,7 @@
-use Rattle.lists.proofs.Prelude.{◌≡◌, [], ◌≤◌, ◌-◌}
+-- None of the lines passed has neighbours on one processor.
+use Rattle.lists.proofs.Prelude.{◌≡◌, []}
 use Rattle.replicas.specs.Cells.{first_twice}
 use Rattle.replicas.proofs.twice.first_twice.Given as goal
 
-abbrev pub invariant-loop-k : goal.invariant-loop-k
-invariant-loop-k l = (l.k ≤ l.n) × (first_twice l.w l.k l.lines ≡ [])
-
-abbrev pub decreases-loop-k : goal.decreases-loop-k
-decreases-loop-k l = l.n - l.k
+abbrev pub invariant-loop-row : goal.invariant-loop-row
+invariant-loop-row l = first_twice l.w l.row-index l.lines ≡ []

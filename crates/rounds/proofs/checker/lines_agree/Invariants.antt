@@ -1,5 +1,5 @@
 -- The ticks of the lines passed are the equations', the clocks are those after them and the table has their ends.
-use Rattle.lists.proofs.Prelude.{◌≡◌, ℕ, ◌≤◌, ◌<◌, ◌-◌, length, document01}
+use Rattle.lists.proofs.Prelude.{ℕ, ◌<◌, document01}
 use Rattle.rounds.specs.Schedule.{ShortTo}
 use Rattle.rounds.specs.Arrivals.{Ended}
 use Rattle.rounds.specs.Checking.{ClocksAfter, LineAgrees}
@@ -7,8 +7,5 @@ use Rattle.rounds.proofs.checker.lines_agree.Given as goal
 
 abbrev pub invariant-loop-k : goal.invariant-loop-k
 invariant-loop-k l =
-    (l.k ≤ l.v) × ((i : ℕ) → i < l.k → LineAgrees l.capacity i l.mem) × ShortTo document01 l.capacity l.k l.mem × ClocksAfter l.capacity l.k l.mem l.clocks
-    × Ended document01 l.capacity l.k l.mem l.ends × (length l.ends ≡ length l.initial.ends)
-
-abbrev pub decreases-loop-k : goal.decreases-loop-k
-decreases-loop-k l = l.v - l.k
+    ((i : ℕ) → i < l.k → LineAgrees l.house.capacity i l.mem) × ShortTo document01 l.house.capacity l.k l.mem × ClocksAfter l.house.capacity l.k l.mem l.clocks
+    × Ended document01 l.house.capacity l.k l.mem l.ends

@@ -1,5 +1,5 @@
 -- x is the largest over the edges passed.
-use Rattle.lists.proofs.Prelude.{◌≡◌, ◌≤◌, ◌-◌, ◌+◌, outgoing, tick, document01}
+use Rattle.lists.proofs.Prelude.{◌≡◌, ◌≤◌, ◌+◌, outgoing, tick, document01}
 use Rattle.orders.proofs.Walk.{Passed}
 use Rattle.jobs.specs.Held.{job_in}
 use Rattle.rounds.specs.Levels.{sent, sent_most, level_most}
@@ -10,7 +10,4 @@ abbrev pub invariant-loop-k : goal.invariant-loop-k
 invariant-loop-k l =
     Passed (l.g + l.initial.k) (l.g + l.k-end) l.mem (outgoing (job_in l.mem) l.t) (l.g + l.k)
     × (l.x ≤ sent_most document01 + level_most document01)
-    × (tick l.x ≡ gathered (λ e. tick (sent l.capacity l.mem e)) (l.g + l.initial.k) l.mem (l.g + l.k))
-
-abbrev pub decreases-loop-k : goal.decreases-loop-k
-decreases-loop-k l = l.k-end - l.k
+    × (tick l.x ≡ gathered (λ e. tick (sent l.house.capacity l.mem e)) (l.g + l.initial.k) l.mem (l.g + l.k))

@@ -1,11 +1,8 @@
 -- The row's sum, times the other processors.
 use Rattle.lists.proofs.Prelude.{◌∙◌, arith}
 use Rattle.jobs.proofs.Held.{sizes}
-use Rattle.rounds.proofs.RowSums.{scaled_one, scaled_more, scaled_fits}
+use Rattle.rounds.proofs.RowSums.{scaled_one, scaled_more}
 use Rattle.rounds.proofs.levels.scaled_run.Goals as goal
-
-pub row_total-x-requires : goal.row_total-x-requires
-row_total-x-requires c = let pre = c.requires in (pre.0, omega (arith, pre.1))
 
 pub returns-then-m-eq1 : goal.returns-then-m-eq1
 returns-then-m-eq1 c =
@@ -13,10 +10,6 @@ returns-then-m-eq1 c =
 
 pub overflow_sub-result : goal.overflow_sub-result
 overflow_sub-result c = let s = sizes c.requires.0.1 in omega arith
-
-pub overflow_mul-result : goal.overflow_mul-result
-overflow_mul-result c =
-    rw c.row_total-x.ensures.0 (omega (arith, scaled_fits c.args.mem.now c.requires.0.1 c.args.t c.requires.1))
 
 pub returns : goal.returns
 returns c =

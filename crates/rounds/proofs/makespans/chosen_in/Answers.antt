@@ -1,35 +1,31 @@
-use Rattle.std.proofs.Common.{rules}
-use Rattle.lists.proofs.Prelude.{◌≡◌, ◌+◌, arith, nth}
+use Rattle.lists.proofs.Prelude.{◌≡◌, [], ◌+◌, arith, nth}
 use Rattle.jobs.proofs.Held.{sizes}
+use Rattle.ticks.specs.Cells.{time_in}
+use Rattle.rounds.specs.Schedule.{choice_of}
+use Rattle.rounds.proofs.TimeLaws.{none_late, none_early}
 use Rattle.rounds.proofs.MakespanLaws.{chosen_first, chosen_next}
 use Rattle.rounds.proofs.makespans.chosen_in.Goals as goal
-
-pub bounds-mem-3 : goal.bounds-mem-3
-bounds-mem-3 c = let s = sizes c.requires.0.1 in omega arith
-
-pub overflow_add-w : goal.overflow_add-w
-overflow_add-w c = let s = sizes c.requires.0.1 in omega arith
+use Rattle.rounds.proofs.makespans.chosen_in.Goals.{then-late, else-late}
 
 pub loop-c-init : goal.loop-c-init
 loop-c-init c =
-    let args = c.args in
-    (search rules, (sizes c.requires.0.1).losses_most, chosen_first args.late args.a args.mem.now c.chosen_of_none-acc.result c.chosen_of_none-acc.ensures)
+    let a = c.args in
+    let x = c.if-late.acc in
+    let none : time_in x ≡ choice_of a.late [] = elim c.if-late.branch [
+      | then-late w ↦ rw (w.acc-is, w.if-late.true) none_late
+      | else-late w ↦ rw (w.acc-is, w.if-late.false) none_early
+    ] in
+    ((sizes c.requires.0.1).losses_most, chosen_first a.late a.a a.mem.now x none)
 
-pub time_at-requires : goal.time_at-requires
-time_at-requires c = omega (arith, c.requires.1, c.loop-c.invariant.1, c.loop-c-test.true)
-
-pub overflow_add-c : goal.overflow_add-c
-overflow_add-c c = let s = sizes c.requires.0.1 in omega arith
-
-pub loop-c-smaller : goal.loop-c-smaller
-loop-c-smaller c = let s = sizes c.requires.0.1 in omega arith
+pub overflow_add-c-end : goal.overflow_add-c-end
+overflow_add-c-end c = let s = sizes c.requires.0.1 in omega arith
 
 pub loop-c-preserved : goal.loop-c-preserved
 loop-c-preserved c =
     let a = c.args in let l = c.loop-c in
-    (search rules, l.invariant.1, chosen_next a.late a.a a.mem.now l.c _ l.acc c.chosen_of-acc.result c.time_at.ensures l.invariant.2 c.chosen_of-acc.ensures.result_value)
+    (l.invariant.0, chosen_next a.late a.a a.mem.now l.c _ l.acc c.chosen_of-acc.result c.time_at.ensures l.invariant.1 c.chosen_of-acc.ensures.result_value)
 
 pub returns : goal.returns
 returns c =
     let loop = c.loop-c in
-    let e : loop.c ≡ nth c.args.mem.now 3 + 1 = omega arith in rw (← e) loop.invariant.2
+    let e : loop.c ≡ nth c.args.mem.now 3 + 1 = omega (arith, loop.auto.c-end, c.loop-c-test.false) in rw (← e) loop.invariant.1

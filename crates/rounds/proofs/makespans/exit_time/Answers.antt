@@ -16,11 +16,6 @@ row_of-requires c =
     let pre = c.requires in
     let (a, b, _) = cells_of_task pre.0 c.args.t pre.2 in (omega (arith, sizes pre.0.job, pre.2), a, omega (arith, b))
 
-pub chosen_in-requires : goal.chosen_in-requires
-chosen_in-requires c =
-    let pre = c.requires in
-    ((_, pre.0.job), rw c.row_of.ensures (cells_of_task pre.0 c.args.t pre.2).1)
-
 pub returns : goal.returns
 returns c =
     let args = c.args in

@@ -1,10 +1,6 @@
 -- acc is the largest end of the tasks passed.
-use Rattle.lists.proofs.Prelude.{◌≤◌, ◌-◌}
 use Rattle.rounds.proofs.MakespanLaws.{Ending}
 use Rattle.rounds.proofs.makespans.makespan_of.Given as goal
 
 abbrev pub invariant-loop-t : goal.invariant-loop-t
-invariant-loop-t l = (l.t ≤ l.v) × Ending l.capacity l.late l.mem l.acc l.t
-
-abbrev pub decreases-loop-t : goal.decreases-loop-t
-decreases-loop-t l = l.v - l.t
+invariant-loop-t l = Ending l.house.capacity l.late l.house.mem.now l.acc l.t

@@ -1,5 +1,5 @@
 -- k lines are drawn up, what is left to place gives the rest of the plan, and the free tasks are listed.
-use Rattle.lists.proofs.Prelude.{◌≡◌, [], ◌≤◌, ◌-◌, length, document01, nth}
+use Rattle.lists.proofs.Prelude.{[], document01}
 use Rattle.heads.specs.Layout.{memory_size, level_at}
 use Rattle.jobs.specs.Held.{job_in}
 use Rattle.lists.specs.Kept.{KeptOutside}
@@ -10,9 +10,6 @@ use Rattle.rounds.proofs.planner.draw_lines.Given as goal
 
 abbrev pub invariant-loop-k : goal.invariant-loop-k
 invariant-loop-k l =
-    (l.k ≤ l.v) × (l.v ≡ nth l.mem 0) × KeptOutside (level_at l.capacity) (memory_size l.capacity) l.initial.mem l.mem × Drawn document01 l.capacity l.k l.mem × Ranked l.capacity [] l.mem
-    × ClocksHeld l.clocks (job_in l.mem) (earlies_in l.capacity l.k l.mem) (lates_in l.capacity l.k l.mem) × FreeList l.capacity l.free l.n l.mem × (l.v ≤ document01.tasks)
-    × Ended document01 l.capacity l.k l.mem l.ends × (length l.ends ≡ length l.initial.ends)
-
-abbrev pub decreases-loop-k : goal.decreases-loop-k
-decreases-loop-k l = l.v - l.k
+    KeptOutside (level_at l.capacity) (memory_size l.capacity) l.initial.mem l.mem × Drawn document01 l.capacity l.k l.mem × Ranked l.capacity [] l.mem
+    × ClocksHeld l.clocks (job_in l.mem) (earlies_in l.capacity l.k l.mem) (lates_in l.capacity l.k l.mem)
+    × FreeList l.capacity l.free.tasks l.free.count l.mem × Ended document01 l.capacity l.k l.mem l.ends

@@ -1,34 +1,20 @@
--- The table of ends has room for the job's tasks.
+-- The table of ends has room for two times of each task.
+use Rattle.std.proofs.Common.{rules}
 use Rattle.lists.proofs.Prelude.{arith}
 use Rattle.jobs.proofs.Held.{sizes, links_kept}
 use Rattle.lists.proofs.Kept.{kept_then}
 use Rattle.rounds.proofs.planner.draw_plan.Goals as goal
 
-pub bounds-mem-0 : goal.bounds-mem-0
-bounds-mem-0 c = let w = sizes c.prepare.ensures.1.standing.job in omega arith
-
-pub draw_lines-requires : goal.draw_lines-requires
-draw_lines-requires c =
+pub with_ends-requires : goal.with_ends-requires
+with_ends-requires c =
     let (job, links) = c.requires in
     let (k, drawn, ranked) = c.prepare.ensures in
-    (drawn, ranked, links_kept job k (omega arith) links, omega arith)
+    let z = sizes drawn.standing.job in
+    let kept = links_kept job k (omega arith) links in
+    (omega arith, λ ends room. search rules)
 
-pub draw_lines-requires-else-mem-le16 : goal.draw_lines-requires-else-mem-le16
-draw_lines-requires-else-mem-le16 c =
-    let (job, links) = c.requires in
-    let (k, drawn, ranked) = c.prepare.ensures in
-    (drawn, ranked, links_kept job k (omega arith) links, omega (arith, sizes drawn.standing.job))
-
-pub returns-then-mem-le16 : goal.returns-then-mem-le16
-returns-then-mem-le16 c =
+pub returns : goal.returns
+returns c =
     let w = sizes c.requires.0 in
     let k = c.prepare.ensures.0 in
-    let (m, drawn) = c.draw_lines.ensures in
-    (kept_then k m, rw (k.before 0 (omega arith)) at drawn)
-
-pub returns-else-mem-le16 : goal.returns-else-mem-le16
-returns-else-mem-le16 c =
-    let w = sizes c.requires.0 in
-    let k = c.prepare.ensures.0 in
-    let (m, drawn) = c.draw_lines-else-mem-le16.ensures in
-    (kept_then k m, rw (k.before 0 (omega arith)) at drawn)
+    (kept_then k (search rules), rw (← k.before 0 (omega arith)) (search rules))

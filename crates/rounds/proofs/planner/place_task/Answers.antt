@@ -1,6 +1,6 @@
 -- The line is what the definition places next.
-use Rattle.lists.proofs.Prelude.{◌≡◌, refl, ◌<◌, ◌+◌, ◌*◌, arith, length, set, length-set}
-use Rattle.heads.specs.Layout.{memory_size, line_at, row_at}
+use Rattle.lists.proofs.Prelude.{◌+◌, arith, set, length-set}
+use Rattle.heads.specs.Layout.{line_at, row_at}
 use Rattle.jobs.proofs.Held.{sizes}
 use Rattle.rounds.proofs.Placed.{predecessors_all}
 use Rattle.rounds.proofs.Drawing.{task_below, task_predecessors}
@@ -10,106 +10,60 @@ use Rattle.rounds.proofs.NextLine.{Laid, laid, laid_kept, old_rows, ended_laid, 
 use Rattle.rounds.proofs.Tables.{clocks_kept}
 use Rattle.rounds.proofs.Outcomes.{clocks_short, predecessors_short}
 use Rattle.rounds.proofs.planner.place_task.Goals as goal
+use Rattle.rounds.proofs.planner.place_task.Goals.{After-fill_line}
 
-pub finishes-requires : goal.finishes-requires
-finishes-requires c =
-    let (delays, none_over, most, ended, g, clocks, links) = c.requires in
+-- The line is laid once its task is noted.
+drawn_line : (c : After-fill_line) → let a = c.args in
+    Laid a.capacity a.k a.t a.mem.now (set (set c.fill_line.new.mem (row_at a.capacity a.k) a.t) (line_at a.capacity + a.t) (a.k + 1))
+drawn_line c = laid c.requires.2 c.fill_line.new.mem c.fill_line.ensures
+
+pub finishes-finishes-requires : goal.finishes-finishes-requires
+finishes-finishes-requires c =
+    let (delays, ended, g, clocks, links) = c.requires in
     let s = g.drawn in
     let all = predecessors_all s.standing _ (task_predecessors g) in
     let short = clocks_short s.standing (omega arith) s.ticks clocks in (
       (_, s.standing),
       delays,
-      none_over,
-      most,
       task_below g,
       predecessors_short s.standing (omega arith) s.ticks _ all,
       short.0,
       short.1,
       supplied_clocks s.standing (omega arith) _ all ended s.settled clocks,
       links,
-      refl,
-      refl,
     )
 
 pub fill_line-requires : goal.fill_line-requires
-fill_line-requires c = let p = c.requires in
-    tried p.4 p.5 c.finishes.ensures
-
-pub row_at-a-requires : goal.row_at-a-requires
-row_at-a-requires c =
-    let small : (c.args.k < 8 * c.args.capacity) × (c.args.t < 8 * c.args.capacity) × (length c.args.mem.now ≡ memory_size c.args.capacity) =
-    let g = c.requires.4 in
-    let w = sizes g.drawn.standing.job in
-    (omega (arith, g.more), omega (arith, task_below g), w.size) in
-    omega (arith, small)
-
-pub offset_bounds-mem-a : goal.offset_bounds-mem-a
-offset_bounds-mem-a c =
-    let small : (c.args.k < 8 * c.args.capacity) × (c.args.t < 8 * c.args.capacity) × (length c.args.mem.now ≡ memory_size c.args.capacity) =
-    let g = c.requires.4 in
-    let w = sizes g.drawn.standing.job in
-    (omega (arith, g.more), omega (arith, task_below g), w.size) in
-    omega (arith, small, c.row_at-a.ensures)
-
-pub bounds-mem-a : goal.bounds-mem-a
-bounds-mem-a c =
-    let small : (c.args.k < 8 * c.args.capacity) × (c.args.t < 8 * c.args.capacity) × (length c.args.mem.now ≡ memory_size c.args.capacity) =
-    let g = c.requires.4 in
-    let w = sizes g.drawn.standing.job in
-    (omega (arith, g.more), omega (arith, task_below g), w.size) in
-    omega (
-      arith,
-      small,
-      c.row_at-a.ensures,
-      c.fill_line.ensures.kept.size,
-    )
+fill_line-requires c = let p = c.requires in tried p.2 p.3 c.finishes-finishes.ensures
 
 pub put_line-requires : goal.put_line-requires
 put_line-requires c =
-    let small : (c.args.k < 8 * c.args.capacity) × (c.args.t < 8 * c.args.capacity) × (length c.args.mem.now ≡ memory_size c.args.capacity) =
-    let g = c.requires.4 in
+    let g = c.requires.2 in
     let w = sizes g.drawn.standing.job in
-    (omega (arith, g.more), omega (arith, task_below g), w.size) in
-    simp length-set (omega (
-      arith,
-      small,
-      c.fill_line.ensures.kept.size,
-    ))
+    simp length-set (omega (arith, g.more, task_below g, w.tasks_most, w.size, c.fill_line.ensures.kept.size))
 
 pub put_ends-requires : goal.put_ends-requires
 put_ends-requires c =
-    let line : let a = c.args in
-    Laid a.capacity a.k a.t a.mem.now
-    (set (set c.fill_line.new.mem (row_at a.capacity a.k) a.t) (line_at a.capacity + a.t) (a.k + 1)) = laid c.requires.4
-    c.fill_line.new.mem c.fill_line.ensures in
-    let g = c.requires.4 in
-    let n = drawn_next g line in
+    let g = c.requires.2 in
+    let n = drawn_next g (drawn_line (goal.at.put_ends-requires c).After-fill_line) in
     let x = line_timed n.standing (omega arith) n.ticks c.args.k (omega arith) in
     let w = sizes g.drawn.standing.job in
     let put = c.put_line.ensures in
     let at = c.row_at-a.ensures in
     rw (put, at)
-    (x.job, x.row, x.within, omega (arith, task_below g, w.tasks_most), omega (arith, task_below g, c.requires.3.size))
+    (x.job, x.row, x.within, omega (arith, task_below g, w.tasks_most), omega (arith, task_below g, c.requires.1.size))
 
 pub advance_line-requires : goal.advance_line-requires
 advance_line-requires c =
-    let line : let a = c.args in
-    Laid a.capacity a.k a.t a.mem.now
-    (set (set c.fill_line.new.mem (row_at a.capacity a.k) a.t) (line_at a.capacity + a.t) (a.k + 1)) = laid c.requires.4
-    c.fill_line.new.mem c.fill_line.ensures in
-    let n = drawn_next c.requires.4 line in
+    let n = drawn_next c.requires.2 (drawn_line (goal.at.advance_line-requires c).After-fill_line) in
     let put = c.put_line.ensures in
     let at = c.row_at-a.ensures in
     rw (put, at) (line_timed n.standing (omega arith) n.ticks c.args.k (omega arith))
 
 pub returns : goal.returns
 returns c =
-    let line : let a = c.args in
-    Laid a.capacity a.k a.t a.mem.now
-    (set (set c.fill_line.new.mem (row_at a.capacity a.k) a.t) (line_at a.capacity + a.t) (a.k + 1)) = laid c.requires.4
-    c.fill_line.new.mem c.fill_line.ensures in
-    let (_, _, _, ended, g, clocks, _) = c.requires in
-    let x = line in
+    let x = drawn_line (goal.at.returns c).After-fill_line in
+    let (_, ended, g, clocks, _) = c.requires in
     let at = c.row_at-a.ensures in
     let q = rw at at c.put_line.ensures in
     let after = rw (q, at) at c.advance_line.ensures in

@@ -4,9 +4,6 @@ use Rattle.jobs.proofs.Held.{held_kept, links_kept}
 use Rattle.rounds.proofs.OutsetLaws.{outset_kept, outset, outset_counts}
 use Rattle.rounds.proofs.planner.prepare.Goals as goal
 
-pub fill_levels-requires : goal.fill_levels-requires
-fill_levels-requires c = c.requires
-
 pub fill_largest_delays-requires : goal.fill_largest_delays-requires
 fill_largest_delays-requires c = held_kept c.requires.0 c.fill_levels.ensures.0 (omega arith)
 

@@ -5,7 +5,6 @@ use Rattle.rounds.proofs.ReleaseLaws.{Releasing}
 use Rattle.rounds.proofs.planner.release.Given as goal
 
 abbrev pub invariant-loop-k : goal.invariant-loop-k
-invariant-loop-k l = Releasing l.capacity l.t (l.g + l.start) (l.g + l.initial.k) (l.g + l.k) l.initial.mem l.mem × FreeList l.capacity l.free l.n l.mem
-
-abbrev pub decreases-loop-k : goal.decreases-loop-k
-decreases-loop-k l = l.k
+invariant-loop-k l =
+    Releasing l.capacity l.t (l.g + l.k-start) (l.g + l.initial.k) (l.g + l.k) l.initial.mem l.mem
+    × FreeList l.capacity l.free.tasks l.free.count l.mem

@@ -2,26 +2,23 @@ use Rattle.lists.proofs.Prelude.{◌≡◌, refl, ap, ap₂, ◌∙◌, max, ari
 use Rattle.orders.proofs.Walk.{pass_first, pass_at, pass_on}
 use Rattle.jobs.proofs.Held.{sizes, enters_run}
 use Rattle.rounds.proofs.TimeLaws.{feeds, gather_none, gather_next}
-use Rattle.rounds.proofs.TopLaws.{spreads, feeds_sends, scale_most, top_most_lem, top_one, top_scaled}
+use Rattle.rounds.proofs.TopLaws.{spreads, feeds_sends, top_most_lem, top_one, top_scaled}
 use Rattle.rounds.proofs.priority.top_level.Goals as goal
-use Rattle.rounds.proofs.priority.top_level.Goals.{then-y-x, else-y-x}
-
-pub bounds-mem-0 : goal.bounds-mem-0
-bounds-mem-0 c = let s = sizes c.requires.0.1.job in omega arith
 
 pub loop-k-init : goal.loop-k-init
 loop-k-init c =
-    (pass_first (enters_run c.requires.1 c.requires.2 c.entering-span.ensures), omega arith, gather_none (spreads c.args.capacity c.args.mem.now) _ _)
+    let r = enters_run c.requires.1 c.requires.2 c.entering-span.ensures in
+    (pass_first r, omega arith, gather_none (spreads c.args.house.capacity c.args.house.mem.now) _ _)
 
-pub entering-e-requires : goal.entering-e-requires
-entering-e-requires c =
+pub entering-edge-requires : goal.entering-edge-requires
+entering-edge-requires c =
     let (h, _, _, predecessors, _) = c.requires in
     (h.1.job, feeds c.args.t h.1 predecessors (pass_at c.loop-k.invariant.0 c.loop-k-test.true))
 
-pub spread-y-requires : goal.spread-y-requires
-spread-y-requires c =
+pub spread-requires : goal.spread-requires
+spread-requires c =
     let (h, _, _, predecessors, far) = c.requires in
-    let e = c.entering-e.ensures in
+    let e = c.entering-edge.ensures in
     let f = feeds c.args.t h.1 predecessors (pass_at c.loop-k.invariant.0 c.loop-k-test.true) in
     (h.1.job, rw (e.row_of, e.volume_of) (feeds_sends h.1 h.2 far f))
 
@@ -30,19 +27,13 @@ loop-k-preserved c =
     let args = c.args in
     let loop = c.loop-k in
     let (w, m, g) = loop.invariant in
-    let e = c.entering-e.ensures in
-    let (y, n) = c.spread-y.ensures in
-    let z : c.if-y-x.x ≡ max loop.x c.spread-y.result = elim c.if-y-x.branch [
-      | then-y-x w ↦ omega (arith, w.if-y-x.true, w.x-is)
-      | else-y-x w ↦ omega (arith, w.if-y-x.false, w.x-is)
-    ] in (
+    let e = c.entering-edge.ensures in
+    let (y, n) = c.spread.ensures in
+    let z : c.max-x.result ≡ max loop.x c.spread.result = omega (arith, c.max-x.ensures) in (
       pass_on w c.loop-k-test.true _ refl,
       omega (arith, z),
-      ap tick z ∙ ap₂ later g (rw (e.row_of, e.volume_of) at y) ∙ gather_next (spreads args.capacity args.mem.now) w _ refl,
+      ap tick z ∙ ap₂ later g (rw (e.row_of, e.volume_of) at y) ∙ gather_next (spreads args.house.capacity args.house.mem.now) w _ refl,
     )
-
-pub bounds-mem-1 : goal.bounds-mem-1
-bounds-mem-1 c = let s = sizes c.requires.0.1.job in omega arith
 
 pub returns-then-m-eq1 : goal.returns-then-m-eq1
 returns-then-m-eq1 c =
@@ -51,9 +42,6 @@ returns-then-m-eq1 c =
 
 pub overflow_sub-result : goal.overflow_sub-result
 overflow_sub-result c = omega (arith, (sizes c.requires.0.1.job).some_processor)
-
-pub overflow_mul-result : goal.overflow_mul-result
-overflow_mul-result c = omega (arith, scale_most c.requires.0.1.job)
 
 pub overflow_mul-result-2 : goal.overflow_mul-result-2
 overflow_mul-result-2 c =

@@ -1,5 +1,5 @@
 -- x is the largest time of the edges passed.
-use Rattle.lists.proofs.Prelude.{◌≡◌, ◌≤◌, ◌-◌, incoming, tick, document01}
+use Rattle.lists.proofs.Prelude.{◌≡◌, ◌≤◌, incoming, tick, document01}
 use Rattle.rounds.specs.Planning.{spread_most}
 use Rattle.orders.proofs.Walk.{Passed}
 use Rattle.jobs.specs.Held.{job_in}
@@ -9,7 +9,6 @@ use Rattle.rounds.proofs.priority.top_level.Given as goal
 
 abbrev pub invariant-loop-k : goal.invariant-loop-k
 invariant-loop-k l =
-    Passed l.initial.k l.k-end l.links (incoming (job_in l.mem) l.t) l.k × (l.x ≤ spread_most document01) × (tick l.x ≡ gathered (spreads l.capacity l.mem) l.initial.k l.links l.k)
-
-abbrev pub decreases-loop-k : goal.decreases-loop-k
-decreases-loop-k l = l.k-end - l.k
+    Passed l.initial.k l.k-end l.house.links.now (incoming (job_in l.house.mem.now) l.t) l.k
+    × (l.x ≤ spread_most document01)
+    × (tick l.x ≡ gathered (spreads l.house.capacity l.house.mem.now) l.initial.k l.house.links.now l.k)

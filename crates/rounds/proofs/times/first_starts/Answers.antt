@@ -4,19 +4,13 @@ use Rattle.heads.specs.Layout.{lanes_most}
 use Rattle.jobs.proofs.Held.{sizes}
 use Rattle.rounds.specs.Arrivals.{TimeTable}
 use Rattle.ticks.proofs.HeldLaws.{never_holds}
-use Rattle.rounds.proofs.TimeTables.{table_same, table_all, table_held, supplied_lanes}
+use Rattle.rounds.proofs.TimeTables.{table_all, table_held, supplied_lanes}
 use Rattle.rounds.proofs.times.first_starts.Goals as goal
-
-pub lanes_of-early-requires : goal.lanes_of-early-requires
-lanes_of-early-requires c = ((_, c.requires.0.1.job), c.requires.6)
 
 pub raise_data-requires : goal.raise_data-requires
 raise_data-requires c =
-    let (s, links, delays, most, limit, t, _, y) = c.requires in
-    let e = c.lanes_of-early.ensures in
-    let f : TimeTable document01 (λ p. never) c.args.mem.now (replicate lanes_most c.no_time-late.result) =
-    rw c.no_time-late.ensures (table_all _ (sizes s.1.job).lanes_fit never_holds) in
-    (s, links, delays, most, limit, t, supplied_lanes s.1 c.args.t y e f, table_held e, table_held f)
-
-pub returns : goal.returns
-returns c = table_same (λ p o. rw (c.lanes_of-early.ensures.time p o)) c.raise_data.ensures.0
+    let (s, links, delays, t, _, y) = c.requires in
+    let e = c.lanes_of.ensures in
+    let f : TimeTable document01 (λ p. never) c.args.house.mem.now (replicate lanes_most c.no_time.result) =
+    rw c.no_time.ensures (table_all _ (sizes s.1.job).lanes_fit never_holds) in
+    (s, links, delays, t, supplied_lanes s.1 c.args.t y e f, table_held e, table_held f)

@@ -1,27 +1,15 @@
 -- A tick is a whole number that a signed cell holds, and a float.
-use Rattle.lists.proofs.Prelude.{◌≡◌, ◌≤◌, sym, subst, arith, document01}
+use Rattle.lists.proofs.Prelude.{◌≡◌, ◌≤◌, arith, document01}
 use mir.Syntax.{w64}
 use mir.Val.{to_z}
 use mir.Facts.{to_z-of_z}
-use lib.Dec.{T}
-use lib.IntN.{ℤ, pos}
-use lib.Ieee.{binary64, in_float}
-use Rattle.ticks.proofs.Wholes.{fine_cast}
+use lib.IntN.{pos}
 use Rattle.ticks.proofs.HeldLaws.{whole_holds, never_holds}
 use Rattle.rounds.proofs.TimeLaws.{time_tick, small_tick}
 use Rattle.rounds.proofs.times.lane_of.Goals as goal
 
 pub returns-then-x-eq-NEVER : goal.returns-then-x-eq-NEVER
 returns-then-x-eq-NEVER c = rw (c.no_time.ensures, c.if-x-eq-NEVER.true) never_holds
-
-pub overflow_cast-result : goal.overflow_cast-result
-overflow_cast-result c = omega (arith, small_tick document01.tick _ c.if-x-eq-NEVER.false c.requires)
-
-pub int_to_float-result : goal.int_to_float-result
-int_to_float-result c =
-    let most : c.args.x ≤ document01.tick = small_tick document01.tick _ c.if-x-eq-NEVER.false c.requires in
-    let signed : to_z w64 c.args.x ≡ pos c.args.x = to_z-of_z {w = w64} {z = pos c.args.x} (record { sfits = omega (arith, most) }) in
-    subst (λ (z : ℤ). T (in_float binary64 z)) (sym signed) (fine_cast _ (omega (arith, most)))
 
 pub returns : goal.returns
 returns c =

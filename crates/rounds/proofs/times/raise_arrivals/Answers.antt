@@ -2,9 +2,6 @@
 use Rattle.rounds.proofs.TimeTables.{table_raise}
 use Rattle.rounds.proofs.times.raise_arrivals.Goals as goal
 
-pub arrivals-r-requires : goal.arrivals-r-requires
-arrivals-r-requires c = let p = c.requires in (p.0, p.1, p.2, p.3, p.4, p.5)
-
 pub returns : goal.returns
 returns c =
     let p = c.requires in

@@ -1,57 +1,37 @@
-use Rattle.std.proofs.Common.{rules}
-use Rattle.lists.proofs.Prelude.{◌≡◌, refl, sym, ◌∙◌, List, ℕ, arith, length, length-set, take, drop, bytes, document01, found, line}
+-- Each line is read and its rule tried; its stop is put in the processor's cell.
+use Rattle.text.proofs.Refusals.{handed}
+use Rattle.lists.proofs.Prelude.{refl, sym, ◌∙◌, arith}
 use Rattle.text.specs.Suited.{suited}
-use Rattle.lines.proofs.LineLaws.{line_reading}
 use Rattle.stops.proofs.StopLaws.{stops_none, stops_end, stops_bad, stops_no, stops_shorter, stops_next}
 use Rattle.stops.proofs.stops.read_stop_lines.Goals as goal
 
-pub loop-p-init : goal.loop-p-init
-loop-p-init c = (search rules, refl, stops_none _ _ _ _ c.requires.0 c.requires.1)
+pub loop-reader-init : goal.loop-reader-init
+loop-reader-init c = record { size = refl; upto = stops_none _ _ _ _ c.requires.0 c.requires.1 }
 
-pub returns-in-Refused : goal.returns-in-Refused
-returns-in-Refused c =
-    let loop = c.loop-p in
-    let e = line_reading _ (length loop.line) _ 2 _ _ c.read_line.new.vals _ _ c.read_line.ensures.result_after
-    (omega (arith, loop.invariant.0)) c.in-Refused.is in
-    stops_bad loop.invariant.2 c.loop-p-test.true _ e
+pub returns-in_err-line : goal.returns-in_err-line
+returns-in_err-line c = λ j e.
+    let loop = c.loop-reader.invariant in
+    rw (handed _ _ c.from_residual.ensures.1) (stops_bad loop.upto (sym c.loop-reader-test.ensures) _ (omega (arith, loop.size)) _ c.in_err-line.ensures.read j e)
 
-pub returns-then-x-gt0 : goal.returns-then-x-gt0
-returns-then-x-gt0 c =
-    let held : List ℕ = c.read_line.new.vals in
-    let formed : line document01 (bytes "S,") 2 (drop c.loop-p.p c.args.s.now)
-    ≡ found (take 2 held) (drop c.in-Next.next c.args.s.now) = line_reading _ (length c.loop-p.line) _ 2 _ _ held _ _
-    c.read_line.ensures.result_after (omega (arith, c.loop-p.invariant.0)) c.in-Next.is in
-    let h = c.loop-p-test.true in
-    stops_no c.loop-p.invariant.2 h held c.in-Next.next formed _ c.if-x-gt0.true c.check_stop-x.ensures.0
+pub returns-in_err-check_stop : goal.returns-in_err-check_stop
+returns-in_err-check_stop c = λ j e.
+    let loop = c.loop-reader.invariant in
+    rw (handed _ _ c.from_residual-in_err-check_stop.ensures.1)
+    (stops_no loop.upto (sym c.loop-reader-test.ensures) _ (omega (arith, loop.size)) c.line.new.vals _ c.in_ok-line.ensures.read _
+    c.in_err-check_stop.ensures.0 j e)
 
-pub offset_bounds-stops-processor : goal.offset_bounds-stops-processor
-offset_bounds-stops-processor c = omega (arith, c.check_stop-x.ensures.1 (omega arith), c.loop-p.invariant.2.size)
+pub loop-reader-smaller : goal.loop-reader-smaller
+loop-reader-smaller c =
+    let loop = c.loop-reader.invariant in
+    stops_shorter loop.upto (sym c.loop-reader-test.ensures) _ (omega (arith, loop.size)) c.line.new.vals _ c.in_ok-line.ensures.read
 
--- The processor's cell is one of the stops'.
-pub bounds-stops-processor : goal.bounds-stops-processor
-bounds-stops-processor c = omega (arith, c.check_stop-x.ensures.1 (omega arith), c.loop-p.invariant.2.size)
-
-pub overflow_add-least : goal.overflow_add-least
-overflow_add-least c = omega (arith, c.check_stop-x.ensures.1 (omega arith), c.loop-p.invariant.2.size)
-
-pub loop-p-smaller : goal.loop-p-smaller
-loop-p-smaller c =
-    let held : List ℕ = c.read_line.new.vals in
-    let formed : line document01 (bytes "S,") 2 (drop c.loop-p.p c.args.s.now)
-    ≡ found (take 2 held) (drop c.in-Next.next c.args.s.now) = line_reading _ (length c.loop-p.line) _ 2 _ _ held _ _
-    c.read_line.ensures.result_after (omega (arith, c.loop-p.invariant.0)) c.in-Next.is in
-    stops_shorter c.loop-p.invariant.2 c.loop-p-test.true held c.in-Next.next formed
-
-pub loop-p-preserved : goal.loop-p-preserved
-loop-p-preserved c =
-    let held : List ℕ = c.read_line.new.vals in
-    let formed : line document01 (bytes "S,") 2 (drop c.loop-p.p c.args.s.now)
-    ≡ found (take 2 held) (drop c.in-Next.next c.args.s.now) = line_reading _ (length c.loop-p.line) _ 2 _ _ held _ _
-    c.read_line.ensures.result_after (omega (arith, c.loop-p.invariant.0)) c.in-Next.is in
-    let z : c.check_stop-x.result ≡ 0 = omega arith in
-    let (k, t, o) = c.check_stop-x.ensures.1 z in
-    let u = stops_next c.loop-p.invariant.2 c.loop-p-test.true held c.in-Next.next formed in
-    (search rules, simp length-set c.loop-p.invariant.1, u suited k t o (λ j seen e f. sym z ∙ c.check_stop-x.ensures.0 j seen e f))
+pub loop-reader-preserved : goal.loop-reader-preserved
+loop-reader-preserved c =
+    let loop = c.loop-reader.invariant in
+    let (f, within) = c.in_ok-check_stop.ensures in
+    let (k, t, o) = within refl in
+    let next = stops_next loop.upto (sym c.loop-reader-test.ensures) _ (omega (arith, loop.size)) c.line.new.vals _ c.in_ok-line.ensures.read in
+    record { size = c.line.auto.vals ∙ loop.size; upto = next suited k t o f }
 
 pub returns : goal.returns
-returns c = stops_end c.loop-p.invariant.2 c.loop-p-test.false
+returns c = stops_end c.loop-reader.invariant.upto (sym c.loop-reader-test.ensures)

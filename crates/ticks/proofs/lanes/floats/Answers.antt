@@ -1,14 +1,12 @@
-use Rattle.lists.proofs.Prelude.{refl, ap, ◌∙◌, arith, replicate}
+use Rattle.lists.proofs.Prelude.{refl, ℕ, arith, nth}
 use lib.Ieee.{Float}
-use Rattle.ticks.proofs.HeldLaws.{zero_literal}
-use Rattle.ticks.proofs.LaneLaws.{lanes_none, lanes_next, lanes_all}
+use Rattle.std.proofs.Common.{rules}
+use Rattle.ticks.specs.Floats.{whole}
+use Rattle.ticks.proofs.LaneLaws.{lanes_made, given_at}
 use Rattle.ticks.proofs.lanes.floats.Goals as goal
 
-pub loop-p-init : goal.loop-p-init
-loop-p-init c = (omega arith, ap (λ (x : Float). replicate 16 x) zero_literal ∙ lanes_none _ _)
-
-pub loop-p-preserved : goal.loop-p-preserved
-loop-p-preserved c = (omega arith, lanes_next _ _ c.loop-p.p _ c.loop-p.invariant.1 refl)
-
 pub returns : goal.returns
-returns c = lanes_all _ _ c.loop-p.p c.loop-p.invariant.1 (omega arith)
+returns c =
+    let made = c.from_fn.ensures.items in
+    let h : ℕ → Float = λ p. whole (nth c.args.ticks.now p) in
+    lanes_made _ _ _ 16 made.long refl (λ p b. given_at _ _ h (λ i y q k. search rules) _ 16 0 made.each p (omega arith) b)

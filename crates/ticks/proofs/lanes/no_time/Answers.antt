@@ -1,8 +1,8 @@
--- One divided by zero.
+-- The literal's bits.
 use Rattle.lists.proofs.Prelude.{refl}
-use lib.Ieee.{div, of_bits}
+use lib.Ieee.{of_bits}
 use Rattle.ticks.proofs.lanes.no_time.Goals as goal
 
 pub returns : goal.returns
-unfolding div of_bits
+unfolding of_bits
 returns c = refl

@@ -1,12 +1,7 @@
-use Rattle.lists.proofs.Prelude.{arith}
-use Rattle.ticks.proofs.LaneLaws.{lanes_none, lanes_next, lanes_all}
+use Rattle.std.proofs.Common.{rules}
+use Rattle.ticks.proofs.LaneLaws.{lanes_none}
+use native.Mathlib.Nat.{zero-add}
 use Rattle.ticks.proofs.lanes.raise.Goals as goal
 
-pub loop-p-init : goal.loop-p-init
-loop-p-init c = (omega arith, lanes_none _ _)
-
-pub loop-p-preserved : goal.loop-p-preserved
-loop-p-preserved c = (omega arith, lanes_next _ _ c.loop-p.p c.greater.result c.loop-p.invariant.1 c.greater.ensures)
-
 pub returns : goal.returns
-returns c = lanes_all _ _ c.loop-p.p c.loop-p.invariant.1 (omega arith)
+returns c = c.merge.ensures _ _ (λ p z r b q. rw (zero-add p) (search rules)) (lanes_none _ _)

@@ -1,9 +1,0 @@
-use Rattle.lists.proofs.Prelude.{◌-◌, drop, document01, numbers}
-use Rattle.lines.proofs.LineLaws.{NumbersUpTo}
-use Rattle.lines.proofs.lines.read_numbers.Given as goal
-
-abbrev pub invariant-loop-i : goal.invariant-loop-i
-invariant-loop-i l = NumbersUpTo document01 l.s l.k l.initial.vals (numbers document01 l.k (drop l.at l.s)) l.i l.vals l.p
-
-abbrev pub decreases-loop-i : goal.decreases-loop-i
-decreases-loop-i l = l.k - l.i
