@@ -13,6 +13,7 @@ use std::io::Read;
 use std::rt::Files;
 
 // What the file holds, from the start of buf on, and how many bytes; 0 if it cannot be opened. Where a read fails, the text ends there.
+// Kept: a path of bytes, and 0 for a file that cannot be opened: the public signature, and the programs take such a file for the empty text.
 pub fn load(files: &impl Files, path: &[u8], buf: &mut [u8]) -> usize
     ensures { IsPrefixLen result buf.new }
 {
@@ -23,7 +24,7 @@ pub fn load(files: &impl Files, path: &[u8], buf: &mut [u8]) -> usize
         return 0;
     };
     let mut done = 0;
-    // Kept: it counts the bytes that were read, and a read that fails or gives none ends it.
+    // Kept: a `for` is no plainer: each turn goes on by as many bytes as were read, and a read that fails or gives none ends it.
     while done < buf.len() {
         match file.read(&mut buf[done..]) {
             Ok(n) if n > 0 => done += n,

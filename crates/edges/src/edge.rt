@@ -52,6 +52,7 @@ struct Edge {
 }
 
 // An edge in one cell.
+// Kept: it asks that the numbers fit the cell; a `From` asks nothing.
 fn cell_of(edge: Edge) -> u64
     requires { (edge.from < document01.tasks) × (edge.to < document01.tasks) × (edge.volume ≤ document01.volume) }
     ensures { result ≡ edge_cell (edge_for edge) }

@@ -1,7 +1,7 @@
 // E lines: each edge in one cell.
 #![tactic(auto)]
 
-ghost use Rattle.std.specs.Prelude.{◌≡◌, map, length, take};
+ghost use Rattle.std.specs.Prelude.{◌≡◌, map, length, take, OnErr};
 ghost use Rattle.definitions.specs.Limits.{document01};
 ghost use Rattle.text.specs.Meaning.{reading};
 ghost use Rattle.orders.specs.Edges.{edge_in};
@@ -14,12 +14,17 @@ use text::refusal::Refusal;
 mod edge;
 
 // n edge lines, kept from the front of `mem` on, one cell each. 8 if there are more than the most tasks, or fewer cells than edges.
+// Kept: `n` beside `mem`: the promise (edges_into) is for a memory with more or fewer cells.
 #[tactic(auto, unfolding(crate::specs::EdgeLines::edges_into))]
 pub fn read_edges(reader: &mut Reader, v: u64, n: usize, mem: &mut [u64]) -> Result<(), Refusal>
-    ensures { reading reader.new (map edge_in (take n mem.new)) result ≡ edges_into document01 (length mem.old) v n reader.old }
+    ensures read { reading reader.new (map edge_in (take n mem.new)) result ≡ edges_into document01 (length mem.old) v n reader.old }
+    ensures kept { OnErr result (reader.new ≡ reader.old) }
 {
     if v > TASKS || n > mem.len() {
         return Err(Refusal::NoRoom);
     }
-    edge::fill_edges(reader, v, n, mem)
+    let mut rest = Reader::new(reader.rest());
+    edge::fill_edges(&mut rest, v, n, mem)?;
+    *reader = rest;
+    Ok(())
 }

@@ -12,6 +12,7 @@ ghost use Rattle.exports.specs.Exported.{Exported, ExportedVerdict};
 use mirguneth::{Fault, Refusal};
 
 // A tool's answer in numbers: 0 with the count written, or the number of the refusal.
+// Kept: numbers, and a value through a reference, are the C interface.
 fn in_numbers(answer: Result<usize, Refusal>, written: &mut u64) -> u64
     ensures { (x : Text.Result (List ℕ)) (d e : List ℕ) → Answered x d e answer → Exported x d e written.old written.new result }
 {

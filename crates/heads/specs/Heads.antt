@@ -1,5 +1,5 @@
 -- A job's head that was read, and the memory that the job needs.
-use Rattle.std.specs.Prelude.{ℕ, ◌≡◌, List, Bool, ◌&&◌, eqb, leb, Result, Ok, Err}
+use Rattle.std.specs.Prelude.{ℕ, ◌≡◌, List, Bool, ◌&&◌, eqb, leb, drop, Result, Ok, Err}
 use Rattle.definitions.specs.Limits.{Limits}
 use Rattle.definitions.specs.Text.{bad}
 use Rattle.definitions.specs.Job.{JobHead, job_head_rule, read_job}
@@ -14,9 +14,10 @@ use Rattle.text.specs.Numbers.{number_of}
 abbrev pub head_of : Head → JobHead
 head_of h = record { tasks = h.tasks; processors = h.processors; edges = h.edges; losses = h.losses }
 
--- A job's head was read, and what is left of the text gives the rest of the job; or the refusal.
+-- A job's head was read, and what is left of the text, a part at its end, gives the rest of the job; or the refusal.
 abbrev pub HeadRead : Limits → List ℕ → Result Opened Refusal → Type 0
-HeadRead l s (Ok o) = (job_head_rule l (head_of o.head) ≡ 0) × (read_job l s ≡ closed (from_runs l (head_of o.head) o.rest))
+HeadRead l s (Ok o) =
+    (job_head_rule l (head_of o.head) ≡ 0) × (read_job l s ≡ closed (from_runs l (head_of o.head) o.rest)) × ((n : ℕ) × (o.rest ≡ drop n s))
 HeadRead l s (Err e) = read_job l s ≡ bad (number_of e)
 
 -- A memory of so many cells has this capacity, 32 at most, the memory for the links has as many cells as it asks for, and a job with

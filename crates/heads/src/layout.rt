@@ -1,5 +1,6 @@
 // Where each table stands in a working memory of capacity 1: specs/Layout.antt, in the code. In one of capacity n it stands n times
 // as far from the front.
+// Kept: tables at fixed places of one lent memory, and no Vec: a rule of the project (no heap, fixed memory).
 ghost use Rattle.std.specs.Prelude.{◌≡◌, ◌+◌};
 ghost use Rattle.heads.specs.Layout.{numbers_at};
 

@@ -26,7 +26,7 @@ pub struct Head {
 }
 
 // A job's text whose head was read: the head, and a reader of what is left.
-#[derive(Drop)]
+#[derive(Clone, Drop)]
 pub struct Opened<'a> {
     pub head: Head,
     pub rest: Reader<'a>,

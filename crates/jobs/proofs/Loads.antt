@@ -10,7 +10,7 @@ use Rattle.jobs.specs.Answers.{Loaded}
 use Rattle.jobs.specs.Tables.{Tabled}
 use Rattle.jobs.specs.Held.{job_in, JobHeld, LinksHeld}
 use Rattle.heads.specs.Reading.{from_runs, from_head, closed}
-use Rattle.heads.specs.Heads.{head_of, HeadRead, roomy}
+use Rattle.heads.specs.Heads.{head_of, roomy}
 use Rattle.jobs.specs.Loading.{job_from, JobLoaded}
 use Rattle.heads.specs.declared.Opened.{Opened}
 use Rattle.jobs.proofs.Held.{tasks_in_lem, processors_in, length_edges}
@@ -56,7 +56,8 @@ module _ (l : Limits) (capacity size links : ℕ) (h : JobHead) (s : List ℕ) w
     from_room e = rw (e, z)
 
 -- The job of a text whose head was read, in a memory that it fits.
-pub job_from_lem : (l : Limits) (s : List ℕ) (o : Opened) (capacity size links : ℕ) → HeadRead l s (Ok o) → capacity ≤ 32 → FitsIn capacity (head_of o.head)
+pub job_from_lem : (l : Limits) (s : List ℕ) (o : Opened) (capacity size links : ℕ)
+    → (job_head_rule l (head_of o.head) ≡ 0) × (read_job l s ≡ closed (from_runs l (head_of o.head) o.rest)) → capacity ≤ 32 → FitsIn capacity (head_of o.head)
     → size ≡ memory_size capacity → links_room capacity ≤ links → job_from l capacity size links (head_of o.head) o.rest ≡ read_job l s
 job_from_lem l s o capacity size links (z, q) most f w k =
     from_room l capacity size links (head_of o.head) o.rest z (roomy_made capacity size links (head_of o.head) most w k f) ∙ sym q

@@ -11,10 +11,13 @@ use heads::Opened;
 use text::refusal::Refusal;
 
 mod cells;
+mod house;
 mod job;
 
-// Kept: memory, links and capacity side by side, as rounds' House says of a memory that is written.
+pub use house::House;
+
 // The rest of a job's text, after its head, into a memory of this capacity, and the links between its edges.
+// Kept: memory, links and capacity side by side where the memory is written: a struct with the `&mut` memory in a field was tried, and no goal says what the lent slice holds afterwards.
 pub fn load_job(
     job: Opened,
     mem: &mut [u64],

@@ -7,6 +7,7 @@ ghost use Rattle.text.specs.Meaning.{number_reading};
 use text::limits::DIGITS;
 
 // The digit that the byte b is; above 9 if it is none.
+// Kept: above 9 in place of None: an Option is no plainer, each of the calls would take it apart at once.
 fn digit(b: u8) -> u64
     ensures { (result ≤ 9 → (is_digit b ≡ true) × (b ≡ result + 48)) × (9 < result → is_digit b ≡ false) }
 {

@@ -13,6 +13,7 @@ ghost use Rattle.rounds.specs.Tools.{plan_of, verdict_both, replay_both};
 ghost use Rattle.rounds.specs.Verdicts.{Judged};
 
 use heads::Opened;
+use heads::layout::{LINKS, MEMORY};
 use rounds::Fault;
 use text::refusal::Refusal;
 
@@ -24,7 +25,7 @@ pub trait Tool {
     ghost says: { Self → Text.Result Job → List ℕ → List ℕ → Self.Answer → Type 0 };
 
     // Its answer to a job whose head was read, in a working memory of this capacity.
-    // Kept: memory, links and capacity side by side, as rounds' House says of a memory that is written.
+    // Kept: memory, links and capacity side by side where the memory is written, as House of `jobs` says.
     fn run(
         self,
         job: Opened,
@@ -101,20 +102,37 @@ impl<'a> Tool for Replay<'a> {
     }
 }
 
+// The cells of the four memories, and of those for the links beside them.
+const CELLS_1: usize = MEMORY;
+
+const LINKS_1: usize = LINKS;
+
+const CELLS_2: usize = 2 * MEMORY;
+
+const LINKS_2: usize = 2 * LINKS;
+
+const CELLS_8: usize = 8 * MEMORY;
+
+const LINKS_8: usize = 8 * LINKS;
+
+const CELLS_32: usize = 32 * MEMORY;
+
+const LINKS_32: usize = 32 * LINKS;
+
 // A tool's answer in a working memory of so many cells and links, in a frame of its own.
 #[inline(never)]
-fn in_frame<T: Tool, const CELLS: usize, const LINKS: usize>(
+fn in_frame<T: Tool, const CELLS: usize, const LINK_CELLS: usize>(
     tool: T,
     job: Opened,
     capacity: usize,
     out: &mut [u8],
 ) -> T::Answer
     requires { (job_head_rule document01 (head_of job.head) ≡ 0) × (capacity ≤ 32) × FitsIn capacity (head_of job.head)
-        × (CELLS ≡ memory_size capacity) × (LINKS ≡ links_room capacity) }
+        × (CELLS ≡ memory_size capacity) × (LINK_CELLS ≡ links_room capacity) }
     ensures { T.says tool (closed (from_runs document01 (head_of job.entry.head) job.entry.rest)) out.old out.new result }
 {
     let mut mem = [0u64; CELLS];
-    let mut links = [0u64; LINKS];
+    let mut links = [0u64; LINK_CELLS];
     tool.run(job, &mut mem, &mut links, capacity, out)
 }
 
@@ -125,9 +143,9 @@ pub fn answer<T: Tool>(tool: T, job: Opened, out: &mut [u8]) -> T::Answer
     ensures { T.says tool (closed (from_runs document01 (head_of job.entry.head) job.entry.rest)) out.old out.new result }
 {
     match heads::capacity_for(job.head) {
-        1 => in_frame::<T, 425, 68>(tool, job, 1, out),
-        2 => in_frame::<T, 850, 136>(tool, job, 2, out),
-        8 => in_frame::<T, 3400, 544>(tool, job, 8, out),
-        _ => in_frame::<T, 13600, 2176>(tool, job, 32, out),
+        1 => in_frame::<T, CELLS_1, LINKS_1>(tool, job, 1, out),
+        2 => in_frame::<T, CELLS_2, LINKS_2>(tool, job, 2, out),
+        8 => in_frame::<T, CELLS_8, LINKS_8>(tool, job, 8, out),
+        _ => in_frame::<T, CELLS_32, LINKS_32>(tool, job, 32, out),
     }
 }

@@ -1,12 +1,11 @@
 -- The edges form a circle exactly if an order lacks a task.
 use Rattle.std.specs.Prelude.{Ok, Err}
-use Rattle.lists.proofs.Prelude.{◌≡◌, refl, sym, ◌∙◌, List, [], map, Bool, true, false, ℕ, ◌≤◌, arith, ltb, drop, le-ltb, ltb-false, Edge, Job, circular, nth, distinct, inl, zero, suc, ◌+◌, ◌<◌, length, get_or-drop, lt-ltb}
+use Rattle.lists.proofs.Prelude.{◌≡◌, refl, sym, ◌∙◌, List, [], map, Bool, true, false, ℕ, ◌≤◌, arith, ltb, drop, le-ltb, ltb-false, Edge, Job, circular, nth, distinct, inl, zero, suc, ◌+◌, ◌<◌, get_or-drop, lt-ltb}
 use Rattle.definitions.proofs.Lists.{head_apart}
 use Rattle.orders.specs.Edges.{edge_in}
 use Rattle.orders.specs.Order.{Within, Rising, listed, Arranged}
-use Rattle.orders.specs.Links.{order_at, links_size, circles, ascending, Runs, Linked, LinkedFrom}
+use Rattle.orders.specs.Links.{order_at, circles, Runs, Linked, LinkedAs}
 use Rattle.orders.specs.declared.Unlinked.TheVariants.{Circle}
-use Rattle.orders.proofs.PairLaws.{ascending_parts, linkable_rest}
 use Rattle.orders.proofs.OrderLaws.{listed_place, place_listed, arranged_most, arranged_all, arranged_none}
 
 -- A job with v tasks and these edges.
@@ -57,14 +56,15 @@ numbered {v} {edges} {links} runs r o = record {
         head_apart (nth order n) (listed order n)
         (λ i. let (k, l, e) = listed_place order n (nth order n) i in omega (arith, e, at k (omega arith), at n (omega arith))) (apart n (omega arith))
 
--- What is answered, if the edges can be linked: that all tasks have an order, or that it lacks one.
-module _ (v : ℕ) (edges before after : List ℕ) (s : links_size v (length edges) ≤ length before) (o : ascending v 0 edges ≡ true) where
-  pub link_joined : Linked v edges after → LinkedFrom v edges before after (Ok tt)
-  link_joined k =
-      let z : circles v (map edge_in edges) ≡ false = sym (order_short v (map edge_in edges) (ascending_parts v 0 edges o).0 k.order) ∙ le-ltb v v (omega arith) in
-      rw (linkable_rest v edges (length before) s ∙ o, z) (refl, k)
+-- What is answered, by whether all tasks have an order or one lacks some.
+module _ (v : ℕ) (edges before after : List ℕ) (w : Within v (map edge_in edges)) where
+  pub linked_joined : Linked v edges after → LinkedAs true (circles v (map edge_in edges)) v edges before after (Ok tt)
+  linked_joined k =
+      let z : circles v (map edge_in edges) ≡ false = sym (order_short v (map edge_in edges) w k.order) ∙ le-ltb v v (omega arith) in
+      rw z (refl, k)
 
-  pub link_circle : {n : ℕ} → Arranged v (map edge_in edges) (drop (order_at v 0) after) n → n < v → LinkedFrom v edges before after (Err Circle)
-  link_circle {n} a h =
-      let z : circles v (map edge_in edges) ≡ true = sym (order_short v (map edge_in edges) (ascending_parts v 0 edges o).0 a) ∙ lt-ltb n v h in
-      rw (linkable_rest v edges (length before) s ∙ o, z)
+  pub linked_circle : {n : ℕ} → Arranged v (map edge_in edges) (drop (order_at v 0) after) n → n < v
+      → LinkedAs true (circles v (map edge_in edges)) v edges before after (Err Circle)
+  linked_circle {n} a h =
+      let z : circles v (map edge_in edges) ≡ true = sym (order_short v (map edge_in edges) w a) ∙ lt-ltb n v h in
+      rw z refl

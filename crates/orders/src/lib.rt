@@ -6,6 +6,7 @@ ghost use Rattle.orders.specs.Edges.{edge_in, pair_in};
 ghost use Rattle.orders.specs.Links.{out_start_at, in_start_at, order_at, link_in, LinkedFrom};
 
 use std::ops::Range;
+use tables::{IN_STARTS, ORDER, OUT_STARTS, at};
 
 mod runs;
 mod sorting;
@@ -35,10 +36,7 @@ pub fn link(edges: &[u64], v: usize, links: &mut [u64]) -> Result<(), Unlinked>
         sorting::number(edges, v, links);
         return Ok(());
     }
-    if sorting::arrange(edges, v, links) < v {
-        return Err(Unlinked::Circle);
-    }
-    Ok(())
+    sorting::arrange(edges, v, links)
 }
 
 // The task that the edge in a cell leaves.
@@ -75,8 +73,7 @@ fn run_of<const TABLE: usize>(links: &[u64], v: usize, t: usize) -> Range<usize>
     ensures { (result.start ≡ link_in v t (TABLE * (v + 1) + t) links.now) × (result.end ≡ link_in v t (TABLE * (v + 1) + (t + 1)) links.now) }
 {
     if t < v && v < links.len() / 4 {
-        let at = TABLE * (v + 1) + t;
-        return links[at] as usize..links[at + 1] as usize;
+        return links[at(TABLE, v, t)] as usize..links[at(TABLE, v, t + 1)] as usize;
     }
     0..0
 }
@@ -85,22 +82,23 @@ fn run_of<const TABLE: usize>(links: &[u64], v: usize, t: usize) -> Range<usize>
 pub fn leaving(links: &[u64], v: usize, t: usize) -> Range<usize>
     ensures { (result.start ≡ link_in v t (out_start_at v t) links.now) × (result.end ≡ link_in v t (out_start_at v (t + 1)) links.now) }
 {
-    run_of::<0>(links, v, t)
+    run_of::<OUT_STARTS>(links, v, t)
 }
 
 // The run of the edges that enter task t of v, among the links.
 pub fn entering(links: &[u64], v: usize, t: usize) -> Range<usize>
     ensures { (result.start ≡ link_in v t (in_start_at v t) links.now) × (result.end ≡ link_in v t (in_start_at v (t + 1)) links.now) }
 {
-    run_of::<1>(links, v, t)
+    run_of::<IN_STARTS>(links, v, t)
 }
 
-// Task i of the order of v tasks.
+// Task i of the order of v tasks; 0, if the links have no such task.
+// Kept: no Option: docs/CONTRACTS.md promises the 0 of `task_at`, by the clause `link_in`.
 pub fn task_at(links: &[u64], v: usize, i: usize) -> usize
     ensures { result ≡ link_in v i (order_at v i) links.now }
 {
     if i < v && v < links.len() / 4 {
-        return links[tables::order_at(v, i)] as usize;
+        return links[at(ORDER, v, i)] as usize;
     }
     0
 }

@@ -1,20 +1,20 @@
 // An order of the tasks in which each comes after those that precede it, made among the links.
-ghost use Rattle.std.specs.Prelude.{◌≡◌, [], map, ◌+◌, ◌≤◌, ◌<◌, length, drop};
+ghost use Rattle.std.specs.Prelude.{◌≡◌, List, [], map, true, ℕ, ◌+◌, ◌≤◌, ◌<◌, length};
 ghost use Rattle.orders.specs.Edges.{edge_in};
-ghost use Rattle.orders.specs.Order.{Within, Rising, Arranged};
-ghost use Rattle.orders.specs.Links.{order_at, links_size, Runs, Counted, Linked};
+ghost use Rattle.orders.specs.Order.{Within, Rising};
+ghost use Rattle.orders.specs.Links.{order_at, links_size, circles, Runs, Counted, Linked, LinkedAs};
 ghost use Rattle.orders.specs.Sorting.{pending, released, joined, joined_count, Sorting};
 
-use crate::tables::{order_at, pending_at};
-use crate::{edge_to, leaving, task_at};
+use crate::tables::{ORDER, PENDING, at};
+use crate::{Unlinked, edge_to, leaving, task_at};
 
 // Task t joins the n tasks of the order, if no edge blocks it. The answer is how many they then are.
 fn join(v: usize, links: &mut [u64], t: usize, n: usize) -> usize
     requires { (links_size v 0 ≤ length links.old) × (t < v) × (n ≤ v) }
     ensures { (links.new ≡ joined v t n links.old) × (result ≡ joined_count v t n links.old) }
 {
-    if links[pending_at(v, t)] == 0 {
-        links[order_at(v, n)] = t as u64;
+    if links[at(PENDING, v, t)] == 0 {
+        links[at(ORDER, v, n)] = t as u64;
         return n + 1;
     }
     n
@@ -25,7 +25,7 @@ fn release(v: usize, links: &mut [u64], t: usize, n: usize) -> usize
     requires { (links_size v 0 ≤ length links.old) × (t < v) × (n ≤ v) × (1 ≤ pending v links.old t) }
     ensures { (links.new ≡ joined v t n (released v t links.old)) × (result ≡ joined_count v t n (released v t links.old)) }
 {
-    links[pending_at(v, t)] -= 1;
+    links[at(PENDING, v, t)] -= 1;
     join(v, links, t, n)
 }
 
@@ -55,10 +55,10 @@ fn unblock(edges: &[u64], v: usize, links: &mut [u64], i: usize, n: usize) -> us
     count
 }
 
-// Puts the tasks into an order, each after those that precede it. The answer is how many: all, if the edges form no circle.
-pub fn arrange(edges: &[u64], v: usize, links: &mut [u64]) -> usize
+// Puts the tasks into an order, each after those that precede it, if the edges form no circle.
+pub fn arrange(edges: &[u64], v: usize, links: &mut [u64]) -> Result<(), Unlinked>
     requires { Runs v edges.now links.old × Counted v edges.now links.old × Within v (map edge_in edges.now) }
-    ensures { Runs v edges.now links.new × Arranged v (map edge_in edges.now) (drop (order_at v 0) links.new) result }
+    ensures { (before : List ℕ) → LinkedAs true (circles v (map edge_in edges.now)) v edges.now before links.new result }
 {
     let mut n = list_entries(edges, v, links);
     let mut i = 0;
@@ -67,7 +67,10 @@ pub fn arrange(edges: &[u64], v: usize, links: &mut [u64]) -> usize
         n = unblock(edges, v, links, i, n);
         i += 1;
     }
-    n
+    if n < v {
+        return Err(Unlinked::Circle);
+    }
+    Ok(())
 }
 
 // The tasks by number: an order, where every edge leads to a task of a greater one.
@@ -76,6 +79,6 @@ pub fn number(edges: &[u64], v: usize, links: &mut [u64])
     ensures { Linked v edges.now links.new }
 {
     for t in 0..v {
-        links[order_at(v, t)] = t as u64;
+        links[at(ORDER, v, t)] = t as u64;
     }
 }

@@ -1,20 +1,25 @@
-// Where the tables stand among the links of v tasks.
-ghost use Rattle.std.specs.Prelude.{◌≡◌, ◌<◌, ◌^◌};
-ghost use Rattle.orders.specs.Links.{order_at, pending_at};
+// Where the tables stand among the links of v tasks, v + 1 cells each; the last begins behind them and has a cell for each edge.
+ghost use Rattle.std.specs.Prelude.{◌≡◌, ◌+◌, ◌*◌, ◌<◌, ◌^◌};
 
-// Task i of the order.
-// Kept: the new form is no plainer: two bodies of one expression; one function for both adds a table's number and a requires for v + 1.
-pub fn order_at(v: usize, i: usize) -> usize
-    requires { order_at v i < 2 ^ 64 }
-    ensures { result ≡ order_at v i }
-{
-    2 * (v + 1) + i
-}
+// Where the run of the edges that leave each task begins.
+pub const OUT_STARTS: usize = 0;
 
-// How many edges still block task t.
-pub fn pending_at(v: usize, t: usize) -> usize
-    requires { pending_at v t < 2 ^ 64 }
-    ensures { result ≡ pending_at v t }
+// Where the run of the edges that enter each task begins.
+pub const IN_STARTS: usize = 1;
+
+// The order of the tasks; while the runs are made, where the next edge that enters each task goes.
+pub const ORDER: usize = 2;
+
+// How many edges enter each task; while the order is made, how many of them still block it.
+pub const PENDING: usize = 3;
+
+// The edges by the task that they enter.
+pub const IN_EDGES: usize = 4;
+
+// Where cell i of a table stands.
+pub fn at(table: usize, v: usize, i: usize) -> usize
+    requires { (v + 1 < 2 ^ 64) × (table * (v + 1) + i < 2 ^ 64) }
+    ensures { result ≡ table * (v + 1) + i }
 {
-    3 * (v + 1) + t
+    table * (v + 1) + i
 }

@@ -9,6 +9,7 @@ ghost use Rattle.lists.specs.Over.{over};
 use std::io::Write;
 
 // What is printed for the job's text, at the front of `out`, which has room for the longest plan. The answer is its length.
+// Kept: the same `match` is in another program: a function for both would be a new one of `console`, longer than it.
 fn answer(job: &[u8], out: &mut [u8]) -> usize
     requires { length out.old ≡ 65536 }
     ensures value { result ≡ length (plan_printed job.now) }

@@ -1,6 +1,6 @@
 -- The rules of a plan's lines, with the job and the lines before in a memory.
 use Rattle.lists.proofs.Prelude.{◌≡◌, refl, ap, subst, sym, ◌∙◌, inr, ⊎_elim, List, [], ◌∷◌, map, map-map, reverse, Bool, true, false, not, ◌||◌}
-use Rattle.lists.proofs.Prelude.{true≢false, ℕ, zero, suc, ◌+◌, ◌<◌, ◌≤◌, arith, add-one, ltb-true, lt-ltb, le-ltb, eq-eqb, ne_eqb, not-false, eqb}
+use Rattle.lists.proofs.Prelude.{true≢false, ℕ, zero, suc, ◌+◌, ◌-◌, ◌<◌, ◌≤◌, arith, add-one, drop, take, get_or, ltb-true, lt-ltb, le-ltb, eq-eqb, ne_eqb, not-false, eqb}
 use Rattle.lists.proofs.Prelude.{ltb, length, nth, below, In, any, all, has, Limits, first_of, Edge, incoming, outside, Replica, Line, processors_of}
 use Rattle.lists.proofs.Prelude.{descends, plan_line_rule}
 use Rattle.definitions.specs.Plan.{strays}
@@ -12,18 +12,17 @@ use Rattle.heads.specs.Layout.{line_at, row_at, processor_at, early_at, late_at}
 use Rattle.jobs.specs.Held.{job_in, JobHeld}
 use Rattle.plans.specs.Lines.{replica_in, replica_strays, row_replicas, lines_in, RowHeld, LinesHeld}
 use Rattle.orders.specs.Edges.{edge_in}
-use Rattle.orders.specs.Links.{Run}
-use Rattle.orders.proofs.Walk.{passed, Passed, pass_none, pass_first, pass_at, pass_on, pass_more, pass_done}
+use Rattle.orders.specs.Links.{run, Run}
+use Rattle.orders.proofs.Walk.{pass_in}
 use Rattle.plans.specs.Loading.{line_in}
 use Rattle.std.proofs.Common.{zero-add}
+use Rattle.std.proofs.lemmas.List.{get_or_default}
 use Rattle.std.specs.Bool.{MatchBool}
 use Rattle.std.specs.List.{range_with_len, AllWithin, HoldsAt}
 use Rattle.std.proofs.lemmas.List.FromFn.{length-range_with_len, get_or-range_with_len}
-use Rattle.lists.proofs.ListLaws.{all_same}
+use Rattle.lists.proofs.ListLaws.{all_same, part_length, part_nth}
 use Rattle.jobs.proofs.Held.{sizes, tasks_in_lem}
 use Rattle.plans.proofs.Lines.{line_with, lines_below, replica_of, in_replicas, processors_length, processor_at_lem}
-
--- The head --------------------------------------------------------------------------------------------------------
 
 -- The processors and ticks of a line --------------------------------------------------------------------------------
 
@@ -127,47 +126,52 @@ module _ (mem : List ℕ) (a : ℕ) where
 abbrev pub has_line : ℕ → List ℕ → ℕ → Bool
 has_line capacity mem t = not (eqb (nth mem (line_at capacity + t)) 0)
 
--- The run of the edges that enter task t is passed up to cell k, and all tasks that the edges passed leave have lines.
-pub record Lined (l : Limits) (capacity t : ℕ) (mem links : List ℕ) (a b k : ℕ) : Type 0 where
-  pub job : JobHeld l capacity mem
-  pub way : Passed a b links (incoming (job_in mem) t) k
-  pub lines : all (λ e. has_line capacity mem e.from) (passed a k links) ≡ true
+-- Each edge of a part of some cells passes a test.
+all_run : (f : Edge → Bool) (a n : ℕ) (cells : List ℕ) → ((i : ℕ) → i < n → f (edge_in (nth cells (a + i))) ≡ true) → all f (run a n cells) ≡ true
+unfolding all run
+all_run f a zero cells h = refl
+all_run f a (suc n) cells h = rw (h n (omega arith)) (all_run f a n cells (λ i g. h i (omega arith)))
 
-pub lined_first : {l : Limits} {capacity t : ℕ} {mem links : List ℕ} {a b : ℕ} → JobHeld l capacity mem → Run a b links (incoming (job_in mem) t) → Lined l capacity t mem links a b a
-unfolding all
-lined_first {links = links} {a} h r = record { job = h; way = pass_first r; lines = rw (pass_none a links a (omega arith)) }
+-- An edge leaves a task that has a line.
+abbrev pub lined : ℕ → List ℕ → Edge → Bool
+lined capacity mem e = has_line capacity mem e.from
 
-module _ {l : Limits} {capacity t : ℕ} {mem links : List ℕ} {a b k : ℕ} (w : Lined l capacity t mem links a b k) where
-  abbrev lined : Edge → Bool
-  lined e = has_line capacity mem e.from
+-- The cells of a run, and what stands in those of the edges that enter task t.
+abbrev cells_of : ℕ → ℕ → List ℕ → List ℕ
+cells_of a b cells = take (b - a) (drop a cells)
 
-  pub lined_done : b ≤ k → true ≡ all (λ e. has_line capacity mem e.from) (incoming (job_in mem) t)
-  lined_done h =
+module _ {l : Limits} {capacity : ℕ} {mem links : List ℕ} {a b : ℕ} (t : ℕ) (h : JobHeld l capacity mem) (r : Run a b links (incoming (job_in mem) t)) where
+  inward_length : length (cells_of a b links) ≡ b - a
+  inward_length = part_length links a (b - a) (omega (arith, r.rises, r.within))
+
+  inward_at : (k : ℕ) → k < length (cells_of a b links) → nth (cells_of a b links) k ≡ nth links (a + k)
+  inward_at k g = part_nth links a (b - a) k (omega (arith, inward_length))
+
+  inward_in : (k : ℕ) → k < length (cells_of a b links) → In (edge_in (nth links (a + k))) (incoming (job_in mem) t)
+  inward_in k g = pass_in r (a + k) (omega arith) (omega (arith, inward_length, r.rises))
+
+  -- Each leaves a task that has its place in the table.
+  pub sender_below : (x k : ℕ) → k < length (cells_of a b links) → x ≡ get_or (cells_of a b links) k x → line_at capacity + (edge_in x).from < length mem
+  sender_below x k g e =
+      let s = sizes h in
+      let c : x ≡ nth links (a + k) = e ∙ get_or_default (cells_of a b links) k x 0 g ∙ inward_at k g in
+      rw c (omega (arith, s.size, s.tasks_most, tasks_in_lem mem, h.facts.from_task _ (in_incoming (job_in mem) t _ (inward_in k g)).0))
+
+  -- It was asked of each whether its task has a line.
+  pub lined_by : (z : Bool)
+      → MatchBool z (AllWithin (λ x. true ≡ lined capacity mem (edge_in x)) (cells_of a b links) 0 (length (cells_of a b links)))
+      ((k : ℕ) × (k < length (cells_of a b links)) × HoldsAt (λ x. false ≡ lined capacity mem (edge_in x)) (cells_of a b links) k)
+      → z ≡ all (lined capacity mem) (incoming (job_in mem) t)
+  lined_by true y =
       let es = incoming (job_in mem) t in
-      sym (in_all lined es (λ e i. all_in lined e (reverse es) (rw (pass_done w.way h) at w.lines) (reverse_left e es [] i)))
-
-  module _ (g : k < b) where
-    -- The next edge leaves a task that has its place in the table.
-    pub sender_below : line_at capacity + (edge_in (nth links k)).from < length mem
-    sender_below =
-        let s = sizes w.job in
-        omega (arith, s.size, s.tasks_most, tasks_in_lem mem, w.job.facts.from_task _ (in_incoming (job_in mem) t _ (pass_at w.way g)).0)
-
-    module _ (f : ℕ) (e : f ≡ (edge_in (nth links k)).from) where
-      pub lined_no : nth mem (line_at capacity + f) ≡ 0 → false ≡ all (λ e. has_line capacity mem e.from) (incoming (job_in mem) t)
-      lined_no z =
-          let es = incoming (job_in mem) t in
-          let n : lined (edge_in (nth links k)) ≡ false = rw (← e, z) in
-          sym (refuted (all lined es) (λ y. true≢false (sym (all_in lined (edge_in (nth links k)) es y (pass_at w.way g)) ∙ n)))
-
-      pub lined_next : (nth mem (line_at capacity + f) ≡ 0 → ⊥) → Lined l capacity t mem links a b (k + 1)
-      unfolding all
-      lined_next n =
-          record {
-            job = w.job;
-            way = pass_on w.way g (k + 1) refl;
-            lines = rw (pass_more a links k (k + 1) w.way.rises refl, ← e, ne_eqb (nth mem (line_at capacity + f)) 0 n) w.lines;
-          }
+      let each : (i : ℕ) → i < b - a → lined capacity mem (edge_in (nth links (a + i))) ≡ true = λ i g.
+      let k : i < length (cells_of a b links) = omega (arith, inward_length) in
+      sym (rw (inward_at i k) at (y i 0 (omega arith) k)) in
+      sym (in_all (lined capacity mem) es (λ e i. all_in (lined capacity mem) e (reverse es) (rw r.edges at (all_run (lined capacity mem) a (b - a) links each)) (reverse_left e es [] i)))
+  lined_by false (k, g, y) =
+      let es = incoming (job_in mem) t in
+      let n : lined capacity mem (edge_in (nth links (a + k))) ≡ false = sym (rw (inward_at k g) at (y 0)) in
+      sym (refuted (all (lined capacity mem) es) (λ i. true≢false (sym (all_in (lined capacity mem) (edge_in (nth links (a + k))) es i (inward_in k g)) ∙ n)))
 
 -- The tasks of the first k lines, in order.
 module _ (capacity w : ℕ) (mem : List ℕ) where

@@ -12,8 +12,8 @@ use text::refusal::Refusal;
 mod plans;
 mod row;
 
-// Kept: memory, links and capacity side by side, as rounds' House says of a memory that is written.
 // The rest of a job's text, after its head, and a plan's text, into a memory of this capacity, and the links between the job's edges.
+// Kept: memory, links and capacity side by side where the memory is written: a struct with the `&mut` memory in a field was tried, and no goal says what the lent slice holds afterwards.
 pub fn load_both(
     job: Opened,
     plan: &[u8],

@@ -15,24 +15,27 @@ ghost use Rattle.plans.specs.Loading.{line_in, RowFilled, LineRead, plan_from, P
 
 use crate::row;
 use heads::layout::{LINE, LOWER, UPPER};
+use jobs::House;
 use lines::reader::Reader;
 use text::limits::{LOSSES, PROCESSORS, TASKS, TEXT_LENGTH, TICK};
 use text::refusal::Refusal;
 
 // Whether a plan's head is refused.
+#[tactic(auto, unfolding(definitions::specs::Plan::plan_head_rule, definitions::specs::Text::first_of, jobs::specs::Held::job_in))]
 fn check_head(mem: &[u64], head: &[u64; 5]) -> Result<(), Refusal>
     requires { 4 ≤ length mem.now }
     ensures { due_of result ≡ plan_head_rule document01 (job_in mem.now) (plan_head_of head.now) }
 {
-    let tasks = text::outside(1, TASKS, head[0]);
-    let processors = text::outside(1, PROCESSORS, head[1]);
-    let losses = text::outside(0, LOSSES, head[2]);
-    let lower = text::outside(0, TICK, head[3]);
-    let upper = text::outside(0, TICK, head[4]);
-    if tasks || processors || losses || lower || upper {
+    let [tasks, processors, losses, lower, upper] = *head;
+    if text::outside(1, TASKS, tasks)
+        || text::outside(1, PROCESSORS, processors)
+        || text::outside(0, LOSSES, losses)
+        || text::outside(0, TICK, lower)
+        || text::outside(0, TICK, upper)
+    {
         return Err(Refusal::OutOfRange);
     }
-    if head[0] != mem[0] || head[1] != mem[1] || head[2] != mem[3] {
+    if tasks != mem[0] || processors != mem[1] || losses != mem[3] {
         return Err(Refusal::OtherJob);
     }
     Ok(())
@@ -44,9 +47,7 @@ fn replica_outside(mem: &[u64], a: usize, c: usize) -> bool
     ensures { result ≡ replica_strays document01 a c mem.now }
 {
     let x = row::replica_at(mem, a, c);
-    let early = text::outside(0, TICK, x.early);
-    let late = text::outside(0, TICK, x.late);
-    x.processor >= mem[1] || early || late
+    x.processor >= mem[1] || text::outside(0, TICK, x.early) || text::outside(0, TICK, x.late)
 }
 
 // The task, a processor or a tick of the line at `a` is outside its range.
@@ -71,39 +72,34 @@ fn descends(mem: &[u64], a: usize) -> bool
 }
 
 // Every predecessor of t has a line.
-fn predecessors_placed(mem: &[u64], links: &[u64], capacity: usize, t: usize) -> bool
-    requires { JobHeld document01 capacity mem.now × LinksHeld mem.now links.now × (t < nth mem.now 0) }
-    ensures { result ≡ all (λ e. not (eqb (nth mem.now (line_at capacity + e.from)) 0)) (incoming (job_in mem.now) t) }
+fn predecessors_placed(house: House, t: usize) -> bool
+    requires { JobHeld document01 house.capacity house.mem.now × LinksHeld house.mem.now house.links.now × (t < nth house.mem.now 0) }
+    ensures { result ≡ all (λ e. not (eqb (nth house.entry.mem.now (line_at house.entry.capacity + e.from)) 0)) (incoming (job_in house.entry.mem.now) t) }
 {
-    let run = orders::entering(links, mem[0] as usize, t);
-    for k in run.start..run.end {
-        let from = orders::edge_from(links[k]);
-        if row::line_of(mem, capacity, from) == 0 {
-            return false;
-        }
-    }
-    true
+    let run = orders::entering(house.links, house.mem[0] as usize, t);
+    house.links[run]
+        .iter()
+        .all(|edge| row::has_line(house, orders::edge_from(*edge)))
 }
 
 // Whether the line at `a` is refused, after the lines that have a place in the table.
-fn check_line(mem: &[u64], links: &[u64], capacity: usize, a: usize) -> Result<(), Refusal>
-    requires { JobHeld document01 capacity mem.now × LinksHeld mem.now links.now × (row_end a ≤ length mem.now) }
-    ensures { ((k : ℕ) → LinesHeld document01 capacity k mem.now → due_of result ≡ plan_line_rule document01 (job_in mem.now)
-        (lines_in capacity (nth mem.now 3 + 1) k mem.now) (line_in a mem.now))
-        × (due_of result ≡ 0 → (nth mem.now a < nth mem.now 0) × (nth mem.now (line_at capacity + nth mem.now a) ≡ 0)
-        × RowHeld document01 a mem.now) }
+fn check_line(house: House, a: usize) -> Result<(), Refusal>
+    requires { JobHeld document01 house.capacity house.mem.now × LinksHeld house.mem.now house.links.now × (row_end a ≤ length house.mem.now) }
+    ensures { ((k : ℕ) → LinesHeld document01 house.entry.capacity k house.entry.mem.now
+        → due_of result ≡ plan_line_rule document01 (job_in house.entry.mem.now)
+        (lines_in house.entry.capacity (nth house.entry.mem.now 3 + 1) k house.entry.mem.now) (line_in a house.entry.mem.now))
+        × (due_of result ≡ 0 → (nth house.entry.mem.now a < nth house.entry.mem.now 0)
+        × (nth house.entry.mem.now (line_at house.entry.capacity + nth house.entry.mem.now a) ≡ 0)
+        × RowHeld document01 a house.entry.mem.now) }
 {
-    if outside_ranges(mem, a) {
+    if outside_ranges(house.mem, a) {
         return Err(Refusal::OutOfRange);
     }
-    if descends(mem, a) {
+    if descends(house.mem, a) {
         return Err(Refusal::ProcessorsDescend);
     }
-    let t = mem[a] as usize;
-    if row::line_of(mem, capacity, t) != 0 {
-        return Err(Refusal::TaskOutOfTurn);
-    }
-    if !predecessors_placed(mem, links, capacity, t) {
+    let t = house.mem[a] as usize;
+    if row::has_line(house, t) || !predecessors_placed(house, t) {
         return Err(Refusal::TaskOutOfTurn);
     }
     Ok(())
@@ -141,7 +137,12 @@ fn read_plan_line(
 {
     fill_row(reader, mem, capacity, k)?;
     let a = row::row_at(capacity, k);
-    check_line(&mem[..], links, capacity, a)?;
+    let house = House {
+        mem: &mem[..],
+        links,
+        capacity,
+    };
+    check_line(house, a)?;
     let t = mem[a] as usize;
     row::put_line(mem, capacity, t, k);
     Ok(())
@@ -203,5 +204,6 @@ pub fn load_plan(s: &[u8], mem: &mut [u64], links: &[u64], capacity: usize) -> R
     let mut head = [0u64; 5];
     reader.line(b"PLAN,", 5, &mut head)?;
     check_head(&mem[..], &head)?;
-    load_lines(reader, head[3], head[4], mem, links, capacity)
+    let [.., lower, upper] = head;
+    load_lines(reader, lower, upper, mem, links, capacity)
 }

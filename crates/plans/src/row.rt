@@ -1,14 +1,16 @@
 // A plan's lines in memory: a line's task, then a processor and two ticks for each of its replicas.
-ghost use Rattle.std.specs.Prelude.{◌≡◌, ◌+◌, ◌≤◌, ◌<◌, length, set};
+ghost use Rattle.std.specs.Prelude.{◌≡◌, not, ◌+◌, ◌≤◌, ◌<◌, eqb, length, set};
 ghost use Rattle.definitions.specs.Lists.{nth};
 ghost use Rattle.definitions.specs.Limits.{document01};
 ghost use Rattle.heads.specs.Layout.{line_at, row_at, processor_at, early_at, late_at, replica_end};
 ghost use Rattle.plans.specs.Lines.{line_cells};
 
 use heads::layout::{LINE, ROW, ROWS};
+use jobs::House;
 
 // A replica of a line.
-// Kept: `row` stands in `plans` and in `rounds`: its functions ask that the cells are there, and such stay in their crate (a rule of the project).
+// Kept: `row`, with this type, stands in `plans` and in `rounds`: its functions ask that the cells are there, and such functions stay in their
+// crate (a rule of the project).
 #[derive(Clone, Copy)]
 pub struct Replica {
     pub processor: u64,
@@ -16,12 +18,12 @@ pub struct Replica {
     pub late: u64,
 }
 
-// The line of task t, counted from 1; 0 if it has none.
-pub fn line_of(mem: &[u64], capacity: usize, t: usize) -> u64
-    requires { line_at capacity + t < length mem.now }
-    ensures { result ≡ nth mem.now (line_at capacity + t) }
+// Task t has a line.
+pub fn has_line(house: House, t: usize) -> bool
+    requires { line_at house.capacity + t < length house.mem.now }
+    ensures { result ≡ not (eqb (nth house.entry.mem.now (line_at house.entry.capacity + t)) 0) }
 {
-    mem[LINE * capacity + t]
+    house.mem[LINE * house.capacity + t] != 0
 }
 
 // Task t has line k.

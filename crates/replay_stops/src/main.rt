@@ -11,6 +11,7 @@ use std::io::Write;
 
 // What is printed for the three texts, at the front of `out`, which has room for it in any case: 255 R lines have at most 20
 // bytes each, the L line 13. The answer is its length.
+// Kept: the same `match` is in another program: a function for both would be a new one of `console`, longer than it.
 fn answer(job: &[u8], plan: &[u8], stops: &[u8], out: &mut [u8]) -> usize
     requires { length out.old ≡ 5113 }
     ensures value { result ≡ length (replay_printed job.now plan.now stops.now) }

@@ -20,7 +20,7 @@ const ROW: usize = 25;
 const REPLICA: usize = 3;
 
 // A first finish and its processor.
-// Kept: the memory's cells hold times so, NEVER for none (fixed memory); `result_line` and rounds' FirstIn speak of `time_in first.time`.
+// Kept: its time is a time in a cell, NEVER for none: the clauses of `first_finish` and `result_line` speak of `time_in first.time`.
 #[derive(Clone, Copy, Debug, PartialEq, Eq)]
 pub struct First {
     pub time: u64,

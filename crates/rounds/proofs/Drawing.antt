@@ -1,5 +1,5 @@
 -- The memory while a plan is drawn up: its ticks, a line more, and what a change elsewhere leaves as it was.
-use Rattle.lists.proofs.Prelude.{◌≡◌, refl, ap, ◌∙◌, sym, ⊎_elim, List, [], ◌∷◌, ◌++◌, map, map-map, map-append, append-nil, Bool, true, false, not, ◌&&◌, ℕ, zero, suc, ◌+◌, ◌*◌, ◌-◌, ◌<◌, ◌≤◌, min, arith, add-zero, add-one, eqb-false, eq-eqb, ne_eqb, lt-ltb, not-true, eqb, ltb, length, set, take, take_all, take-suc, length-take-le, length-append, length-map, length-set, get_or-set_same, get_or-set_other, nth, keep, all, has, below, Limits, Edge, run_time, incoming, data_ready, start, stop_time, finish, placement_of, tick_of, Waiting, free_tasks, ranked, trial, place, plan_for}
+use Rattle.lists.proofs.Prelude.{◌≡◌, refl, ap, ◌∙◌, sym, ⊎_elim, List, [], ◌∷◌, ◌++◌, map, map-map, map-append, append-nil, Bool, true, false, not, ◌&&◌, ℕ, zero, suc, ◌+◌, ◌*◌, ◌-◌, ◌<◌, ◌≤◌, min, arith, add-zero, add-one, eqb-false, eq-eqb, ne_eqb, lt-ltb, not-true, eqb, ltb, length, set, take, take_all, take-suc, length-take-le, length-append, length-map, length-set, get_or-set_same, get_or-set_other, get_or-take, nth, keep, all, has, below, Limits, Edge, run_time, incoming, data_ready, start, stop_time, finish, placement_of, tick_of, Waiting, free_tasks, ranked, trial, place, plan_for}
 use Rattle.definitions.proofs.Lists.{in_map, in_keep, map_same, map_keep, in_below, all_in}
 use Rattle.definitions.proofs.Placing.{placed_count}
 use Rattle.definitions.proofs.Chosen.{chosen_count}
@@ -139,18 +139,29 @@ module _ {lim : Limits} {capacity k t : ℕ} {early late : List ℕ} {d : List �
   pub replicas_all : {c : ℕ} {mem : List ℕ} → c ≡ nth d 3 + 1 → Begun capacity k t (take c ps) d mem → Begun capacity k t ps d mem
   replicas_all {c} e b = rw (take_all c ps (omega (arith, e, processors_count))) at b
 
-  module _ {c : ℕ} (l : c < nth d 3 + 1) where
-    -- The processor of replica c, by the list of those chosen.
-    module _ {list : List ℕ} (b : Begins (chosen_of (nth d 3 + 1) (min (nth d 1) 16) early) list) where
-      pub replica_on_lem : nth list c ≡ nth ps c
+  -- The list of those chosen begins with them.
+  module _ {list : List ℕ} (b : Begins (chosen_of (nth d 3 + 1) (min (nth d 1) 16) early) list) where
+    pub list_room : nth d 3 + 1 ≤ length list
+    list_room = let s = sizes o.drawn.standing.job in omega (arith, b.size, s.lanes_fit, s.enough)
+
+    pub list_taken : length (take (nth d 3 + 1) list) ≡ nth d 3 + 1
+    list_taken = length-take-le (nth d 3 + 1) list list_room
+
+    -- Replica c has its processor there, and that is one of the job.
+    module _ {c : ℕ} (l : c < length (take (nth d 3 + 1) list)) where
+      pub replica_wanted : c < nth d 3 + 1
+      replica_wanted = rw list_taken at l
+
+      pub replica_on_lem : nth (take (nth d 3 + 1) list) c ≡ nth ps c
       replica_on_lem =
           let e : min (nth d 1) 16 ≡ nth d 1 = omega (arith, (sizes o.drawn.standing.job).lanes_fit) in
-          (rw (e, processors_same) at b).each c (omega (arith, l, processors_count))
+          get_or-take (nth d 3 + 1) list c 0 replica_wanted ∙ (rw (e, processors_same) at b).each c (omega (arith, replica_wanted, processors_count))
 
-      pub replica_lane : nth list c < nth d 1
+      pub replica_lane : nth (take (nth d 3 + 1) list) c < nth d 1
       unfolding job_in
-      replica_lane = rw replica_on_lem (chosen_nth (job_in d) (nth d 3 + 1) (trial (job_in d) (earlies_in capacity k d) t) c (omega (arith, l, processors_count)))
+      replica_lane = rw replica_on_lem (chosen_nth (job_in d) (nth d 3 + 1) (trial (job_in d) (earlies_in capacity k d) t) c (omega (arith, replica_wanted, processors_count)))
 
+  module _ {c : ℕ} (l : c < nth d 3 + 1) where
     -- The first c replicas are there: there is room for one more, and it is there.
     module _ {mem : List ℕ} (b : Begun capacity k t (take c ps) d mem) where
       pub replica_within : replica_end (row_at capacity k) c ≤ length mem
@@ -272,8 +283,8 @@ module _ {lim : Limits} {capacity k t : ℕ} {mem : List ℕ} (g : Critical lim 
   task_predecessors = free_predecessors g.drawn g.ranked t task_below critical_free.1
 
 -- The list of free tasks is not empty while lines are left.
-pub listed_some : {lim : Limits} {capacity k : ℕ} {mem : List ℕ} → Drawn lim capacity k mem → Ranked capacity [] mem → k < nth mem 0 → (cells : List ℕ) (n : ℕ) → FreeList capacity cells n mem → 0 < n
-listed_some s r h cells n f =
+pub listed_some : {lim : Limits} {capacity k : ℕ} {mem : List ℕ} → Drawn lim capacity k mem → Ranked capacity [] mem → k < nth mem 0 → (cells : List ℕ) → FreeList capacity cells mem → 0 < length cells
+listed_some s r h cells f =
     let (a, b) = critical_free (record { drawn = s; ranked = r; more = h; lower = refl }) in
     let (k, l, e) = f.tasks.every _ a b in
     omega arith

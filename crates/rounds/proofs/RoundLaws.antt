@@ -1,5 +1,6 @@
 -- The replay of all lines, line after line.
-use Rattle.lists.proofs.Prelude.{◌≡◌, refl, ap, ◌∙◌, sym, inr, List, [], ◌++◌, false, ℕ, suc, ◌+◌, ◌<◌, ◌≤◌, arith, add-one, replicate, length-replicate, get_or-replicate, nth, Stop, ready, walk, placements, replay, Ordered, Limits}
+use Rattle.std.specs.Array.{AllOfLen}
+use Rattle.lists.proofs.Prelude.{◌≡◌, refl, ap, ◌∙◌, sym, inr, List, [], ◌++◌, false, ℕ, suc, ◌+◌, ◌<◌, ◌≤◌, arith, add-one, nth, Stop, ready, walk, placements, replay, Ordered, Limits}
 use Rattle.definitions.proofs.Ready.{first_ready_lem}
 use Rattle.heads.specs.Layout.{replicas_most, job_size, row_at, largest_delay_at, processor_at, lanes_most}
 use Rattle.jobs.specs.Held.{job_in, JobHeld}
@@ -38,16 +39,17 @@ pub record RoundRuns (lim : Limits) (capacity k : ℕ) (stops cells d e : List �
   pub retimed : Retimed capacity 0 (nth d 0) d e
   pub outcomes : (ss : List Stop) → StopsIn ss stops → placed_in capacity false (nth e 3 + 1) k e ≡ walked (job_in d) ss [] (placements (job_in d) (lines_in capacity (nth d 3 + 1) k d))
 
-pub round_first : {lim : Limits} {capacity : ℕ} (stops : List ℕ) {mem : List ℕ} → LinesHeld lim capacity (nth mem 0) mem → RoundRuns lim capacity 0 stops (replicate lanes_most 0) mem mem
+pub round_first : {lim : Limits} {capacity : ℕ} (stops : List ℕ) {times mem : List ℕ} → AllOfLen (λ x. x ≡ 0) times lanes_most → LinesHeld lim capacity (nth mem 0) mem
+    → RoundRuns lim capacity 0 stops times mem mem
 unfolding ready ran_in row_outcomes placed_in lines_in placements walked walk
-round_first stops {mem} s =
+round_first stops {times} {mem} z s =
     let w = sizes s.job in
     record {
       running = record {
         standing = s;
-        size = length-replicate {A = ℕ} lanes_most 0;
-        ready_of = λ p h. rw (get_or-replicate {A = ℕ} lanes_most p 0 0 (omega arith), first_ready_lem (job_in mem) p);
-        ready_small = λ p h. rw (get_or-replicate {A = ℕ} lanes_most p 0 0 (omega arith)) (inr (omega arith));
+        size = z.long;
+        ready_of = λ p h. rw (z.at p 0 (omega arith), first_ready_lem (job_in mem) p);
+        ready_small = λ p h. rw (z.at p 0 (omega arith)) (inr (omega arith));
         within = λ d i. absurd i;
         settled = λ d i. absurd i;
       };

@@ -34,21 +34,16 @@ abbrev pub Sooner : ℕ → List ℕ → ℕ → ℕ → Type 0
 Sooner capacity mem t u =
     (nth mem (priority_at capacity + u) < nth mem (priority_at capacity + t)) ⊎ ((nth mem (priority_at capacity + t) ≡ nth mem (priority_at capacity + u)) × (t < u))
 
--- The cells of a list of free tasks.
-abbrev pub free_cells : ℕ
-free_cells = 256
-
 -- The first n cells list the free ones of the first v tasks, each once, so that of two the later is chosen first.
 pub record FreeBelow (capacity v : ℕ) (cells : List ℕ) (n : ℕ) (mem : List ℕ) : Type 0 where
-  pub size : length cells ≡ free_cells
   pub task_of : (k : ℕ) → k < n → nth cells k < v
   pub free_of : (k : ℕ) → k < n → is_free capacity mem (nth cells k) ≡ true
   pub every : (t : ℕ) → t < v → is_free capacity mem t ≡ true → (k : ℕ) × (k < n) × (nth cells k ≡ t)
   pub sorted : (j k : ℕ) → j < k → k < n → Sooner capacity mem (nth cells k) (nth cells j)
 
--- The first n cells list the free tasks; and a task that is blocked has no line.
-pub record FreeList (capacity : ℕ) (cells : List ℕ) (n : ℕ) (mem : List ℕ) : Type 0 where
-  pub tasks : FreeBelow capacity (nth mem 0) cells n mem
+-- The list is that of the free tasks; and a task that is blocked has no line.
+pub record FreeList (capacity : ℕ) (list mem : List ℕ) : Type 0 where
+  pub tasks : FreeBelow capacity (nth mem 0) list (length list) mem
   pub waits : (u : ℕ) → u < nth mem 0 → 0 < nth mem (blocked_at capacity + u) → nth mem (line_at capacity + u) ≡ 0
 
 -- Task u was put into place i of a list of n tasks: those before it are as they were, those from i on stand one place higher. They

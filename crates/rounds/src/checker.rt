@@ -14,10 +14,10 @@ ghost use Rattle.replicas.specs.Cells.{doubled_in};
 ghost use Rattle.rounds.specs.Clocks.{SettledTo};
 ghost use Rattle.rounds.specs.Checking.{ClocksAfter, LineAgrees, DoubledBy};
 
-use crate::house::House;
 use crate::times::Delays;
 use crate::{Fault, clocks, makespans, row, times};
 use heads::layout::{LOWER, UPPER};
+use jobs::House;
 use text::refusal::Refusal;
 use ticks::clocks::Clocks;
 
@@ -94,12 +94,8 @@ fn bounds_agree(house: House) -> bool
 {
     let lower_at = LOWER * house.capacity;
     let upper_at = UPPER * house.capacity;
-    let lower = makespans::makespan_of(house, false);
-    if lower != house.mem[lower_at] {
-        return false;
-    }
-    let upper = makespans::makespan_of(house, true);
-    upper == house.mem[upper_at]
+    let ends = makespans::makespans_of(house);
+    ends.lower == house.mem[lower_at] && ends.upper == house.mem[upper_at]
 }
 
 // The checker's answer to the plan in memory, none of whose tasks has two replicas on one processor.

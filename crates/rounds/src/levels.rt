@@ -10,9 +10,9 @@ ghost use Rattle.rounds.specs.Schedule.{LevelsFilled};
 ghost use Rattle.lists.specs.Kept.{KeptOutside};
 ghost use Rattle.rounds.specs.Levels.{level_most, sent, sent_most};
 
-use crate::house::House;
 use crate::{numbers, walk};
 use heads::layout::LEVEL;
+use jobs::House;
 
 // The scaled average run time of t.
 fn scaled_run(mem: &[u64], t: usize) -> u64
@@ -51,9 +51,8 @@ fn longest_after(house: House, t: usize, total: u64) -> u64
     let mem = house.mem;
     let level = LEVEL * house.capacity;
     let g = walk::edges_at(mem);
-    let span = orders::leaving(house.links, mem[0] as usize, t);
     let mut x: u64 = 0;
-    for k in span.start..span.end {
+    for k in orders::leaving(house.links, mem[0] as usize, t) {
         let e = mem[g + k];
         let to = orders::edge_to(e);
         x = x.max(orders::edge_volume(e) * total + mem[level + to]);

@@ -10,14 +10,13 @@ ghost use Rattle.plans.specs.Loading.{both_from};
 ghost use Rattle.rounds.specs.Tools.{plan_of, verdict_both, replay_both};
 ghost use Rattle.rounds.specs.Verdicts.{Judged};
 
-use crate::house::House;
 use heads::Opened;
+use jobs::House;
 use text::refusal::Refusal;
 
 mod checker;
 mod clocks;
 mod free;
-mod house;
 mod levels;
 mod makespans;
 mod numbers;

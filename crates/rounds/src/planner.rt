@@ -11,10 +11,11 @@ ghost use Rattle.rounds.specs.Planning.{FreeList, Taken, processors_for, Drawn, 
 ghost use Rattle.rounds.specs.Clocks.{earlies_in, lates_in, ClocksHeld};
 
 use crate::free::Free;
-use crate::house::House;
+use crate::row::Replica;
 use crate::times::Delays;
 use crate::{clocks, levels, priority, row, times, walk};
 use heads::layout::{BLOCKED, LEVEL, LINE, PRIORITY};
+use jobs::House;
 use ticks::clocks::Clocks;
 
 // No task is placed; each has its bottom level for a priority, and each edge blocks the task that it enters.
@@ -28,10 +29,9 @@ fn clear_tasks(mem: &mut [u64], links: &[u64], capacity: usize)
     let priorities = PRIORITY * capacity;
     let v = mem[0] as usize;
     for t in 0..v {
-        let span = orders::entering(links, v, t);
         let x = mem[level + t];
         mem[line + t] = 0;
-        mem[blocked + t] = (span.end - span.start) as u64;
+        mem[blocked + t] = orders::entering(links, v, t).len() as u64;
         mem[priorities + t] = x;
     }
 }
@@ -45,11 +45,13 @@ fn fill_line(mem: &mut [u64], capacity: usize, k: usize, t: usize, finishes: &Cl
     let w = mem[3] as usize + 1;
     let a = row::row_at(capacity, k);
     let list = choices::chosen(&finishes.early, m, w);
-    for c in 0..w {
-        let p = list[c];
-        let x = u64::from(finishes.early[p]);
-        let y = u64::from(finishes.late[p]);
-        row::put_replica(mem, a, c, p, x, y);
+    for (c, &p) in list[..w].iter().enumerate() {
+        let r = Replica {
+            processor: p,
+            early: u64::from(finishes.early[p]),
+            late: u64::from(finishes.late[p]),
+        };
+        row::put_replica(mem, a, c, r);
     }
 }
 
@@ -89,8 +91,8 @@ fn place_task(
 // One edge no longer blocks u; if u becomes free it gets its priority and joins the list.
 fn unblock(mem: &mut [u64], links: &[u64], capacity: usize, u: usize, free: &mut Free)
     requires { ((k : ℕ) × Drawn document01 capacity k mem.old) × Blocked capacity u mem.old
-        × FreeList capacity free.old.tasks free.old.count mem.old × LinksHeld mem.old links.now }
-    ensures { Unblocked capacity u mem.old mem.new × FreeList capacity free.new.tasks free.new.count mem.new }
+        × FreeList capacity free.old mem.old × LinksHeld mem.old links.now }
+    ensures { Unblocked capacity u mem.old mem.new × FreeList capacity free.new mem.new }
 {
     let blocked = BLOCKED * capacity;
     let b = mem[blocked + u];
@@ -112,14 +114,13 @@ fn unblock(mem: &mut [u64], links: &[u64], capacity: usize, u: usize, free: &mut
 // The edges that leave t no longer block; a task that becomes free gets its priority and joins the list.
 fn release(mem: &mut [u64], links: &[u64], capacity: usize, t: usize, free: &mut Free)
     requires { ((k : ℕ) × Drawn document01 capacity k mem.old) × Ranked capacity (reverse (outgoing (job_in mem.old) t)) mem.old
-        × FreeList capacity free.old.tasks free.old.count mem.old × (t < nth mem.old 0)
+        × FreeList capacity free.old mem.old × (t < nth mem.old 0)
         × LinksHeld mem.old links.now }
     ensures { KeptOutside (blocked_at capacity) (row_at capacity 0) mem.old mem.new
-        × Ranked capacity [] mem.new × FreeList capacity free.new.tasks free.new.count mem.new }
+        × Ranked capacity [] mem.new × FreeList capacity free.new mem.new }
 {
     let g = walk::edges_at(&mem[..]);
-    let span = orders::leaving(links, mem[0] as usize, t);
-    for k in (span.start..span.end).rev() {
+    for k in orders::leaving(links, mem[0] as usize, t).rev() {
         let u = orders::edge_to(mem[g + k]);
         unblock(mem, links, capacity, u, free);
     }
@@ -147,8 +148,7 @@ fn draw_lines(mem: &mut [u64], links: &[u64], capacity: usize, ends: &mut [f64])
     let mut clocks = Clocks::new();
     let mut free = Free::of(&mem[..], capacity);
     for k in 0..v {
-        free.count -= 1;
-        let t = free.tasks[free.count] as usize;
+        let t = free.pop() as usize;
         clocks = place_task(mem, links, capacity, &delays, ends, k, t, clocks);
         release(mem, links, capacity, t, &mut free);
     }

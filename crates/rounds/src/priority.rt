@@ -11,10 +11,10 @@ ghost use Rattle.lists.specs.Kept.{KeptOutside};
 ghost use Rattle.plans.specs.Lines.{LinesHeld};
 ghost use Rattle.rounds.specs.Planning.{Sends, spread_in, spread_most, top_most};
 
-use crate::house::House;
 use crate::walk::Inward;
 use crate::{numbers, row, walk};
 use heads::layout::LARGEST_DELAY;
+use jobs::House;
 use ticks::lanes::NEVER;
 
 // The largest of the delays from processor p.
@@ -68,8 +68,8 @@ pub fn top_level(house: House, t: usize) -> u64
 {
     let span = orders::entering(house.links, house.mem[0] as usize, t);
     let mut x: u64 = 0;
-    for k in span.start..span.end {
-        let edge = walk::entering(house, house.links[k]);
+    for cell in &house.links[span] {
+        let edge = walk::entering(house, *cell);
         x = x.max(spread(house, edge));
     }
     let m = house.mem[1];

@@ -1,5 +1,5 @@
 // The replay: what each replica does under stops. Its outcome takes the place of its early tick.
-ghost use Rattle.std.specs.Prelude.{◌≡◌, [], ℕ, suc, ◌*◌, ◌<◌, ◌≤◌, length, replicate};
+ghost use Rattle.std.specs.Prelude.{◌≡◌, [], ℕ, suc, ◌*◌, ◌<◌, ◌≤◌, length};
 ghost use Rattle.definitions.specs.Lists.{nth};
 ghost use Rattle.definitions.specs.Limits.{document01};
 ghost use Rattle.definitions.specs.Times.{unless_stopped};
@@ -12,9 +12,9 @@ ghost use Rattle.rounds.specs.Arrivals.{DelaysHeld, Ended};
 ghost use Rattle.plans.specs.Loading.{plan_in};
 ghost use Rattle.rounds.specs.Replaying.{Running, PredecessorsBefore, LineRun, RisingIn, RoundRun, FirstIn};
 
-use crate::house::House;
 use crate::times::Delays;
 use crate::{numbers, row, times};
+use jobs::House;
 use replicas::First;
 use ticks::lanes::NEVER;
 
@@ -28,20 +28,13 @@ fn unless_stopped(stop: u64, x: u64) -> u64
     x
 }
 
-// For each processor the time at which its newest replica finishes.
-#[derive(Clone, Copy)]
+// For each processor the time at which its newest replica finishes, at first 0.
+#[derive(Clone, Copy, Default)]
 struct Ready {
     at: [u64; 16],
 }
 
 impl Ready {
-    // All processors are ready at 0.
-    fn new() -> Ready
-        ensures { result.at ≡ replicate 16 0 }
-    {
-        Ready { at: [0; 16] }
-    }
-
     // Runs line k; the times advance replica by replica. The answer is those after it.
     fn run_line(
         mut self,
@@ -90,7 +83,7 @@ fn run_lines(mem: &mut [u64], links: &[u64], capacity: usize, stops: &[u64], end
 {
     let mut delays = Delays::new();
     delays.fill(&mem[..]);
-    let mut ready = Ready::new();
+    let mut ready = Ready::default();
     for k in 0..mem[0] as usize {
         ready = ready.run_line(mem, links, capacity, &delays, ends, k, stops);
     }

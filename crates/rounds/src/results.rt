@@ -10,8 +10,8 @@ ghost use Rattle.plans.specs.Lines.{LinesHeld};
 ghost use Rattle.rounds.specs.Replaying.{outcomes_in, RisingIn};
 ghost use Rattle.rounds.specs.Texts.{task_line};
 
-use crate::house::House;
 use crate::{makespans, replaying};
+use jobs::House;
 
 // The R line of task t, written from `at` on, if it fits. The answer is the place after it in either case.
 fn task_line(out: &mut [u8], at: usize, house: House, t: usize) -> usize
@@ -33,7 +33,7 @@ pub fn render(out: &mut [u8], house: House) -> usize
     for t in 0..house.mem[0] as usize {
         at = task_line(out, at, house, t);
     }
-    let end = makespans::makespan_of(house, false);
+    let end = makespans::makespans_of(house).lower;
     let p = printing::place_in(out.len(), at);
     at + replicas::end_line(&mut out[p..], end)
 }

@@ -1,15 +1,16 @@
 // A plan's lines in memory: a line's task, then a processor and two ticks for each of its replicas.
 ghost use Rattle.std.specs.Prelude.{◌≡◌, ◌+◌, ◌≤◌, ◌<◌, length, set};
 ghost use Rattle.definitions.specs.Lists.{nth};
-ghost use Rattle.heads.specs.Layout.{line_at, row_at, processor_at, early_at, late_at, time_at, replica_end};
+ghost use Rattle.heads.specs.Layout.{line_at, row_at, processor_at, early_at, late_at, replica_end};
 ghost use Rattle.plans.specs.Lines.{row_of};
 ghost use Rattle.rounds.specs.Planning.{Wrote};
 
-use crate::house::House;
 use heads::layout::{LINE, ROW, ROWS};
+use jobs::House;
 
 // A replica of a line.
-// Kept: `row` stands in `plans` and in `rounds`: its functions ask that the cells are there, and such stay in their crate (a rule of the project).
+// Kept: `row`, with this type, stands in `plans` and in `rounds`: its functions ask that the cells are there, and such functions stay in their
+// crate (a rule of the project).
 #[derive(Clone, Copy)]
 pub struct Replica {
     pub processor: usize,
@@ -65,25 +66,14 @@ pub fn replica_at(mem: &[u64], a: usize, c: usize) -> Replica
     }
 }
 
-// Its late time or its early one.
-pub fn time_at(mem: &[u64], late: bool, a: usize, c: usize) -> u64
-    requires { replica_end a c ≤ length mem.now }
-    ensures { result ≡ nth mem.now (time_at late a c) }
-{
-    if late {
-        return mem[a + (3 + 3 * c)];
-    }
-    mem[a + (2 + 3 * c)]
-}
-
-// Replica c of the line at `a`: on p, with these finishes.
-pub fn put_replica(mem: &mut [u64], a: usize, c: usize, p: usize, early: u64, late: u64)
+// Replica c of the line at `a` is r.
+pub fn put_replica(mem: &mut [u64], a: usize, c: usize, r: Replica)
     requires { replica_end a c ≤ length mem.old }
-    ensures { Wrote a c p early late mem.old mem.new }
+    ensures { Wrote a c r.processor r.early r.late mem.old mem.new }
 {
-    mem[a + (1 + 3 * c)] = p as u64;
-    mem[a + (2 + 3 * c)] = early;
-    mem[a + (3 + 3 * c)] = late;
+    mem[a + (1 + 3 * c)] = r.processor as u64;
+    mem[a + (2 + 3 * c)] = r.early;
+    mem[a + (3 + 3 * c)] = r.late;
 }
 
 // The early time of replica c of the line at `a` is x.

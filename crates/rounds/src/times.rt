@@ -1,10 +1,10 @@
 // The equations: when data arrives, and when a replica finishes. A cell of all ones is never.
 // Kept: a cell of all ones, and no Option, is never, since times stand in the cells of the lent memory (no heap, fixed memory).
-ghost use Rattle.std.specs.Prelude.{◌≡◌, ◌⊎◌, true, false, ℕ, ◌+◌, ◌*◌, ◌≤◌, ◌<◌, length, replicate, if◌then◌else◌};
+ghost use Rattle.std.specs.Prelude.{◌≡◌, true, false, ℕ, ◌+◌, ◌*◌, ◌≤◌, ◌<◌, length, replicate};
 ghost use Rattle.definitions.specs.Lists.{nth};
 ghost use Rattle.definitions.specs.Limits.{document01};
 ghost use Rattle.definitions.specs.Job.{run_time};
-ghost use Rattle.definitions.specs.Times.{tick, later, sooner, after, least, largest, arrival, times};
+ghost use Rattle.definitions.specs.Times.{tick, later, after, least, largest, arrival, times};
 ghost use Rattle.definitions.specs.Shelf.{NoLater};
 ghost use Rattle.heads.specs.Layout.{lanes_most};
 ghost use Rattle.orders.specs.Edges.{edge_in};
@@ -17,20 +17,12 @@ ghost use Rattle.rounds.specs.Walks.{Feeds};
 ghost use Rattle.rounds.specs.Arrivals.{lane_most, last_arrival, delay_cells, DelayTable, DelaysTo, DelaysHeld, TimeTable, HalfTable, LanesHeld, Raised, RaisedBy, RaisedIn};
 ghost use Rattle.rounds.specs.Arrivals.{end_at, EdgeEnds, EndsPut, Supplied, lane_times, tick_times, ready_times, BothSupplied, ShortTicks, TicksHeld, BothFinish};
 
-use crate::house::House;
 use crate::walk::Inward;
 use crate::{numbers, row, walk};
+use jobs::House;
 use ticks::clocks::Clocks;
 use ticks::lanes;
 use ticks::lanes::{Both, NEVER};
-
-// The later of two times, or the sooner.
-pub fn chosen_of(late: bool, x: u64, y: u64) -> u64
-    ensures result_value { time_in result ≡ (if late then later (time_in x) (time_in y) else sooner (time_in x) (time_in y)) }
-    ensures one { (result ≡ x) ⊎ (result ≡ y) }
-{
-    if late { x.max(y) } else { x.min(y) }
-}
 
 // The delays between processors: 16 from each, and the greatest of all.
 #[derive(Drop)]
@@ -182,6 +174,7 @@ fn raise_edge(house: House, delays: &Delays, cell: u64, starts: &mut Starts)
 }
 
 // The times of each processor, raised to those at which all data of t is there.
+// Kept: `ends` beside the house and the delays: it is written between the calls that read it.
 fn raise_data(house: House, delays: &Delays, ends: &[f64], t: usize, starts: &mut Starts)
     requires { ((k : ℕ) × LinesHeld document01 house.capacity k house.mem.now) × LinksHeld house.mem.now house.links.now
         × DelaysHeld document01 delays.now house.mem.now × (t < nth house.mem.now 0)
@@ -194,10 +187,9 @@ fn raise_data(house: House, delays: &Delays, ends: &[f64], t: usize, starts: &mu
     let m = house.mem[1] as usize;
     let x = lanes::least(&starts.early, m);
     let y = lanes::least(&starts.late, m);
-    for k in span.start..span.end {
-        let cell = house.links[k];
-        if may_wait(ends, cell, delays.most, x, y) {
-            raise_edge(house, delays, cell, starts);
+    for cell in &house.links[span] {
+        if may_wait(ends, *cell, delays.most, x, y) {
+            raise_edge(house, delays, *cell, starts);
         }
     }
 }
@@ -276,13 +268,13 @@ pub fn first_starts(
 
 // The first early and the last late time of a line.
 #[derive(Clone, Copy)]
-struct Ends {
-    first: u64,
-    last: u64,
+pub struct Ends {
+    pub first: u64,
+    pub last: u64,
 }
 
 // Those of the line at `a`.
-fn ends_in(mem: &[u64], a: usize) -> Ends
+pub fn ends_in(mem: &[u64], a: usize) -> Ends
     requires { SomeJobHeld document01 mem.now × (row_end a ≤ length mem.now) }
     ensures { (time_in result.first ≡ choice_of false (times (row_outcomes false a (nth mem.now 3 + 1) mem.now)))
         × (time_in result.last ≡ choice_of true (times (row_outcomes true a (nth mem.now 3 + 1) mem.now))) }

@@ -13,9 +13,9 @@ ghost use Rattle.plans.specs.Loading.{plan_in, PlanHeld};
 ghost use Rattle.rounds.specs.Replaying.{outcomes_in, RisingIn};
 ghost use Rattle.rounds.specs.Tools.{replay_of};
 
-use crate::house::House;
 use crate::{makespans, plan_text, planner, replaying, results};
 use heads::layout::{LOWER, UPPER};
+use jobs::House;
 use text::limits::TEXT_LENGTH;
 use text::refusal::Refusal;
 
@@ -55,12 +55,11 @@ pub fn put_plan(
         links,
         capacity,
     };
-    let lower = makespans::makespan_of(house, false);
-    let upper = makespans::makespan_of(house, true);
+    let ends = makespans::makespans_of(house);
     let lower_at = LOWER * capacity;
     let upper_at = UPPER * capacity;
-    mem[lower_at] = lower;
-    mem[upper_at] = upper;
+    mem[lower_at] = ends.lower;
+    mem[upper_at] = ends.upper;
     put_text(
         |text| plan_text::render(text, &mem[..], capacity),
         TEXT_LENGTH,

@@ -5,9 +5,9 @@ ghost use Rattle.orders.specs.Edges.{edge_in};
 ghost use Rattle.jobs.specs.Held.{edge_at, JobHeld, SomeJobHeld};
 ghost use Rattle.rounds.specs.Walks.{Feeds, Entered};
 
-use crate::house::House;
 use crate::row;
 use heads::layout;
+use jobs::House;
 
 // Where the edges stand among the job's cells.
 pub fn edges_at(mem: &[u64]) -> usize

@@ -55,13 +55,13 @@ module _ (l : Limits) (room : ℕ) (kind : Kind) (opening : List ℕ) (k n : ℕ
     unfolding rows_into
     rows_fit h = rw (w, le-leb (n * k) room h)
 
+    -- As many rows as the cells give room for.
+    pub rows_lent : n ≤ room / k → rows_into l room kind opening k n s ≡ row_lines l kind opening k n [] s
+    rows_lent h = rows_fit ((le-div_iff_mul-le (some_number k n kind w)).0 h)
+
     pub rows_unfit : room / k < n → refused 8 ≡ rows_into l room kind opening k n s
     unfolding rows_into
     rows_unfit h = rw (w, lt-leb (n * k) room ((div-lt_iff_lt-mul (some_number k n kind w)).0 h))
-
--- As many rows as the cells give room for.
-pub rows_within : (room k n : ℕ) → 0 < k → n ≤ room / k → n * k ≤ room
-rows_within room k n z h = (le-div_iff_mul-le z).0 h
 
 -- A part that ends within the front.
 drop_take : (a k : ℕ) (l : List ℕ) → drop a (take (a + k) l) ≡ take k (drop a l)

@@ -1,7 +1,7 @@
 // C and D lines: rows of numbers, each with its own number in front.
 #![tactic(auto)]
 
-ghost use Rattle.std.specs.Prelude.{◌≡◌, length};
+ghost use Rattle.std.specs.Prelude.{◌≡◌, length, OnErr};
 ghost use Rattle.definitions.specs.Limits.{document01};
 ghost use Rattle.text.specs.Meaning.{reading};
 ghost use Rattle.rows.specs.Rows.{rows, rows_into};
@@ -28,10 +28,14 @@ pub fn read_rows(
     k: usize,
     mem: &mut [u64],
 ) -> Result<(), Refusal>
-    ensures { reading reader.new (rows k n mem.new) result ≡ rows_into document01 (length mem.old) kind opening.now k n reader.old }
+    ensures read { reading reader.new (rows k n mem.new) result ≡ rows_into document01 (length mem.old) kind opening.now k n reader.old }
+    ensures kept { OnErr result (reader.new ≡ reader.old) }
 {
     if row::is_wide(kind, n, k) && n <= mem.len() / k {
-        return row::fill_rows(reader, opening, kind, n, k, mem);
+        let mut rest = Reader::new(reader.rest());
+        row::fill_rows(&mut rest, opening, kind, n, k, mem)?;
+        *reader = rest;
+        return Ok(());
     }
     Err(Refusal::NoRoom)
 }

@@ -17,11 +17,6 @@ abbrev pub Placed : List ℕ → Option (ℕ × ℕ) → Type 0
 Placed s (Some (v, next)) = next ≤ length s
 Placed s None = Unit {0}
 
--- The place after a number that was read is p or before it.
-abbrev pub PlacedBy : ℕ → Option (ℕ × ℕ) → Type 0
-PlacedBy p (Some (v, next)) = next ≤ p
-PlacedBy p None = Unit {0}
-
 -- x was read in the text s up to a place, or the refusal.
 abbrev pub place_reading : {A : Type 0} → List ℕ → A → Result ℕ Refusal → Reading A
 place_reading s x (Ok next) = found x (drop next s)

@@ -25,7 +25,7 @@ const TENS: [u64; POWERS] = [
 pub fn outside(low: u64, high: u64, n: u64) -> bool
     ensures { result ≡ outside low high n }
 {
-    n < low || high < n
+    !(low..=high).contains(&n)
 }
 
 // The digits that follow, at most `room` of them, after those that make `value`.
@@ -52,6 +52,8 @@ fn more_digits(s: &[u8], at: usize, room: usize, value: u64) -> Option<(u64, usi
 }
 
 // The number that stands at `at`, and the place after it.
+// Kept: text and place are two variables, the slice-and-cursor core of the reader, a form that the project names; and no `parse`: the number is
+// document 01's, of ten digits at most and without a needless zero (clause `number_reading`).
 #[tactic(auto, using(crate::proofs::Reading::number_end, crate::proofs::Reading::number_low, crate::proofs::Reading::number_high, crate::proofs::Reading::number_zero))]
 pub fn read_number(s: &[u8], at: usize) -> Option<(u64, usize)>
     ensures result_value { number_reading s.now result ≡ number document01 (drop at s.now) }
@@ -66,7 +68,7 @@ pub fn read_number(s: &[u8], at: usize) -> Option<(u64, usize)>
 }
 
 // The bytes of a and b are equal as far as both go.
-// Kept: `starts_with` takes 3.9 ns for an opening of two bytes, these pairs 2.3 (the loop by hand: 2.6).
+// Kept: `starts_with` takes 3.9 ns for an opening of two bytes, these pairs 2.3.
 fn agree(a: &[u8], b: &[u8]) -> bool
     ensures { result ≡ list_all (λ p. p.0 == p.1) (zip a.now b.now) }
 {
@@ -107,7 +109,8 @@ pub fn width_of(n: u64) -> usize
 }
 
 // The number n, written from `at` on, if it fits. The answer is the place after it.
-// Kept: output and place side by side: of a slice lent to a `&mut` field, tried, no goal says what it holds afterwards.
+// Kept: output and place side by side, and no Display: all of it is written at the place, or nothing (clause `written`); a struct with the
+// `&mut` output in a field was tried, and no goal says what the lent slice holds afterwards.
 pub fn write_number(out: &mut [u8], at: usize, n: u64) -> usize
     ensures value { result ≡ place_after out.old at (decimal document01 n) }
     ensures holds { out.new ≡ written out.old at (decimal document01 n) }
@@ -141,7 +144,7 @@ pub fn write_fixed(out: &mut [u8], at: usize, p: &[u8]) -> usize
     if out.len() < at || out.len() - at < p.len() {
         return at;
     }
-    // Kept: with `copy_from_slice` an opening of two bytes and three numbers take 21.3 ns, with this loop 18.1 (the loop by hand: 20.0).
+    // Kept: with `copy_from_slice` an opening of two bytes and three numbers take 21.3 ns, with this loop 18.1.
     for i in 0..p.len() {
         out[at + i] = p[i];
     }

@@ -13,7 +13,8 @@ ghost use Rattle.ticks.specs.Lanes.{lanes, sent, delay_at, lane_in, least_lane};
 pub const NEVER: u64 = u64::MAX;
 
 // For each processor of a half an early and a late time.
-// Kept: `Both` and `Clocks` as one generic struct, tried, leaves no record Clocks by that name, which the clauses of rounds take (ClocksHeld).
+// Kept: one generic struct for `Both` and `Clocks` was tried: it leaves no record of the name Clocks, of which definitions of rounds speak
+// (ClocksHeld, ClocksAfter).
 #[derive(Clone, Copy)]
 pub struct Both {
     pub early: [f64; 8],
@@ -28,8 +29,8 @@ pub fn no_time() -> f64
 }
 
 // The sooner and the later of two times.
-// Kept: `f64::min` and `f64::max` leave open which of two equal floats they give, and the clauses of `offer` name Lanes.lesser and Lanes.greater.
-// Kept: one function for both would take a flag or give a pair of which each call drops a half; each of the two is one line.
+// Kept: `f64::min` and `f64::max` leave open which of two equal floats they give, and clauses name Lanes.lesser and Lanes.greater; one function
+// for both would take a flag, and each of the two is one line.
 fn lesser(x: f64, y: f64) -> f64
     ensures { result ≡ Lanes.lesser x y }
 {
@@ -58,6 +59,7 @@ pub fn lane_in(q: usize, h: usize) -> usize
 
 // A replica on q offers its data to the processors of half h: to each the sooner of its time in `low` and of the arrival of what q sends
 // at x, and the later of its time in `high` and of the arrival of what q sends at y.
+// Kept: `low` and `high` are two slices, each with its clause (`first`, `last`), of callers that have them as such.
 pub fn offer(
     low: &mut [f64; 8],
     high: &mut [f64; 8],

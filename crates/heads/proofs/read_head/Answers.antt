@@ -20,4 +20,5 @@ returns-in_err-head_rule c =
 pub returns : goal.returns
 returns c =
     let read = rw c.new-rest.ensures at c.line.ensures.read in
-    job_next _ _ c.if-s-gt-TEXT_LENGTH.false _ c.line.new.vals _ read _ c.in_ok-line.was c.head_rule.result c.head_rule.ensures _ c.in_ok-head_rule.was
+    let (z, q) = job_next _ _ c.if-s-gt-TEXT_LENGTH.false _ c.line.new.vals _ read _ c.in_ok-line.was c.head_rule.result c.head_rule.ensures _ c.in_ok-head_rule.was in
+    (z, q, rw c.new-rest.ensures at c.line.ensures.part)

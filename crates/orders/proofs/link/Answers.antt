@@ -1,6 +1,6 @@
-use Rattle.lists.proofs.Prelude.{◌≡◌, false, refl, arith, length}
+use Rattle.lists.proofs.Prelude.{◌≡◌, true, false, refl, arith, length}
 use Rattle.orders.specs.Links.{ascending}
-use Rattle.orders.proofs.CircleLaws.{linked_all, link_joined, link_circle}
+use Rattle.orders.proofs.CircleLaws.{linked_joined}
 use Rattle.orders.proofs.PairLaws.{ascending_parts, linkable_few, linkable_rest}
 use Rattle.orders.proofs.link.Goals as goal
 
@@ -25,18 +25,19 @@ pub number-requires : goal.number-requires
 number-requires c = let r = c.make_runs.ensures in (r.0, r.2 c.if-make_runs.true)
 
 pub returns-then-make_runs : goal.returns-then-make_runs
-returns-then-make_runs c = link_joined c.args.v c.args.edges.now c.args.links.now _ (omega arith) (cc) c.number.ensures
+returns-then-make_runs c =
+    let args = c.args in
+    let o : ascending args.v 0 args.edges.now ≡ true = cc in
+    rw (linkable_rest args.v args.edges.now (length args.links.now) (omega arith), o)
+    (linked_joined args.v args.edges.now args.links.now _ (ascending_parts args.v 0 args.edges.now o).0 c.number.ensures)
 
 pub arrange-requires : goal.arrange-requires
 arrange-requires c =
     let runs = c.make_runs.ensures in
     (runs.0, runs.1, (ascending_parts c.args.v 0 c.args.edges.now (cc)).0)
 
-pub returns-then-arrange-v : goal.returns-then-arrange-v
-returns-then-arrange-v c =
-    link_circle c.args.v c.args.edges.now c.args.links.now _ (omega arith) (cc) c.arrange.ensures.1 (omega arith)
-
 pub returns : goal.returns
 returns c =
-    let (runs, order) = c.arrange.ensures in
-    link_joined c.args.v c.args.edges.now c.args.links.now _ (omega arith) (cc) (linked_all runs order (omega arith))
+    let args = c.args in
+    let o : ascending args.v 0 args.edges.now ≡ true = cc in
+    rw (linkable_rest args.v args.edges.now (length args.links.now) (omega arith), o) (c.arrange.ensures args.links.now)

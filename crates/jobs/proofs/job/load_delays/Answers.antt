@@ -20,11 +20,11 @@ returns c = λ runs q.
     let ds = rows (1 + nth d 1) (nth d 1) held in
     let r = runs_most c.requires in
     let a = c.numbers_at-a.ensures in
-    let f = sym (c.in_ok-read_rows.ensures ∙ delays_read d c.requires (bytes "D,") _ a) in
+    let f = sym (c.in_ok-read_rows.ensures.read ∙ delays_read d c.requires (bytes "D,") _ a) in
     delays_then _ (job_head_of d) runs _ _ _ ds _ f _ (lent_head d held _ (omega arith) (omega arith)) _
     (c.load_edges.ensures runs (map (drop 1) ds) (delays_in d held c.requires a runs q _ _ f))
 
 pub returns-in_err-read_rows : goal.returns-in_err-read_rows
 returns-in_err-read_rows c = λ runs q.
-    let f = sym (c.in_err-read_rows.ensures ∙ delays_read c.args.mem.now c.requires (bytes "D,") _ c.numbers_at-a.ensures) in
+    let f = sym (c.in_err-read_rows.ensures.read ∙ delays_read c.args.mem.now c.requires (bytes "D,") _ c.numbers_at-a.ensures) in
     loaded_err _ _ _ _ _ c.from_residual.ensures.1 (delays_no _ (job_head_of c.args.mem.now) runs _ _ f)

@@ -15,7 +15,7 @@ edges_of c = map edge_in (take (nth c.args.mem.now 2) c.read_edges.new.mem)
 edges_found : (c : In_ok-read_edges)
     → lines (edge_line document01) (edge_rule document01 (nth c.args.mem.now 0)) (nth c.args.mem.now 2) [] c.args.reader
     ≡ found (edges_of c) c.read_edges.new.reader
-edges_found c = sym (c.in_ok-read_edges.ensures ∙ edges_read _ c.requires _ c.edges_at-a.ensures)
+edges_found c = sym (c.in_ok-read_edges.ensures.read ∙ edges_read _ c.requires _ c.edges_at-a.ensures)
 
 pub close-requires : goal.close-requires
 close-requires c =
@@ -41,5 +41,5 @@ returns c = λ runs delays q.
 
 pub returns-in_err-read_edges : goal.returns-in_err-read_edges
 returns-in_err-read_edges c = λ runs delays q.
-    let f = sym (c.in_err-read_edges.ensures ∙ edges_read _ c.requires _ c.edges_at-a.ensures) in
+    let f = sym (c.in_err-read_edges.ensures.read ∙ edges_read _ c.requires _ c.edges_at-a.ensures) in
     loaded_err _ _ _ _ _ c.from_residual.ensures.1 (edges_no _ (job_head_of c.args.mem.now) runs delays _ _ f)

@@ -16,11 +16,11 @@ returns c =
     let held : List ℕ = c.read_rows.new.mem in
     let d = c.args.mem.now in
     let rs = rows (1 + nth d 1) (nth d 0) held in
-    let f = sym (c.in_ok-read_rows.ensures ∙ runs_read d c.requires (bytes "C,") _) in
+    let f = sym (c.in_ok-read_rows.ensures.read ∙ runs_read d c.requires (bytes "C,") _) in
     runs_then _ (job_head_of d) _ _ _ rs _ f _ (lent_head d held 4 (omega (arith, c.requires.room)) (omega arith)) _
     (c.load_delays.ensures (map (drop 1) rs) (runs_in d held c.requires _ _ f))
 
 pub returns-in_err-read_rows : goal.returns-in_err-read_rows
 returns-in_err-read_rows c =
-    let f = sym (c.in_err-read_rows.ensures ∙ runs_read c.args.mem.now c.requires (bytes "C,") _) in
+    let f = sym (c.in_err-read_rows.ensures.read ∙ runs_read c.args.mem.now c.requires (bytes "C,") _) in
     loaded_err _ _ _ _ _ c.from_residual.ensures.1 (runs_no _ (job_head_of c.args.mem.now) _ _ f)

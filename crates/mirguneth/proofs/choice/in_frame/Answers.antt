@@ -9,8 +9,8 @@ pub returns : goal.returns
 returns g c =
     let (z, most, fits, cells, links) = c.requires in
     let size : ℕ = length (replicate {A = ℕ} g.row.CELLS 0) in
-    let lent : ℕ = length (replicate {A = ℕ} g.row.LINKS 0) in
+    let lent : ℕ = length (replicate {A = ℕ} g.row.LINK_CELLS 0) in
     let h = head_of c.args.job.head in
     let room = roomy_made c.args.capacity size lent h most (length-replicate g.row.CELLS 0 ∙ cells)
-    (omega (arith, length-replicate {A = ℕ} g.row.LINKS 0, links)) fits in
+    (omega (arith, length-replicate {A = ℕ} g.row.LINK_CELLS 0, links)) fits in
     rw (from_room document01 c.args.capacity size lent h c.args.job.rest z room) at c.run.ensures

@@ -10,7 +10,7 @@ loop-t-preserved c =
     let v = c.args.v in
     let l = c.loop-t in
     let h = c.loop-t-test.true in
-    rw c.order_at.ensures (
+    rw c.at.ensures (
       runs_set l.invariant.0 (order_at v l.t) l.t (omega arith) (omega arith),
       table_more (λ s. s) l.links (2 * (v + 1)) l.t l.t l.invariant.1 (omega arith) refl,
     )

@@ -1,22 +1,21 @@
-use Rattle.lists.proofs.Prelude.{sym, ◌∙◌}
+use Rattle.lists.proofs.Prelude.{◌≡◌, true, false, rules}
+use Rattle.std.proofs.lemmas.Iterator.{YieldsList-from_slice, cases_from_all}
+use Rattle.std.proofs.lemmas.Iterator.Adapters.{serves_from_places}
 use Rattle.jobs.proofs.Held.{enters_run}
-use Rattle.plans.proofs.PlanLaws.{lined_first, lined_done, sender_below, lined_no, lined_next}
+use Rattle.orders.specs.Edges.{edge_in}
+use Rattle.plans.proofs.PlanLaws.{lined, sender_below, lined_by}
 use Rattle.plans.proofs.plans.predecessors_placed.Goals as goal
 
-pub loop-k-init : goal.loop-k-init
-loop-k-init c =
-    let (h, l, g) = c.requires in lined_first h (enters_run l g c.entering-run.ensures)
-
-pub line_of-requires : goal.line_of-requires
-line_of-requires c = rw c.edge_from-from.ensures.0 (sender_below c.loop-k.invariant c.loop-k-test.true)
-
-pub returns-then-line_of-eq0 : goal.returns-then-line_of-eq0
-returns-then-line_of-eq0 c =
-    lined_no c.loop-k.invariant c.loop-k-test.true _ c.edge_from-from.ensures.0 (sym c.line_of.ensures ∙ c.if-line_of-eq0.true)
-
-pub loop-k-preserved : goal.loop-k-preserved
-loop-k-preserved c =
-    lined_next c.loop-k.invariant c.loop-k-test.true _ c.edge_from-from.ensures.0 (λ z. c.if-line_of-eq0.false (c.line_of.ensures ∙ z))
+pub all-requires-clause-callable : goal.all-requires-clause-callable
+all-requires-clause-callable c =
+    let (h, l, g) = c.requires in
+    let r = enters_run l g c.entering-run.ensures in
+    serves_from_places (YieldsList-from_slice _ c.iter.ensures.rest) (λ x q k. search rules) (λ x k w e. let b = sender_below c.args.t h r _ k w e in search rules)
 
 pub returns : goal.returns
-returns c = lined_done c.loop-k.invariant c.loop-k-test.false
+returns c =
+    let (h, l, g) = c.requires in
+    let house = c.args.house in
+    lined_by c.args.t h (enters_run l g c.entering-run.ensures) c.all.result
+    (cases_from_all _ _ _ (λ x. true ≡ lined house.capacity house.mem.now (edge_in x)) (λ x. false ≡ lined house.capacity house.mem.now (edge_in x))
+    c.all.ensures.ran (YieldsList-from_slice _ c.iter.ensures.rest) (λ x q k. search rules) (λ x q k. search rules))

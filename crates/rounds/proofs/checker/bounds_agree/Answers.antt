@@ -1,14 +1,16 @@
 -- The ends of what is written are M* and M of the equations, if the ticks are.
+use Rattle.lists.proofs.Prelude.{◌∙◌, ne_eqb}
 use Rattle.rounds.proofs.Bounds.{lower_differs, upper_decides}
 use Rattle.rounds.proofs.checker.bounds_agree.Goals as goal
 
-pub returns-then-lower-house : goal.returns-then-lower-house
-returns-then-lower-house c =
+pub returns-then-ends-house : goal.returns-then-ends-house
+returns-then-ends-house c =
     let pre = c.requires in
-    lower_differs pre.0 pre.2 pre.3 c.makespan_of-lower.result c.makespan_of-lower.ensures c.if-lower-house.true
+    let ends = c.makespans_of-ends in
+    upper_decides pre.0 pre.2 pre.3 ends.result.lower ends.ensures.0 c.if-ends-house.true ends.result.upper ends.ensures.1
 
-pub returns : goal.returns
-returns c =
+pub returns-else-ends-house : goal.returns-else-ends-house
+returns-else-ends-house c =
     let pre = c.requires in
-    upper_decides pre.0 pre.2 pre.3 c.makespan_of-lower.result c.makespan_of-lower.ensures c.if-lower-house.false c.makespan_of-upper.result
-    c.makespan_of-upper.ensures
+    let ends = c.makespans_of-ends in
+    ne_eqb _ _ c.if-ends-house.false ∙ lower_differs pre.0 pre.2 pre.3 ends.result.lower ends.ensures.0 c.if-ends-house.false

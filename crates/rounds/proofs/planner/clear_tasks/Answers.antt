@@ -1,4 +1,4 @@
-use Rattle.lists.proofs.Prelude.{◌≡◌, refl, sym, ◌<◌, ◌*◌, arith, length}
+use Rattle.lists.proofs.Prelude.{◌≡◌, refl, sym, ◌∙◌, ◌<◌, ◌*◌, arith, length}
 use Rattle.orders.proofs.Walk.{pass_length}
 use Rattle.heads.specs.Layout.{memory_size}
 use Rattle.jobs.specs.Held.{job_in}
@@ -12,7 +12,7 @@ loop-t-preserved c =
     let s = sizes c.requires.0 in
     let h : l.t < 8 * c.args.capacity = omega (arith, c.loop-t-test.true, s.tasks_most) in
     let z : length l.mem ≡ memory_size c.args.capacity = omega (arith, l.invariant.0.size, s.size) in
-    let r = enters_run c.requires.1 c.loop-t-test.true c.entering-span.ensures in (
+    let r = enters_run c.requires.1 c.loop-t-test.true c.entering.ensures in (
       cleared_kept _ (job_in c.args.mem.now) l.mem l.t _ _ h z _ l.invariant.0,
-      cleared_more _ _ l.mem l.t _ _ h z (sym (pass_length r)) refl l.invariant.1,
+      cleared_more _ _ l.mem l.t _ _ h z (c.len.ensures.value ∙ sym (pass_length r)) refl l.invariant.1,
     )

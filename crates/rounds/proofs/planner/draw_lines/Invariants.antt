@@ -12,4 +12,4 @@ abbrev pub invariant-loop-k : goal.invariant-loop-k
 invariant-loop-k l =
     KeptOutside (level_at l.capacity) (memory_size l.capacity) l.initial.mem l.mem × Drawn document01 l.capacity l.k l.mem × Ranked l.capacity [] l.mem
     × ClocksHeld l.clocks (job_in l.mem) (earlies_in l.capacity l.k l.mem) (lates_in l.capacity l.k l.mem)
-    × FreeList l.capacity l.free.tasks l.free.count l.mem × Ended document01 l.capacity l.k l.mem l.ends
+    × FreeList l.capacity l.free l.mem × Ended document01 l.capacity l.k l.mem l.ends

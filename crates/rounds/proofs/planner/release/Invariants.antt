@@ -1,4 +1,4 @@
--- The edges in the cells before k are still counted, and the free tasks are listed.
+-- The edges in the cells before the next are still counted, and the free tasks are listed.
 use Rattle.lists.proofs.Prelude.{◌+◌}
 use Rattle.rounds.specs.Planning.{FreeList}
 use Rattle.rounds.proofs.ReleaseLaws.{Releasing}
@@ -6,5 +6,6 @@ use Rattle.rounds.proofs.planner.release.Given as goal
 
 abbrev pub invariant-loop-k : goal.invariant-loop-k
 invariant-loop-k l =
-    Releasing l.capacity l.t (l.g + l.k-start) (l.g + l.initial.k) (l.g + l.k) l.initial.mem l.mem
-    × FreeList l.capacity l.free.tasks l.free.count l.mem
+    let r = l.k-iterator.iter in
+    Releasing l.capacity l.t (l.g + r.start) (l.g + l.initial.k-iterator.iter.end) (l.g + r.end) l.initial.mem l.mem
+    × FreeList l.capacity l.free l.mem

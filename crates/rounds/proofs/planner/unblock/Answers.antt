@@ -46,4 +46,4 @@ returns c =
     let put = c.put_in.ensures in
     let w = sizes s.1.standing.job in
     let x = now_free w v (omega (arith, left)) _ c.top_level-x.ensures.0 in
-    (x, rw put.1 (free_in_lem w v.task x l (omega (arith, x.count, left, v.some)) put.0 put.2.1))
+    (x, free_in_lem w v.task x l (omega (arith, x.count, left, v.some)) put.0 put.1.1)

@@ -5,7 +5,7 @@ use Rattle.rounds.proofs.RoundLaws.{round_first, round_asks, round_next, round_d
 use Rattle.rounds.proofs.replaying.run_lines.Goals as goal
 
 pub loop-k-init : goal.loop-k-init
-loop-k-init c = (rw c.new-ready.ensures (round_first c.args.stops.now c.requires.0), ended_none c.requires.4)
+loop-k-init c = (round_first c.args.stops.now c.default-ready.ensures c.requires.0, ended_none c.requires.4)
 
 pub run_line-ready-requires : goal.run_line-ready-requires
 run_line-ready-requires c =

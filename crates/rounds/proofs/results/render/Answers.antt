@@ -22,6 +22,6 @@ returns c =
     let loop = c.loop-t in
     let args = c.args in
     let e : loop.t ≡ nth args.house.mem.now 0 = omega (arith, loop.auto.t-end, c.loop-t-test.false) in
-    replay_rendered document01 args.house.capacity args.house.mem.now c.makespan_of-end.result c.makespan_of-end.ensures
+    replay_rendered document01 args.house.capacity args.house.mem.now c.makespans_of-end.result.lower c.makespans_of-end.ensures.0
     (rw e at loop.invariant.1) _ _ c.end_line.new.out c.place_in-p.ensures c.end_line.ensures.value.0
     c.end_line.ensures.holds

@@ -4,11 +4,8 @@ use Rattle.definitions.proofs.Claims.{roomy01}
 use Rattle.rounds.proofs.PlanAnswer.{bounds_asked, ended_held, drafted, drafted_most}
 use Rattle.rounds.proofs.tools.put_plan.Goals as goal
 
-pub makespan_of-lower-requires : goal.makespan_of-lower-requires
-makespan_of-lower-requires c = let (h, l) = c.requires in bounds_asked h c.draw_plan.ensures l
-
-pub makespan_of-upper-requires : goal.makespan_of-upper-requires
-makespan_of-upper-requires c = let (h, l) = c.requires in bounds_asked h c.draw_plan.ensures l
+pub makespans_of-ends-requires : goal.makespans_of-ends-requires
+makespans_of-ends-requires c = let (h, l) = c.requires in bounds_asked h c.draw_plan.ensures l
 
 pub put_text-requires : goal.put_text-requires
 put_text-requires c = let held = ended_held c.requires.0 c.draw_plan.ensures in search (rules, held)
@@ -16,7 +13,6 @@ put_text-requires c = let held = ended_held c.requires.0 c.draw_plan.ensures in 
 pub returns : goal.returns
 returns c =
     let (h, _) = c.requires in
-    let x = c.makespan_of-lower.ensures in
-    let y = c.makespan_of-upper.ensures in
+    let (x, y) = c.makespans_of-ends.ensures in
     rw (drafted h c.draw_plan.ensures roomy01 _ _ x y)
     at (c.put_text.ensures _ (λ d e at p. search rules) (drafted_most h c.draw_plan.ensures roomy01 _ _ x y))
