@@ -17,6 +17,7 @@ use Rattle.text.specs.Numbers.{number_of}
 use Rattle.text.specs.Meaning.{reading, due_of, line_into, ruled}
 use Rattle.text.specs.declared.refusal.Refusal.{Refusal}
 use Rattle.lines.proofs.LineLaws.{line_reading, line_judged}
+use Rattle.lines.proofs.LeftLaws.{Leaves, leaves_all, leaves_next, line_leaves}
 use Rattle.orders.specs.Edges.{edge_cell, edge_in, pair_in}
 use Rattle.orders.proofs.PairLaws.{pair_same, pair_smaller}
 use Rattle.edges.specs.EdgeLines.{edge_lines, edges_into}
@@ -101,3 +102,8 @@ edge_passed l v seen s e r a f =
     let (d, t, _, z, g) = rule_found (edge_line l s) (edge_rule l v seen) (λ d. return d) e r f in
     let q : d ≡ e = cc in
     rw q at (ascends_more seen d a (passed _ _ _ z).1)
+
+-- An edge line that was read leaves a part of the text.
+pub edge_leaves : (l : Limits) (s : List ℕ) → Leaves s (edge_line l s)
+unfolding edge_line
+edge_leaves l s = leaves_next s _ _ (line_leaves l (bytes "E,") 3 s) λ vs t. leaves_all t (edge_of vs)

@@ -1,7 +1,7 @@
 // E lines: each edge in one cell.
 #![tactic(auto)]
 
-ghost use Rattle.std.specs.Prelude.{◌≡◌, map, length, take, OnErr};
+ghost use Rattle.std.specs.Prelude.{◌≡◌, ℕ, map, length, take, drop, OnErr};
 ghost use Rattle.definitions.specs.Limits.{document01};
 ghost use Rattle.text.specs.Meaning.{reading};
 ghost use Rattle.orders.specs.Edges.{edge_in};
@@ -19,6 +19,7 @@ mod edge;
 pub fn read_edges(reader: &mut Reader, v: u64, n: usize, mem: &mut [u64]) -> Result<(), Refusal>
     ensures read { reading reader.new (map edge_in (take n mem.new)) result ≡ edges_into document01 (length mem.old) v n reader.old }
     ensures kept { OnErr result (reader.new ≡ reader.old) }
+    ensures part { (n : ℕ) × (reader.new ≡ drop n reader.old) }
 {
     if v > TASKS || n > mem.len() {
         return Err(Refusal::NoRoom);

@@ -17,7 +17,7 @@ head_of h = record { tasks = h.tasks; processors = h.processors; edges = h.edges
 -- A job's head was read, and what is left of the text, a part at its end, gives the rest of the job; or the refusal.
 abbrev pub HeadRead : Limits → List ℕ → Result Opened Refusal → Type 0
 HeadRead l s (Ok o) =
-    (job_head_rule l (head_of o.head) ≡ 0) × (read_job l s ≡ closed (from_runs l (head_of o.head) o.rest)) × ((n : ℕ) × (o.rest ≡ drop n s))
+    (job_head_rule l (head_of o.head) ≡ 0) × (read_job l s ≡ closed (from_runs l (head_of o.head) o.rest.now)) × ((n : ℕ) × (o.rest.now ≡ drop n s))
 HeadRead l s (Err e) = read_job l s ≡ bad (number_of e)
 
 -- A memory of so many cells has this capacity, 32 at most, the memory for the links has as many cells as it asks for, and a job with

@@ -25,11 +25,12 @@ pub struct Head {
     pub losses: u64,
 }
 
-// A job's text whose head was read: the head, and a reader of what is left.
-#[derive(Clone, Drop)]
+// A job's text whose head was read: the head, and what is left of the text.
+// Kept: what is left, and no Reader, which is not Copy.
+#[derive(Clone, Copy)]
 pub struct Opened<'a> {
     pub head: Head,
-    pub rest: Reader<'a>,
+    pub rest: &'a [u8],
 }
 
 // Whether a job's head is refused.
@@ -57,9 +58,9 @@ pub fn read_head(s: &[u8]) -> Result<Opened<'_>, Refusal>
     if s.len() > TEXT_LENGTH {
         return Err(Refusal::TooLong);
     }
-    let mut rest = Reader::new(s);
+    let mut reader = Reader::new(s);
     let mut line = [0u64; 4];
-    rest.line(b"JOB,", 4, &mut line)?;
+    reader.line(b"JOB,", 4, &mut line)?;
     let [tasks, processors, edges, losses] = line;
     let head = Head {
         tasks,
@@ -68,7 +69,10 @@ pub fn read_head(s: &[u8]) -> Result<Opened<'_>, Refusal>
         losses,
     };
     head_rule(head)?;
-    Ok(Opened { head, rest })
+    Ok(Opened {
+        head,
+        rest: reader.rest(),
+    })
 }
 
 // The capacity of a memory for a job with this head: 1, 2, 8 or 32.

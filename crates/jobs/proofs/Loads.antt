@@ -57,10 +57,10 @@ module _ (l : Limits) (capacity size links : ℕ) (h : JobHead) (s : List ℕ) w
 
 -- The job of a text whose head was read, in a memory that it fits.
 pub job_from_lem : (l : Limits) (s : List ℕ) (o : Opened) (capacity size links : ℕ)
-    → (job_head_rule l (head_of o.head) ≡ 0) × (read_job l s ≡ closed (from_runs l (head_of o.head) o.rest)) → capacity ≤ 32 → FitsIn capacity (head_of o.head)
-    → size ≡ memory_size capacity → links_room capacity ≤ links → job_from l capacity size links (head_of o.head) o.rest ≡ read_job l s
+    → (job_head_rule l (head_of o.head) ≡ 0) × (read_job l s ≡ closed (from_runs l (head_of o.head) o.rest.now)) → capacity ≤ 32 → FitsIn capacity (head_of o.head)
+    → size ≡ memory_size capacity → links_room capacity ≤ links → job_from l capacity size links (head_of o.head) o.rest.now ≡ read_job l s
 job_from_lem l s o capacity size links (z, q) most f w k =
-    from_room l capacity size links (head_of o.head) o.rest z (roomy_made capacity size links (head_of o.head) most w k f) ∙ sym q
+    from_room l capacity size links (head_of o.head) o.rest.now z (roomy_made capacity size links (head_of o.head) most w k f) ∙ sym q
 
 -- What was loaded -----------------------------------------------------------------------------------------------------
 

@@ -7,7 +7,7 @@ use Rattle.definitions.specs.Job.{Job, read_job}
 use Rattle.definitions.specs.Tools.{fitting}
 use Rattle.lists.specs.Over.{over}
 use Rattle.text.specs.declared.refusal.Refusal.{Refusal}
-use Rattle.text.specs.Meaning.{result_of}
+use Rattle.text.specs.Numbers.{result_of}
 use Rattle.orders.specs.Edges.{edge_cell}
 use Rattle.orders.specs.Links.{Linked}
 use Rattle.jobs.specs.Memory.{job_cells}

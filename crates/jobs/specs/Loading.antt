@@ -5,7 +5,7 @@ use Rattle.definitions.specs.Text.{good, bad}
 use Rattle.definitions.specs.Text as Text
 use Rattle.definitions.specs.Job.{Job, JobHead, job_head_rule}
 use Rattle.text.specs.declared.refusal.Refusal.{Refusal}
-use Rattle.text.specs.Meaning.{result_of}
+use Rattle.text.specs.Numbers.{result_of}
 use Rattle.heads.specs.Heads.{roomy}
 use Rattle.heads.specs.Reading.{from_head, closed}
 use Rattle.jobs.specs.Held.{job_in, JobHeld, LinksHeld}

@@ -16,7 +16,7 @@ use Rattle.jobs.specs.Memory.{numbered}
 
 -- What a text whose head was read says.
 abbrev pub rest_of : Opened → Text.Result Job
-rest_of o = closed (from_runs document01 (head_of o.head) o.rest)
+rest_of o = closed (from_runs document01 (head_of o.head) o.rest.now)
 
 -- A head has passed its rule, and there is room for its job, and for its links, in so many cells.
 pub record Admitted (h : Head) (size links : ℕ) : Type 0 where

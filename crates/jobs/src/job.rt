@@ -89,5 +89,5 @@ pub fn load_rest(job: Opened, mem: &mut [u64], links: &mut [u64]) -> Result<usiz
     ensures { Loaded (rest_of job.entry) mem.new links.new result }
 {
     put_head(mem, job.head);
-    load_runs(job.rest, mem, links)
+    load_runs(Reader::new(job.rest), mem, links)
 }

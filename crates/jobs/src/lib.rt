@@ -24,7 +24,7 @@ pub fn load_job(
     links: &mut [u64],
     capacity: usize,
 ) -> Result<(), Refusal>
-    ensures { JobLoaded document01 capacity (job_from document01 capacity (length mem.old) (length links.old) (head_of job.entry.head) job.entry.rest)
+    ensures { JobLoaded document01 capacity (job_from document01 capacity (length mem.old) (length links.old) (head_of job.entry.head) job.entry.rest.now)
         mem.new links.new result }
 {
     heads::head_rule(job.head)?;

@@ -1,6 +1,6 @@
 -- What is left of a text after something was read is a part at its end.
 use Rattle.lists.proofs.Prelude.{◌≡◌, refl, ap, sym, ◌∙◌, List, [], ◌∷◌, Bool, true, false, ℕ, zero, suc, ◌+◌, ◌-◌, ◌*◌, drop, eqb, is_digit}
-use Rattle.lists.proofs.Prelude.{subst, Limits, Reading, Reader, found, refused, next, digits, number, exactly, numbers, mark}
+use Rattle.lists.proofs.Prelude.{subst, Limits, Reading, Reader, found, refused, next, digits, number, exactly, numbers, mark, ◌++◌, due, line, lines}
 use Rattle.std.specs.Prelude.{if◌then◌else◌}
 use Rattle.std.proofs.lemmas.List.{drop-drop}
 
@@ -9,12 +9,12 @@ abbrev pub PartOf : List ℕ → List ℕ → Type 0
 PartOf s t = (n : ℕ) × (t ≡ drop n s)
 
 -- What a reading leaves is a part of s.
-abbrev Leaves : {A : Type 0} → List ℕ → Reading A → Type 0
+abbrev pub Leaves : {A : Type 0} → List ℕ → Reading A → Type 0
 Leaves s (found a t) = PartOf s t
 Leaves s (refused x) = Unit {0}
 
 module _ {A : Type 0} (s : List ℕ) where
-  leaves_all : (a : A) → Leaves s (found a s)
+  pub leaves_all : (a : A) → Leaves s (found a s)
   leaves_all a = (0, refl)
 
   leaves_if : (c : Bool) (x y : Reading A) → Leaves s x → Leaves s y → Leaves s (if c then x else y)
@@ -26,7 +26,7 @@ module _ {A : Type 0} (s : List ℕ) where
   leaves_more t (n, e) (found a u) (m, f) = (n + m, f ∙ ap (drop m) e ∙ drop-drop m n s)
   leaves_more t p (refused x) w = tt
 
-  leaves_next : {B : Type 0} (r : Reading B) (f : B → Reader A) → Leaves s r → ((b : B) (t : List ℕ) → Leaves t (f b t)) → Leaves s (next r f)
+  pub leaves_next : {B : Type 0} (r : Reading B) (f : B → Reader A) → Leaves s r → ((b : B) (t : List ℕ) → Leaves t (f b t)) → Leaves s (next r f)
   leaves_next (found b t) f p g = leaves_more t p (f b t) (g b t)
   leaves_next (refused x) f p g = tt
 
@@ -65,3 +65,24 @@ module _ (l : Limits) where
   pub line_part : (opening : List ℕ) (k : ℕ) (s t u vs : List ℕ) → found tt t ≡ exactly opening s → found vs u ≡ numbers l k t → PartOf s u
   line_part opening k s t u vs e f =
       leaves_more s t (subst (Leaves s) (sym e) (exactly_leaves opening s)) (found vs u) (subst (Leaves t) (sym f) (numbers_leaves k t))
+
+  pub line_leaves : (opening : List ℕ) (k : ℕ) (s : List ℕ) → Leaves s (line l opening k s)
+  unfolding line
+  line_leaves opening k s = leaves_next s (exactly opening s) _ (exactly_leaves opening s) λ _ t. numbers_leaves k t
+
+due_leaves : (x : ℕ) (s : List ℕ) → Leaves s (due x s)
+due_leaves zero s = leaves_all {A = Unit {0}} s tt
+due_leaves (suc x) s = tt
+
+-- Lines of a kind each of which leaves a part.
+module _ {A : Type 0} (form : Reader A) (rule : List A → A → ℕ) (f : (s : List ℕ) → Leaves s (form s)) where
+  lines_leave : (n : ℕ) (seen : List A) (s : List ℕ) → Leaves s (lines form rule n seen s)
+  unfolding lines
+  lines_leave zero seen s = leaves_all s seen
+  lines_leave (suc n) seen s =
+      leaves_next s (form s) _ (f s) λ a t.
+      leaves_next t (due (rule seen a) t) _ (due_leaves (rule seen a) t) λ _ u. lines_leave n (seen ++ a ∷ []) u
+
+  -- They were read, which left t.
+  pub lines_part : (n : ℕ) (seen all : List A) (s t : List ℕ) → found all t ≡ lines form rule n seen s → PartOf s t
+  lines_part n seen all s t e = subst (Leaves s) (sym e) (lines_leave n seen s)

@@ -34,7 +34,7 @@ pub trait Tool {
         capacity: usize,
         out: &mut [u8],
     ) -> Self::Answer
-        ensures { says self (job_from document01 capacity (length mem.old) (length links.old) (head_of job.entry.head) job.entry.rest) out.old out.new result };
+        ensures { says self (job_from document01 capacity (length mem.old) (length links.old) (head_of job.entry.head) job.entry.rest.now) out.old out.new result };
 }
 
 #[derive(Clone, Copy)]
@@ -129,7 +129,7 @@ fn in_frame<T: Tool, const CELLS: usize, const LINK_CELLS: usize>(
 ) -> T::Answer
     requires { (job_head_rule document01 (head_of job.head) ≡ 0) × (capacity ≤ 32) × FitsIn capacity (head_of job.head)
         × (CELLS ≡ memory_size capacity) × (LINK_CELLS ≡ links_room capacity) }
-    ensures { T.says tool (closed (from_runs document01 (head_of job.entry.head) job.entry.rest)) out.old out.new result }
+    ensures { T.says tool (closed (from_runs document01 (head_of job.entry.head) job.entry.rest.now)) out.old out.new result }
 {
     let mut mem = [0u64; CELLS];
     let mut links = [0u64; LINK_CELLS];
@@ -140,7 +140,7 @@ fn in_frame<T: Tool, const CELLS: usize, const LINK_CELLS: usize>(
 // Each stands in a frame of its own, so that a call takes the stack of the memory that it uses.
 pub fn answer<T: Tool>(tool: T, job: Opened, out: &mut [u8]) -> T::Answer
     requires { job_head_rule document01 (head_of job.head) ≡ 0 }
-    ensures { T.says tool (closed (from_runs document01 (head_of job.entry.head) job.entry.rest)) out.old out.new result }
+    ensures { T.says tool (closed (from_runs document01 (head_of job.entry.head) job.entry.rest.now)) out.old out.new result }
 {
     match heads::capacity_for(job.head) {
         1 => in_frame::<T, CELLS_1, LINKS_1>(tool, job, 1, out),

@@ -5,7 +5,6 @@ ghost use Rattle.std.specs.Prelude.{◌≡◌, ◌+◌, ◌*◌, ◌<◌};
 ghost use Rattle.orders.specs.Edges.{edge_in, pair_in};
 ghost use Rattle.orders.specs.Links.{out_start_at, in_start_at, order_at, link_in, LinkedFrom};
 
-use std::ops::Range;
 use tables::{IN_STARTS, ORDER, OUT_STARTS, at};
 
 mod runs;
@@ -67,26 +66,37 @@ pub fn edge_volume(cell: u64) -> u64
     cell / 65536
 }
 
+// The cells of a run: from `start` to below `end`.
+// Kept: no Range of the library, which is not Copy.
+#[derive(Clone, Copy, Debug, PartialEq, Eq)]
+pub struct Span {
+    pub start: usize,
+    pub end: usize,
+}
+
 // The cells of the run that table 0 or 1 of the links has for task t of v; none, if the links have no such task.
-fn run_of<const TABLE: usize>(links: &[u64], v: usize, t: usize) -> Range<usize>
+fn run_of<const TABLE: usize>(links: &[u64], v: usize, t: usize) -> Span
     requires { TABLE < 2 }
     ensures { (result.start ≡ link_in v t (TABLE * (v + 1) + t) links.now) × (result.end ≡ link_in v t (TABLE * (v + 1) + (t + 1)) links.now) }
 {
     if t < v && v < links.len() / 4 {
-        return links[at(TABLE, v, t)] as usize..links[at(TABLE, v, t + 1)] as usize;
+        return Span {
+            start: links[at(TABLE, v, t)] as usize,
+            end: links[at(TABLE, v, t + 1)] as usize,
+        };
     }
-    0..0
+    Span { start: 0, end: 0 }
 }
 
 // The run of the edges that leave task t of v, among the edges; an empty one, if the links have no such task.
-pub fn leaving(links: &[u64], v: usize, t: usize) -> Range<usize>
+pub fn leaving(links: &[u64], v: usize, t: usize) -> Span
     ensures { (result.start ≡ link_in v t (out_start_at v t) links.now) × (result.end ≡ link_in v t (out_start_at v (t + 1)) links.now) }
 {
     run_of::<OUT_STARTS>(links, v, t)
 }
 
 // The run of the edges that enter task t of v, among the links.
-pub fn entering(links: &[u64], v: usize, t: usize) -> Range<usize>
+pub fn entering(links: &[u64], v: usize, t: usize) -> Span
     ensures { (result.start ≡ link_in v t (in_start_at v t) links.now) × (result.end ≡ link_in v t (in_start_at v (t + 1)) links.now) }
 {
     run_of::<IN_STARTS>(links, v, t)

@@ -49,7 +49,8 @@ fn unblock(edges: &[u64], v: usize, links: &mut [u64], i: usize, n: usize) -> us
 {
     let t = task_at(links, v, i);
     let mut count = n;
-    for k in leaving(links, v, t).rev() {
+    let run = leaving(links, v, t);
+    for k in (run.start..run.end).rev() {
         count = release(v, links, edge_to(edges[k]), count);
     }
     count

@@ -7,7 +7,8 @@ use Rattle.definitions.specs.Text as Text
 use Rattle.definitions.specs.Job.{Job, JobHead, read_job}
 use Rattle.definitions.specs.Plan.{Line, Plan, plan_line, plan_line_rule, read_plan}
 use Rattle.text.specs.declared.refusal.Refusal.{Refusal}
-use Rattle.text.specs.Meaning.{reading, result_of, ruled}
+use Rattle.text.specs.Meaning.{reading, ruled}
+use Rattle.text.specs.Numbers.{result_of}
 use Rattle.lists.specs.Kept.{KeptOutside}
 use Rattle.heads.specs.Layout.{lower_at, upper_at, line_at, row_at, largest_delay_at}
 use Rattle.jobs.specs.Held.{job_in, LinksHeld}

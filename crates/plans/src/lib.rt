@@ -22,7 +22,7 @@ pub fn load_both(
     capacity: usize,
 ) -> Result<(), Refusal>
     ensures { BothLoaded document01 capacity
-        (both_from document01 capacity (length mem.old) (length links.old) (head_of job.entry.head) job.entry.rest plan.now)
+        (both_from document01 capacity (length mem.old) (length links.old) (head_of job.entry.head) job.entry.rest.now plan.now)
         mem.new links.new result }
 {
     jobs::load_job(job, mem, links, capacity)?;

@@ -77,7 +77,7 @@ fn predecessors_placed(house: House, t: usize) -> bool
     ensures { result ≡ all (λ e. not (eqb (nth house.entry.mem.now (line_at house.entry.capacity + e.from)) 0)) (incoming (job_in house.entry.mem.now) t) }
 {
     let run = orders::entering(house.links, house.mem[0] as usize, t);
-    house.links[run]
+    house.links[run.start..run.end]
         .iter()
         .all(|edge| row::has_line(house, orders::edge_from(*edge)))
 }

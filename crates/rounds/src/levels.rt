@@ -52,7 +52,8 @@ fn longest_after(house: House, t: usize, total: u64) -> u64
     let level = LEVEL * house.capacity;
     let g = walk::edges_at(mem);
     let mut x: u64 = 0;
-    for k in orders::leaving(house.links, mem[0] as usize, t) {
+    let run = orders::leaving(house.links, mem[0] as usize, t);
+    for k in run.start..run.end {
         let e = mem[g + k];
         let to = orders::edge_to(e);
         x = x.max(orders::edge_volume(e) * total + mem[level + to]);

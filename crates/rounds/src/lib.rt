@@ -56,7 +56,7 @@ pub fn plan_in(
     capacity: usize,
     out: &mut [u8],
 ) -> Result<usize, Refusal>
-    ensures { Answered (plan_of document01 (job_from document01 capacity (length mem.old) (length links.old) (head_of job.entry.head) job.entry.rest) (length out.old))
+    ensures { Answered (plan_of document01 (job_from document01 capacity (length mem.old) (length links.old) (head_of job.entry.head) job.entry.rest.now) (length out.old))
         out.old out.new result }
 {
     jobs::load_job(job, mem, links, capacity)?;
@@ -72,7 +72,7 @@ pub fn check_in(
     capacity: usize,
 ) -> Result<(), Fault>
     ensures { Judged (verdict_both document01
-        (both_from document01 capacity (length mem.old) (length links.old) (head_of job.entry.head) job.entry.rest plan.now)) result }
+        (both_from document01 capacity (length mem.old) (length links.old) (head_of job.entry.head) job.entry.rest.now plan.now)) result }
 {
     plans::load_both(job, plan, mem, links, capacity)?;
     checker::judge(House {
@@ -92,7 +92,7 @@ pub fn replay_in(
     capacity: usize,
     out: &mut [u8],
 ) -> Result<usize, Refusal>
-    ensures { Answered (replay_both document01 (both_from document01 capacity (length mem.old) (length links.old) (head_of job.entry.head) job.entry.rest plan.now)
+    ensures { Answered (replay_both document01 (both_from document01 capacity (length mem.old) (length links.old) (head_of job.entry.head) job.entry.rest.now plan.now)
         stops.now (length out.old)) out.old out.new result }
 {
     plans::load_both(job, plan, mem, links, capacity)?;

@@ -28,7 +28,8 @@ fn exit_ends(house: House, t: usize) -> Ends
         × (time_in result.last ≡ (if empty (outgoing (job_in house.entry.mem.now) t) then choice_of true
         (times (of_task t (placed_in house.entry.capacity true (nth house.entry.mem.now 3 + 1) (nth house.entry.mem.now 0) house.entry.mem.now))) else tick 0)) }
 {
-    if !orders::leaving(house.links, house.mem[0] as usize, t).is_empty() {
+    let run = orders::leaving(house.links, house.mem[0] as usize, t);
+    if run.start < run.end {
         return Ends { first: 0, last: 0 };
     }
     times::ends_in(house.mem, row::row_of(house, t))

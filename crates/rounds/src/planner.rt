@@ -31,7 +31,8 @@ fn clear_tasks(mem: &mut [u64], links: &[u64], capacity: usize)
     for t in 0..v {
         let x = mem[level + t];
         mem[line + t] = 0;
-        mem[blocked + t] = orders::entering(links, v, t).len() as u64;
+        let run = orders::entering(links, v, t);
+        mem[blocked + t] = (run.end - run.start) as u64;
         mem[priorities + t] = x;
     }
 }
@@ -120,7 +121,8 @@ fn release(mem: &mut [u64], links: &[u64], capacity: usize, t: usize, free: &mut
         × Ranked capacity [] mem.new × FreeList capacity free.new mem.new }
 {
     let g = walk::edges_at(&mem[..]);
-    for k in orders::leaving(links, mem[0] as usize, t).rev() {
+    let run = orders::leaving(links, mem[0] as usize, t);
+    for k in (run.start..run.end).rev() {
         let u = orders::edge_to(mem[g + k]);
         unblock(mem, links, capacity, u, free);
     }
@@ -146,7 +148,8 @@ fn draw_lines(mem: &mut [u64], links: &[u64], capacity: usize, ends: &mut [f64])
     let mut delays = Delays::new();
     delays.fill(&mem[..]);
     let mut clocks = Clocks::new();
-    let mut free = Free::of(&mem[..], capacity);
+    let mut free = Free::new();
+    free.list(&mem[..], capacity);
     for k in 0..v {
         let t = free.pop() as usize;
         clocks = place_task(mem, links, capacity, &delays, ends, k, t, clocks);

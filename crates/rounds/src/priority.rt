@@ -66,9 +66,9 @@ pub fn top_level(house: House, t: usize) -> u64
     ensures { (result ≡ tick_of (top_in house.entry.capacity t house.entry.mem.now) * scale (job_in house.entry.mem.now))
         × (result ≤ top_most document01) }
 {
-    let span = orders::entering(house.links, house.mem[0] as usize, t);
+    let run = orders::entering(house.links, house.mem[0] as usize, t);
     let mut x: u64 = 0;
-    for cell in &house.links[span] {
+    for cell in &house.links[run.start..run.end] {
         let edge = walk::entering(house, *cell);
         x = x.max(spread(house, edge));
     }

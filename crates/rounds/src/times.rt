@@ -183,11 +183,11 @@ fn raise_data(house: House, delays: &Delays, ends: &[f64], t: usize, starts: &mu
     ensures { Raised document01 house.entry.capacity false t house.entry.mem.now starts.old.early starts.new.early
         × Raised document01 house.entry.capacity true t house.entry.mem.now starts.old.late starts.new.late }
 {
-    let span = orders::entering(house.links, house.mem[0] as usize, t);
+    let run = orders::entering(house.links, house.mem[0] as usize, t);
     let m = house.mem[1] as usize;
     let x = lanes::least(&starts.early, m);
     let y = lanes::least(&starts.late, m);
-    for cell in &house.links[span] {
+    for cell in &house.links[run.start..run.end] {
         if may_wait(ends, *cell, delays.most, x, y) {
             raise_edge(house, delays, *cell, starts);
         }

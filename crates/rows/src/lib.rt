@@ -1,7 +1,7 @@
 // C and D lines: rows of numbers, each with its own number in front.
 #![tactic(auto)]
 
-ghost use Rattle.std.specs.Prelude.{◌≡◌, length, OnErr};
+ghost use Rattle.std.specs.Prelude.{◌≡◌, ℕ, length, drop, OnErr};
 ghost use Rattle.definitions.specs.Limits.{document01};
 ghost use Rattle.text.specs.Meaning.{reading};
 ghost use Rattle.rows.specs.Rows.{rows, rows_into};
@@ -30,6 +30,7 @@ pub fn read_rows(
 ) -> Result<(), Refusal>
     ensures read { reading reader.new (rows k n mem.new) result ≡ rows_into document01 (length mem.old) kind opening.now k n reader.old }
     ensures kept { OnErr result (reader.new ≡ reader.old) }
+    ensures part { (n : ℕ) × (reader.new ≡ drop n reader.old) }
 {
     if row::is_wide(kind, n, k) && n <= mem.len() / k {
         let mut rest = Reader::new(reader.rest());

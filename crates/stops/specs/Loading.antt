@@ -10,7 +10,7 @@ use Rattle.definitions.specs.Stops.{Stop, stop_line, stop_rule, read_stops}
 use Rattle.definitions.specs.Times.{stop_time}
 use Rattle.definitions.specs.Facts.{after_last}
 use Rattle.text.specs.declared.refusal.Refusal.{Refusal}
-use Rattle.text.specs.Meaning.{result_of}
+use Rattle.text.specs.Numbers.{result_of}
 use Rattle.ticks.specs.Cells.{time_in, Small}
 
 -- A stop list's text for a job, if there are so many cells: 8 if they are fewer than the processors.

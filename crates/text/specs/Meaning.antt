@@ -1,8 +1,7 @@
 -- What the answers of the leaves mean.
 use Rattle.std.specs.Prelude.{◌≡◌, ℕ, ◌+◌, ◌≤◌, List, ◌++◌, leb, ltb, length, drop, if◌then◌else◌, Option, Some, None, Result, Ok, Err}
 use Rattle.definitions.specs.Limits.{Limits}
-use Rattle.definitions.specs.Text.{Reading, Reader, found, refused, next, ◌>>=◌, ◌>>◌, return, due, line, good, bad}
-use Rattle.definitions.specs.Text as Text
+use Rattle.definitions.specs.Text.{Reading, Reader, found, refused, next, ◌>>=◌, ◌>>◌, return, due, line}
 use Rattle.lists.specs.Over.{over}
 use Rattle.text.specs.declared.refusal.Refusal.{Refusal}
 use Rattle.text.specs.Numbers.{number_of}
@@ -31,11 +30,6 @@ reading s x (Err e) = refused (number_of e)
 abbrev pub due_of : Result (Unit {0}) Refusal → ℕ
 due_of (Ok done) = 0
 due_of (Err e) = number_of e
-
--- Document 01's result for each case of an answer: what it holds, or the number of the refusal.
-abbrev pub result_of : {A : Type 0} → Result A Refusal → Text.Result A
-result_of (Ok a) = good a
-result_of (Err e) = bad (number_of e)
 
 -- A reading of a list, with the members xs before it.
 abbrev pub after : {A : Type 0} → List A → Reading (List A) → Reading (List A)

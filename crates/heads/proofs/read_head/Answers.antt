@@ -8,17 +8,17 @@ returns-then-s-gt-TEXT_LENGTH c = job_long _ _ c.if-s-gt-TEXT_LENGTH.true
 
 pub returns-in_err-line : goal.returns-in_err-line
 returns-in_err-line c =
-    let read = rw c.new-rest.ensures at c.line.ensures.read in
+    let read = rw c.new-reader.ensures at c.line.ensures.read in
     rw (handed _ _ c.from_residual.ensures.1) (job_no _ _ c.if-s-gt-TEXT_LENGTH.false _ c.line.new.vals _ read _ c.in_err-line.was)
 
 pub returns-in_err-head_rule : goal.returns-in_err-head_rule
 returns-in_err-head_rule c =
-    let read = rw c.new-rest.ensures at c.line.ensures.read in
+    let read = rw c.new-reader.ensures at c.line.ensures.read in
     rw (handed _ _ c.from_residual-in_err-head_rule.ensures.1)
     (job_refused _ _ c.if-s-gt-TEXT_LENGTH.false _ c.line.new.vals _ read _ c.in_ok-line.was c.head_rule.result c.head_rule.ensures _ c.in_err-head_rule.was)
 
 pub returns : goal.returns
 returns c =
-    let read = rw c.new-rest.ensures at c.line.ensures.read in
+    let read = rw c.new-reader.ensures at c.line.ensures.read in
     let (z, q) = job_next _ _ c.if-s-gt-TEXT_LENGTH.false _ c.line.new.vals _ read _ c.in_ok-line.was c.head_rule.result c.head_rule.ensures _ c.in_ok-head_rule.was in
-    (z, q, rw c.new-rest.ensures at c.line.ensures.part)
+    (z, rw c.rest.ensures q, rw (← c.rest.ensures, c.new-reader.ensures) at c.line.ensures.part)

@@ -1,6 +1,7 @@
 -- The rows are read, if they are wide enough and fit.
-use Rattle.lists.proofs.Prelude.{sym, ◌∙◌}
+use Rattle.lists.proofs.Prelude.{sym, ◌∙◌, document01}
 use Rattle.text.proofs.Refusals.{handed}
+use Rattle.lines.proofs.LeftLaws.{line_leaves, lines_part}
 use Rattle.rows.proofs.RowLaws.{rows_narrow, rows_lent, rows_unfit}
 use Rattle.rows.proofs.read_rows.Goals as goal
 use Rattle.rows.proofs.read_rows.Goals.{else-is_wide-via-then-is_wide+else-n-mem, else-is_wide-via-else-is_wide}
@@ -9,6 +10,11 @@ pub returns-then-n-mem-clause-read : goal.returns-then-n-mem-clause-read
 returns-then-n-mem-clause-read c =
     let read = rw (c.new-rest.ensures, c.rest.ensures) at c.in_ok-fill_rows.ensures in
     read ∙ sym (rows_lent _ _ _ _ _ _ _ (sym c.if-is_wide.ensures) c.if-n-mem.true)
+
+pub returns-then-n-mem-clause-part : goal.returns-then-n-mem-clause-part
+returns-then-n-mem-clause-part c =
+    let read = rw (c.new-rest.ensures, c.rest.ensures) at c.in_ok-fill_rows.ensures in
+    lines_part _ _ (line_leaves document01 _ _) _ _ _ _ _ read
 
 pub returns-in_err-fill_rows-clause-read : goal.returns-in_err-fill_rows-clause-read
 returns-in_err-fill_rows-clause-read c =

@@ -13,4 +13,4 @@ returns g c =
     let h = head_of c.args.job.head in
     let room = roomy_made c.args.capacity size lent h most (length-replicate g.row.CELLS 0 ∙ cells)
     (omega (arith, length-replicate {A = ℕ} g.row.LINK_CELLS 0, links)) fits in
-    rw (from_room document01 c.args.capacity size lent h c.args.job.rest z room) at c.run.ensures
+    rw (from_room document01 c.args.capacity size lent h c.args.job.rest.now z room) at c.run.ensures

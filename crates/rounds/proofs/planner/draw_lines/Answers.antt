@@ -22,7 +22,7 @@ loop-k-init c =
     let s = c.requires in
     let w = sizes s.0.standing.job in
     let clocks = outset_clocks {j = job_in c.args.mem.now} (rw (processors_in c.args.mem.now) w.lanes_fit) new.0 new.1 in
-    (kept_all, s.0, s.1, clocks, c.of-free.ensures, ended_none s.3)
+    (kept_all, s.0, s.1, clocks, c.list.ensures, ended_none s.3)
 
 pub pop-t-requires : goal.pop-t-requires
 pop-t-requires c =

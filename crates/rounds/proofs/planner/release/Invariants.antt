@@ -6,6 +6,5 @@ use Rattle.rounds.proofs.planner.release.Given as goal
 
 abbrev pub invariant-loop-k : goal.invariant-loop-k
 invariant-loop-k l =
-    let r = l.k-iterator.iter in
-    Releasing l.capacity l.t (l.g + r.start) (l.g + l.initial.k-iterator.iter.end) (l.g + r.end) l.initial.mem l.mem
+    Releasing l.capacity l.t (l.g + l.k-start) (l.g + l.initial.k) (l.g + l.k) l.initial.mem l.mem
     × FreeList l.capacity l.free l.mem

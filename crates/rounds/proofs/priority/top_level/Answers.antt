@@ -8,7 +8,7 @@ use Rattle.rounds.proofs.priority.top_level.Goals as goal
 
 pub loop-cell-init : goal.loop-cell-init
 loop-cell-init c =
-    let r = run_part (enters_run c.requires.1 c.requires.2 c.entering-span.ensures) in
+    let r = run_part (enters_run c.requires.1 c.requires.2 c.entering-run.ensures) in
     (pass_first r, omega arith, gather_none (spreads c.args.house.capacity c.args.house.mem.now) _ _)
 
 pub entering-edge-requires : goal.entering-edge-requires

@@ -11,7 +11,7 @@ use Rattle.rounds.proofs.times.raise_data.Goals.{then-may_wait, else-may_wait}
 pub loop-cell-init : goal.loop-cell-init
 loop-cell-init c =
     let p = c.requires in
-    (pass_first (run_part (enters_run p.1 p.3 c.entering-span.ensures)), gathered_none _ false _ p.5 _ _, gathered_none _ true _ p.6 _ _)
+    (pass_first (run_part (enters_run p.1 p.3 c.entering-run.ensures)), gathered_none _ false _ p.5 _ _, gathered_none _ true _ p.6 _ _)
 
 pub may_wait-requires : goal.may_wait-requires
 may_wait-requires c =
